@@ -1,0 +1,9 @@
+pub mod Digits
+pub mod Point
+pub mod Capped
+pub mod Reach
+pub mod Parts
+pub mod Amounts
+pub mod Faults
+pub mod Trimmed
+pub mod Written

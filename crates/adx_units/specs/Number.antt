@@ -1,0 +1,100 @@
+-- The text of a JSON number (RFC 8259, section 6): number = [ minus ] int [ frac ] [ exp ], and the
+-- fraction of whole numbers that it stands for.
+use Rattle.std.specs.Prelude.{ℕ, ◌+◌, ◌-◌, ◌*◌, ◌^◌, List, [], ◌∷◌, ◌++◌, Bool, false, ◌||◌, ◌&&◌, not, length, nat_le, ◌==◌, if◌then◌else◌, fold, Option, Some, None}
+use Rattle.std.specs.List.{list_all, list_any, before_first, after_first}
+
+abbrev pub is_digit : ℕ → Bool
+is_digit b = nat_le 48 b && nat_le b 57
+
+-- at least one digit, and nothing else
+abbrev pub is_digits : List ℕ → Bool
+is_digits ds = nat_le 1 (length ds) && list_all is_digit ds
+
+abbrev pub begins_with : ℕ → List ℕ → Bool
+begins_with c [] = false
+begins_with c (b ∷ bs) = b == c
+
+-- int: the one digit 0, or digits that don't begin with 0
+abbrev pub is_whole : List ℕ → Bool
+is_whole ds = is_digits ds && (length ds == 1 || not (begins_with 48 ds))
+
+-- a whole number of 1 to 15 digits
+abbrev pub is_short_whole : List ℕ → Bool
+is_short_whole ds = is_whole ds && nat_le (length ds) 15
+
+abbrev pub is_point : ℕ → Bool
+is_point b = b == 46
+
+-- int [ frac ]: a whole number, and then optionally a point and at least one digit
+abbrev pub is_decimal : List ℕ → Bool
+is_decimal t =
+    is_whole (before_first is_point t) && (not (list_any is_point t) || is_digits (after_first is_point t))
+
+abbrev pub has_minus : List ℕ → Bool
+has_minus t = begins_with 45 t
+
+abbrev pub without_minus : List ℕ → List ℕ
+without_minus [] = []
+without_minus (b ∷ bs) = if b == 45 then bs else b ∷ bs
+
+-- 'e' or 'E'
+abbrev pub is_exponent_mark : ℕ → Bool
+is_exponent_mark b = b == 101 || b == 69
+
+abbrev pub without_sign : List ℕ → List ℕ
+without_sign [] = []
+without_sign (b ∷ bs) = if b == 45 || b == 43 then bs else b ∷ bs
+
+-- what stands before the exponent's mark, without the minus
+abbrev pub decimal_part : List ℕ → List ℕ
+decimal_part t = without_minus (before_first is_exponent_mark t)
+
+-- what stands behind the exponent's mark
+abbrev pub exponent_part : List ℕ → List ℕ
+exponent_part t = after_first is_exponent_mark t
+
+abbrev pub is_number : List ℕ → Bool
+is_number t =
+    is_decimal (decimal_part t) && (not (list_any is_exponent_mark t) || is_digits (without_sign (exponent_part t)))
+
+-- the number that decimal digits stand for behind those of n
+abbrev pub digits_after : ℕ → List ℕ → ℕ
+digits_after n ds = fold (λ m b. 10 * m + (b - 48)) n ds
+
+-- the number that decimal digits stand for
+abbrev pub digits_value : List ℕ → ℕ
+digits_value ds = fold (λ n b. 10 * n + (b - 48)) 0 ds
+
+-- the number that a whole number of 1 to 15 digits stands for
+abbrev pub short_whole_of : List ℕ → Option ℕ
+short_whole_of ds = if is_short_whole ds then Some (digits_value ds) else None
+
+abbrev pub whole_digits : List ℕ → List ℕ
+whole_digits t = before_first is_point (decimal_part t)
+
+abbrev pub fraction_digits : List ℕ → List ℕ
+fraction_digits t = after_first is_point (decimal_part t)
+
+-- by how many places the exponent moves the point to the right
+abbrev pub raised : List ℕ → ℕ
+raised t = if has_minus (exponent_part t) then 0 else digits_value (without_sign (exponent_part t))
+
+-- by how many places the exponent moves the point to the left
+abbrev pub lowered : List ℕ → ℕ
+lowered t = if has_minus (exponent_part t) then digits_value (without_sign (exponent_part t)) else 0
+
+-- the value of the number without its sign is numerator / denominator
+abbrev pub numerator : List ℕ → ℕ
+numerator t = digits_value (whole_digits t ++ fraction_digits t) * 10 ^ raised t
+
+abbrev pub denominator : List ℕ → ℕ
+denominator t = 10 ^ (length (fraction_digits t) + lowered t)
+
+-- the numerator and the denominator from a text's parts: its whole digits, its fraction's digits, whether its
+-- exponent has a minus, and its exponent's digits
+abbrev pub numerator_of : List ℕ → List ℕ → Bool → List ℕ → ℕ
+numerator_of whole fraction lowers exponent =
+    digits_value (whole ++ fraction) * 10 ^ (if lowers then 0 else digits_value exponent)
+
+abbrev pub denominator_of : List ℕ → Bool → List ℕ → ℕ
+denominator_of fraction lowers exponent = 10 ^ (length fraction + (if lowers then digits_value exponent else 0))

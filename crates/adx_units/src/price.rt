@@ -1,0 +1,144 @@
+ghost use Rattle.std.specs.Prelude.{◌≡◌};
+ghost use Rattle.adx_units.specs.Money.{price_of as price_of_text, floor_of as floor_of_text, budget_of as budget_of_text};
+
+use crate::scale::amount_of;
+use crate::units::Units;
+
+/// The largest price and the largest floor, in units.
+const PRICE_LIMIT: u64 = 1_000_000_000_000;
+
+/// The largest budget, in units.
+const BUDGET_LIMIT: u64 = 1_000_000_000_000_000;
+
+/// Why a text isn't a price, a floor or a budget: the first of these that holds.
+#[derive(Clone, Copy, Debug, PartialEq, Eq, Hash)]
+pub enum PriceFault {
+    /// The text isn't a JSON number (RFC 8259, section 6).
+    NotNumber,
+    /// The value is negative, or, of a price or a budget, 0, or a price comes to no unit.
+    NotPositive,
+    /// A price or a floor passes 10^12 units, or a budget 10^15.
+    TooLarge,
+    /// A budget has a digit other than 0 past the ninth decimal.
+    TooFine,
+}
+
+/// The price that a JSON number (RFC 8259, section 6) in dollars per thousand stands for: the whole
+/// part of its value times 10^6, in units.
+/// Fails where the text isn't a number, where it is negative or comes to no unit, and past 10^12 units.
+pub fn price_of(text: &[u8]) -> Result<Units, PriceFault>
+    ensures { result ≡ price_of_text text.now }
+{
+    let Some(price) = amount_of(text, 6) else {
+        return Err(PriceFault::NotNumber);
+    };
+    if price.minus || price.units == 0 {
+        return Err(PriceFault::NotPositive);
+    }
+    if price.units > PRICE_LIMIT {
+        return Err(PriceFault::TooLarge);
+    }
+    Ok(Units(price.units))
+}
+
+/// The floor that a JSON number in dollars per thousand stands for: its value times 10^6, rounded up
+/// to a whole unit. A floor may be 0.
+/// Fails where the text isn't a number, where it is below 0, and past 10^12 units.
+pub fn floor_of(text: &[u8]) -> Result<Units, PriceFault>
+    ensures { result ≡ floor_of_text text.now }
+{
+    let Some(floor) = amount_of(text, 6) else {
+        return Err(PriceFault::NotNumber);
+    };
+    if floor.minus && !floor.is_zero() {
+        return Err(PriceFault::NotPositive);
+    }
+    let units = floor.rounded_up();
+    if units > PRICE_LIMIT {
+        return Err(PriceFault::TooLarge);
+    }
+    Ok(Units(units))
+}
+
+/// The budget that a JSON number in dollars stands for: its value times 10^9, which has to be whole,
+/// in units.
+/// Fails where the text isn't a number, where it is 0 or negative, past 10^15 units, and where a part
+/// of a unit is left.
+pub fn budget_of(text: &[u8]) -> Result<Units, PriceFault>
+    ensures { result ≡ budget_of_text text.now }
+{
+    let Some(budget) = amount_of(text, 9) else {
+        return Err(PriceFault::NotNumber);
+    };
+    if budget.minus || budget.is_zero() {
+        return Err(PriceFault::NotPositive);
+    }
+    if budget.passes(BUDGET_LIMIT) {
+        return Err(PriceFault::TooLarge);
+    }
+    if budget.rest {
+        return Err(PriceFault::TooFine);
+    }
+    Ok(Units(budget.units))
+}
+
+#[cfg(test)]
+mod tests {
+    use super::*;
+
+    #[test]
+    fn money_of_texts(rt: HostRuntime) {
+        let price_rows: [(&[u8], Result<Units, PriceFault>); 22] = [
+            (b"2.5", Ok(Units(2_500_000))),
+            (b"1.0000005", Ok(Units(1_000_000))),
+            (b"0.0000001", Err(PriceFault::NotPositive)),
+            (b"0.000001", Ok(Units(1))),
+            (b"-1", Err(PriceFault::NotPositive)),
+            (b"-0", Err(PriceFault::NotPositive)),
+            (b"0", Err(PriceFault::NotPositive)),
+            (b"0e999999999999999999999", Err(PriceFault::NotPositive)),
+            (b"1e400", Err(PriceFault::TooLarge)),
+            (b"1e-400", Err(PriceFault::NotPositive)),
+            (b"1000000", Ok(Units(1_000_000_000_000))),
+            (b"1000000.0000009", Ok(Units(1_000_000_000_000))),
+            (b"1000000.000001", Err(PriceFault::TooLarge)),
+            (b"5", Ok(Units(5_000_000))),
+            (b"3.0", Ok(Units(3_000_000))),
+            (b"1e+2", Ok(Units(100_000_000))),
+            (b"25E-1", Ok(Units(2_500_000))),
+            (b"01", Err(PriceFault::NotNumber)),
+            (b"1.", Err(PriceFault::NotNumber)),
+            (b".5", Err(PriceFault::NotNumber)),
+            (b"1e", Err(PriceFault::NotNumber)),
+            (b"", Err(PriceFault::NotNumber)),
+        ];
+        for (text, want) in price_rows {
+            assert_eq!(rt; price_of(text), want);
+        }
+        let floor_rows: [(&[u8], Result<Units, PriceFault>); 8] = [
+            (b"1.0000005", Ok(Units(1_000_001))),
+            (b"0.0000001", Ok(Units(1))),
+            (b"1e-400", Ok(Units(1))),
+            (b"-0", Ok(Units(0))),
+            (b"-1", Err(PriceFault::NotPositive)),
+            (b"1000000", Ok(Units(1_000_000_000_000))),
+            (b"1000000.0000000001", Err(PriceFault::TooLarge)),
+            (b"1e+", Err(PriceFault::NotNumber)),
+        ];
+        for (text, want) in floor_rows {
+            assert_eq!(rt; floor_of(text), want);
+        }
+        let budget_rows: [(&[u8], Result<Units, PriceFault>); 7] = [
+            (b"0.01", Ok(Units(10_000_000))),
+            (b"0.0000000001", Err(PriceFault::TooFine)),
+            (b"1000000", Ok(Units(1_000_000_000_000_000))),
+            (b"1000000.0000000001", Err(PriceFault::TooLarge)),
+            (b"0.0", Err(PriceFault::NotPositive)),
+            (b"-3", Err(PriceFault::NotPositive)),
+            (b"1 ", Err(PriceFault::NotNumber)),
+        ];
+        for (text, want) in budget_rows {
+            assert_eq!(rt; budget_of(text), want);
+        }
+    }
+}
