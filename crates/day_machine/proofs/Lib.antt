@@ -1,0 +1,9 @@
+pub mod Lists
+pub mod Choosing
+pub mod Histories
+pub mod Money
+pub mod Settling
+pub mod Within
+pub mod Standing
+pub mod Following
+pub mod Ends

@@ -1,0 +1,35 @@
+-- What a contract sees of a day. This project's own.
+use Rattle.std.specs.Prelude.{ℕ, ◌+◌, ◌*◌, ◌≤◌, List, length, All}
+use Rattle.adx_units.specs.declared.units.Units.{Units}
+use Rattle.day_machine.specs.declared.entry.Entry.{Entry}
+use Rattle.day_machine.specs.declared.limits.DayLimits.{DayLimits}
+use Rattle.day_machine.specs.Replies.{Terms}
+use Rattle.day_machine.specs.Books.{awards_of_entry}
+use Rattle.day_machine.specs.Legal.{IsLegal}
+use Rattle.day_machine.specs.Standings.{IsBudget}
+
+pub record DayState : Type 0 where
+  pub terms : Terms
+  pub history : List Entry
+  -- for how many more entries there is memory
+  pub room : ℕ
+
+-- for how many entries an entry asks: itself, and two for each of its awards
+abbrev pub room_of : Entry → ℕ
+room_of e = 1 + 2 * length (awards_of_entry e)
+
+abbrev pub terms_of : List Units → DayLimits → Terms
+terms_of budgets limits = record { budgets = budgets; limits = limits }
+
+-- terms on which a day may be opened
+pub record AreTerms (terms : Terms) : Type 0 where
+  pub some_budget : 1 ≤ length terms.budgets
+  pub few_budgets : length terms.budgets ≤ 1024
+  pub budgets : All IsBudget terms.budgets
+  pub auctions : terms.limits.auctions ≤ 1000000
+  pub bids : terms.limits.bids ≤ 33554432
+
+-- the terms may be and the history is legal
+pub record IsDay (terms : Terms) (history : List Entry) : Type 0 where
+  pub terms_ok : AreTerms terms
+  pub legal : IsLegal terms history

@@ -1,0 +1,29 @@
+//! The day machine: the history of one serving day, and what it answers to each call.
+//!
+//! A `Day` is the list of its entries. A plan answers a call by that list and changes nothing; a
+//! commit extends the list by one entry. Books, choice, replies, legal histories and whole runs are
+//! defined in `specs`; stands on `adx_units` and `discount_table`.
+#![tactic(auto)]
+
+mod answer;
+mod ask;
+mod awards;
+mod bills;
+mod choice;
+mod day;
+mod entry;
+mod history;
+mod laws;
+mod limits;
+mod plan;
+mod settle;
+
+pub use answer::{Answer, Seen, Which};
+pub use ask::{Ask, Kept};
+pub use day::Day;
+pub use entry::Entry;
+pub use laws::within_budget;
+pub use limits::DayLimits;
+
+#[cfg(test)]
+mod tests;
