@@ -1,0 +1,81 @@
+//! The one compact spelling of a tree.
+ghost use Rattle.std.specs.Prelude.{◌≡◌, ◌++◌, ◌∷◌, [], IfOk, OnOk, string_bytes, if◌then◌else◌};
+ghost use Rattle.adx_json.specs.Tree.{items_of, members_of};
+ghost use Rattle.adx_json.specs.Spelling.{spelling, items_spelling, members_spelling};
+ghost use Rattle.adx_json.specs.View.{tree_of, trees_of, members_view};
+
+use crate::escape::push_text;
+use crate::tree::{Json, Member};
+use adx_units::{OutOfMemory, Text};
+use std::alloc::Global;
+
+/// The compact spelling of a tree.
+pub fn write(alloc: Global, tree: &Json) -> Result<Text, OutOfMemory>
+    ensures { IfOk result (λ t. t ≡ spelling (tree_of tree.now)) }
+{
+    let mut out = String::new(alloc);
+    push_value(&mut out, tree)?;
+    Ok(Text::from(out))
+}
+
+#[cycle(write)]
+fn push_value(out: &mut String, value: &Json) -> Result<(), OutOfMemory>
+    ensures { OnOk result (string_bytes out.new ≡ string_bytes out.old ++ spelling (tree_of value.now)) }
+{
+    match value {
+        Json::Null => out.push_str("null")?,
+        Json::Bool(true) => out.push_str("true")?,
+        Json::Bool(false) => out.push_str("false")?,
+        Json::Number(number) => out.push_str(number.as_str())?,
+        Json::Text(text) => push_text(out, text.as_str())?,
+        Json::List(items) => {
+            out.push_str("[")?;
+            push_items(out, items)?;
+            out.push_str("]")?;
+        }
+        Json::Object(members) => {
+            out.push_str("{")?;
+            push_members(out, members)?;
+            out.push_str("}")?;
+        }
+    }
+    Ok(())
+}
+
+#[cycle(write)]
+fn push_items(out: &mut String, items: &Vec<Json>) -> Result<(), OutOfMemory>
+    ensures { OnOk result (string_bytes out.new ≡ string_bytes out.old ++ items_spelling (items_of (trees_of items.now.items))) }
+{
+    let mut first = true;
+    for item in items {
+        push_comma(out, first)?;
+        push_value(out, item)?;
+        first = false;
+    }
+    Ok(())
+}
+
+#[cycle(write)]
+fn push_members(out: &mut String, members: &Vec<Member>) -> Result<(), OutOfMemory>
+    ensures { OnOk result (string_bytes out.new ≡ string_bytes out.old ++ members_spelling (members_of (members_view members.now.items))) }
+{
+    let mut first = true;
+    for member in members {
+        push_comma(out, first)?;
+        push_text(out, member.name.as_str())?;
+        out.push_str(":")?;
+        push_value(out, &member.value)?;
+        first = false;
+    }
+    Ok(())
+}
+
+/// Puts a comma at the end, but before the first item or member.
+fn push_comma(out: &mut String, first: bool) -> Result<(), OutOfMemory>
+    ensures { OnOk result (string_bytes out.new ≡ string_bytes out.old ++ (if first then [] else 44 ∷ [])) }
+{
+    if !first {
+        out.push_str(",")?;
+    }
+    Ok(())
+}
