@@ -1,0 +1,14 @@
+pub mod ReadingSteps
+pub mod PartsSteps
+pub mod PartsLaws
+pub mod AmountLaws
+pub mod RosterLaws
+pub mod AskLaws
+pub mod LineLaws
+pub mod OffersSteps
+pub mod AskSteps
+pub mod Joined
+pub mod Chains
+pub mod FirstLine
+pub mod Runs
+pub mod Days

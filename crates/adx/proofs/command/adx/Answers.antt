@@ -1,0 +1,8 @@
+-- The usage line.
+use Rattle.std.proofs.Common.{inl, refl}
+use Rattle.adx.specs.Output.{usage_line}
+use Rattle.adx.proofs.ReadingSteps.{all_put}
+use Rattle.adx.proofs.command.adx.Goals as goal
+
+pub returns-in-Ok-clause-usage : goal.returns-in-Ok-clause-usage
+returns-in-Ok-clause-usage g c = λ other. (refl, inl (refl, all_put (g.K.Sink.held c.args.sink.now) (g.K.Sink.held c.put_all.new.sink) usage_line c.in-Ok.field-0 (rw c.as_bytes.ensures.value at c.in-Ok.ensures.taken)))

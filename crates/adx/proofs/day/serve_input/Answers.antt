@@ -1,0 +1,19 @@
+-- What came of the first line.
+use Rattle.std.proofs.Common.{string_bytes}
+use Rattle.adx.proofs.Days.{behind_line, behind_end, behind_limit}
+use Rattle.adx.proofs.day.serve_input.Goals as goal
+
+pub returns-in-Line-clause-ends : goal.returns-in-Line-clause-ends
+returns-in-Line-clause-ends g c =
+    behind_line c.next_line.new.input (g.S.Source.tape c.args.source.now) (g.S.Source.tape c.next_line.new.source) (g.S.Source.tape c.serve_roster.new.source) (g.K.Sink.held c.args.sink.now) (g.K.Sink.held c.next_line.new.sink) (g.K.Sink.held c.serve_roster.new.sink) (string_bytes c.next_line.new.out) c.serve_roster.result
+    (rw c.requires.input at c.in-Line.ensures.reads) (rw c.requires.out at c.in-Line.ensures.puts) c.serve_roster.ensures.ends c.serve_roster.ensures.tells
+
+pub returns-in-End-clause-ends : goal.returns-in-End-clause-ends
+returns-in-End-clause-ends g c =
+    behind_end c.next_line.new.input (g.S.Source.tape c.args.source.now) (g.S.Source.tape c.next_line.new.source) (g.K.Sink.held c.args.sink.now) (g.K.Sink.held c.next_line.new.sink) (g.K.Sink.held c.refuse_roster.new.sink) (string_bytes c.next_line.new.out) c.refuse_roster.result
+    (rw c.requires.input at c.in-End.ensures.reads) (rw c.requires.out at c.in-End.ensures.puts) c.refuse_roster.ensures.ends
+
+pub returns-in-PastLimit-clause-ends : goal.returns-in-PastLimit-clause-ends
+returns-in-PastLimit-clause-ends g c =
+    behind_limit c.next_line.new.input (g.S.Source.tape c.args.source.now) (g.S.Source.tape c.next_line.new.source) (g.K.Sink.held c.args.sink.now) (g.K.Sink.held c.next_line.new.sink) (g.K.Sink.held c.refuse_roster-in-PastLimit.new.sink) (string_bytes c.next_line.new.out) c.refuse_roster-in-PastLimit.result
+    (rw c.requires.input at c.in-PastLimit.ensures.reads) (rw c.requires.out at c.in-PastLimit.ensures.puts) c.refuse_roster-in-PastLimit.ensures.ends

@@ -1,0 +1,13 @@
+pub mod Lines
+pub mod Reading
+pub mod Forms
+pub mod Parts
+pub mod AskParts
+pub mod AskHead
+pub mod RosterParts
+pub mod Output
+pub mod Script
+pub mod Reads
+pub mod Running
+pub mod Commands
+pub mod FirstLine

@@ -1,0 +1,134 @@
+-- What the program writes for a script: a line for each line, by one run of the day machine, and then
+-- the closing table. This project's own.
+use Rattle.std.specs.Prelude.{◌≡◌, ◌⊎◌, ℕ, suc, ◌+◌, ◌<◌, ◌≤◌, List, [], ◌∷◌, ◌++◌, map, length, Option, Some, None}
+use Rattle.day_machine.specs.declared.entry.Entry.{Entry}
+use Rattle.day_machine.specs.declared.limits.DayLimits.{DayLimits}
+use Rattle.day_machine.specs.Replies.{Terms, ask_reply, with_entry}
+use Rattle.adx.specs.declared.roster.Campaign.{Campaign}
+use Rattle.adx_io.specs.Streams.{Tape}
+use Rattle.adx.specs.declared.ending.Ending.{Ending}
+use Rattle.adx.specs.Lines.{IsCut, BeginsWithLine, HasNoNewline, input_limit}
+use Rattle.adx.specs.Reading.{with_more}
+use Rattle.adx.specs.Forms.{RosterForm, AskForm, IsRosterLine, IsAskLine, campaigns_of, ask_of_form}
+use Rattle.adx.specs.Output.{ask_answer_line, refused_line, toolong_line, roster_refused_line, closing_table}
+
+-- the limits of a day whose roster states none
+abbrev pub standard_limits : DayLimits
+standard_limits = record { auctions = 1000000; bids = 33554432 }
+
+-- what a day with these campaigns is opened with
+abbrev pub terms_of : List Campaign → Terms
+terms_of campaigns = record { budgets = map (λ (c : Campaign). c.budget) campaigns; limits = standard_limits }
+
+-- an ask is answered by the day machine's reply, from the history that it left
+pub record AnswersAsk (campaigns : List Campaign) (history : List Entry) (line out : List ℕ) (next : List Entry) (f : AskForm) : Type 0 where
+  pub read : IsAskLine line f
+  pub entry : next ≡ with_entry history (ask_reply (terms_of campaigns) history (ask_of_form campaigns f)).entry
+  pub answer : out ≡ ask_answer_line campaigns next (ask_reply (terms_of campaigns) history (ask_of_form campaigns f)).answer
+
+-- any other line is refused by its number, and changes nothing
+pub record RefusesLine (history : List Entry) (number : ℕ) (line out : List ℕ) (next : List Entry) : Type 0 where
+  pub unread : (f : AskForm) → IsAskLine line f → ⊥
+  pub same : next ≡ history
+  pub answer : out ≡ refused_line number
+
+-- what a line is answered after a history, and the history that it leaves
+abbrev pub Answers : List Campaign → List Entry → ℕ → List ℕ → List ℕ → List Entry → Type 0
+Answers campaigns history number line out next =
+    ((f : AskForm) × AnswersAsk campaigns history line out next f) ⊎ RefusesLine history number line out next
+
+-- what the lines are answered in turn; the first of them has the number
+abbrev pub AnswersAll : List Campaign → List Entry → ℕ → List (List ℕ) → List ℕ → List Entry → Type 0
+AnswersAll campaigns history number [] out last = (out ≡ []) × (last ≡ history)
+AnswersAll campaigns history number (line ∷ lines) out last =
+    (first : List ℕ) × (next : List Entry) × (rest : List ℕ)
+    × Answers campaigns history number line first next
+    × AnswersAll campaigns next (suc number) lines rest last
+    × (out ≡ first ++ rest)
+
+-- a last piece without a newline that isn't empty is refused
+abbrev pub cut_line : ℕ → List ℕ → List ℕ
+cut_line number [] = []
+cut_line number (b ∷ bs) = refused_line number
+
+-- the lines of a script behind its roster line, its last piece, what the lines are answered and the
+-- history that they leave
+pub record RunsOver (campaigns : List Campaign) (script : List ℕ) (lines : List (List ℕ)) (last answers : List ℕ) (history : List Entry) : Type 0 where
+  pub cut : IsCut script lines last
+  pub answered : AnswersAll campaigns [] 2 lines answers history
+
+-- what is written for a script behind its roster line: the answers, the refusal of a cut line, and the
+-- closing table
+abbrev pub IsScriptOutput : List Campaign → List ℕ → List ℕ → Type 0
+IsScriptOutput campaigns script out =
+    (lines : List (List ℕ)) × (last answers : List ℕ) × (history : List Entry)
+    × RunsOver campaigns script lines last answers history
+    × (out ≡ answers ++ cut_line (2 + length lines) last ++ closing_table campaigns history)
+
+-- what is written where the source gave no more of the script than this: the answers to its whole lines
+abbrev pub IsScriptFront : List Campaign → List ℕ → List ℕ → Type 0
+IsScriptFront campaigns script out =
+    (lines : List (List ℕ)) × (last : List ℕ) × (history : List Entry) × RunsOver campaigns script lines last out history
+
+-- what is written where the input passes its limit behind this part of the script
+abbrev pub IsScriptPastLimit : List Campaign → List ℕ → List ℕ → Type 0
+IsScriptPastLimit campaigns script out =
+    (lines : List (List ℕ)) × (last answers : List ℕ) × (history : List Entry)
+    × RunsOver campaigns script lines last answers history
+    × (out ≡ answers ++ toolong_line (2 + length lines))
+
+-- the input begins with this roster's line, and then the script comes
+pub record HasRosterLine (input : List ℕ) (r : RosterForm) (script : List ℕ) : Type 0 where
+  pub first : List ℕ
+  pub begins : BeginsWithLine input first script
+  pub roster : IsRosterLine first r
+
+-- the first line is a roster
+abbrev pub HasRoster : List ℕ → Type 0
+HasRoster input = (r : RosterForm) × (script : List ℕ) × HasRosterLine input r script
+
+-- the whole output for an input that begins with a roster
+abbrev pub IsOutput : List ℕ → List ℕ → Type 0
+IsOutput input out =
+    (r : RosterForm) × (script : List ℕ) × HasRosterLine input r script × IsScriptOutput (campaigns_of r) script out
+
+-- what is written where the source gave no more than this: nothing before the roster's line is whole
+abbrev pub IsFront : List ℕ → List ℕ → Type 0
+IsFront taken out =
+    (HasNoNewline taken × (out ≡ []))
+    ⊎ ((r : RosterForm) × (script : List ℕ) × HasRosterLine taken r script × IsScriptFront (campaigns_of r) script out)
+
+-- what is written where more than the limit comes: the answers to the whole lines within it, and the
+-- refusal of the rest
+abbrev pub IsPastLimit : List ℕ → List ℕ → Type 0
+IsPastLimit input out =
+    (front more : List ℕ) × (r : RosterForm) × (script : List ℕ)
+    × (input ≡ front ++ more) × (length front ≡ input_limit) × (0 < length more)
+    × HasRosterLine front r script × IsScriptPastLimit (campaigns_of r) script out
+
+-- the sink, where it tells its bytes, took these in the run
+abbrev pub Wrote : Option (List ℕ) → Option (List ℕ) → List ℕ → Type 0
+Wrote held held_now out = with_more held_now [] ≡ with_more held out
+
+-- what was written for an input, of which this is left, where the run ended so; of a run that ended at a
+-- sink that failed, or for want of memory, nothing is said here
+abbrev pub EndsWith : List ℕ → List ℕ → Option (List ℕ) → Option (List ℕ) → Ending → Type 0
+EndsWith input left held held_now Ending.Done =
+    (out : List ℕ) × Wrote held held_now out × (left ≡ []) × (length input ≤ input_limit) × IsOutput input out
+EndsWith input left held held_now Ending.Refused =
+    (out : List ℕ) × Wrote held held_now out × (((HasRoster input → ⊥) × (out ≡ roster_refused_line)) ⊎ IsPastLimit input out)
+EndsWith input left held held_now Ending.ReadFault =
+    (out : List ℕ) × Wrote held held_now out × ((taken : List ℕ) × (input ≡ taken ++ left) × IsFront taken out)
+EndsWith input left held held_now Ending.WriteFault = Unit {0}
+EndsWith input left held held_now Ending.OutOfMemory = Unit {0}
+
+-- the same where the source tells its bytes
+abbrev pub Ends : Option Tape → Option Tape → Option (List ℕ) → Option (List ℕ) → Ending → Type 0
+Ends None new held held_now ending = new ≡ None
+Ends (Some old) None held held_now ending = ⊥
+Ends (Some old) (Some new) held held_now ending = EndsWith old.left new.left held held_now ending
+
+-- the line was answered: these bytes were written behind the old ones, and this history was left
+abbrev pub AnswersTo : List Campaign → List Entry → ℕ → List ℕ → List ℕ → List ℕ → List Entry → Type 0
+AnswersTo campaigns history number line old new next =
+    (out : List ℕ) × (new ≡ old ++ out) × Answers campaigns history number line out next

@@ -1,0 +1,88 @@
+//! An exchange for OpenRTB 2.6 that serves a day of first-price auctions.
+//!
+//! The call `adx` of the module `command` does all that the program does, from the words of its command
+//! line and the bytes of a source to those of a sink; its contract is the program's. It stands on
+//! `day_machine`, which holds a day's books, and on `adx_json`, `adx_io` and `adx_units`.
+#![tactic(auto)]
+
+mod answering;
+mod ask_form;
+mod ask_lines;
+mod ask_parts;
+mod command;
+mod day;
+mod ending;
+mod flush;
+mod input;
+mod line;
+mod output;
+mod parts;
+mod reading;
+mod roster;
+mod script;
+mod table;
+#[cfg(test)]
+mod tests;
+
+use crate::command::adx;
+use adx_io::{StdSink, StdSource};
+use adx_units::Text;
+use std::io;
+use std::io::ErrorKind;
+use std::process::ExitCode;
+
+/// What `--help` prints.
+const HELP: &str = "adx serves a day of an advertising exchange.
+
+usage: adx day
+  reads a roster line and script lines on standard input, and writes an answer to each line and then
+  the closing table on standard output
+";
+
+/// What `--version` prints.
+const VERSION: &str = "adx 0.1.0\n";
+
+/// The exit status where the sink failed.
+const WRITE_FAULT: u8 = 5;
+
+/// The exit status where memory was refused.
+const OUT_OF_MEMORY: u8 = 12;
+
+/// The words behind the program's name.
+fn words_of(rt: &HostRuntime) -> io::Result<Vec<Text>> {
+    let mut words = Vec::new(rt.alloc());
+    for word in std::env::args(rt)?.skip(1) {
+        words.push(Text::from(word))?;
+    }
+    Ok(words)
+}
+
+/// Prints a text, and gives the exit status.
+fn tell(rt: &HostRuntime, text: &str) -> ExitCode {
+    match print!(rt; "{text}") {
+        Ok(()) => ExitCode::SUCCESS,
+        Err(_) => ExitCode::from(WRITE_FAULT),
+    }
+}
+
+fn main(rt: HostRuntime) -> ExitCode {
+    let words = match words_of(&rt) {
+        Ok(words) => words,
+        Err(error) if error.kind() == ErrorKind::OutOfMemory => {
+            return ExitCode::from(OUT_OF_MEMORY);
+        }
+        // A word that isn't UTF-8 is no command's, and neither are no words.
+        Err(_) => Vec::new(rt.alloc()),
+    };
+    if let [word] = words.as_slice() {
+        match word.as_str() {
+            "--help" => return tell(&rt, HELP),
+            "--version" => return tell(&rt, VERSION),
+            _ => {}
+        }
+    }
+    let mut source = StdSource::new(rt.stdin());
+    let mut sink = StdSink::new(rt.stdout());
+    let status = adx(rt.alloc(), words.as_slice(), &mut source, &mut sink);
+    ExitCode::from(status)
+}

@@ -1,0 +1,146 @@
+use crate::command::adx;
+use adx_io::{MemorySink, MemorySource};
+use adx_units::Text;
+use std::test::Fail;
+
+/// A script with the bytes that the sink takes for it and the exit status.
+struct Case {
+    name: &'static str,
+    input: &'static str,
+    output: &'static str,
+    status: u8,
+}
+
+const CASES: [Case; 10] = [
+    Case {
+        name: "first award",
+        input: r#"{"day":"2025-03-01","bidders":[{"name":"b1"}],"campaigns":[{"bidder":"b1","seat":"s1","cid":"c1","budget":0.01}]}
+{"ask":{"id":"a1","imp":[{"id":"1"}]},"answers":[{"id":"a1","seatbid":[{"seat":"s1","bid":[{"id":"x","impid":"1","price":2.5,"cid":"c1"}]}]}],"now":10}
+"#,
+        output: r#"{"answer":"awarded","auction":"a1","awards":[{"award":0,"imp":"1","seat":"s1","cid":"c1","charge":2500000}],"reasons":[0]}
+{"seat":"s1","cid":"c1","budget":10000000,"reserved":2500000,"billed":0,"slab":25}
+{"asks":1,"awards":1,"entries":1}
+"#,
+        status: 0,
+    },
+    Case {
+        name: "same ask again",
+        input: r#"{"day":"2025-03-01","bidders":[{"name":"b1"}],"campaigns":[{"bidder":"b1","seat":"s1","cid":"c1","budget":0.01}]}
+{"ask":{"id":"a1","imp":[{"id":"1"}]},"answers":[{"id":"a1","seatbid":[{"seat":"s1","bid":[{"id":"x","impid":"1","price":2.5,"cid":"c1"}]}]}],"now":10}
+{"ask":{"id":"a1","imp":[{"id":"1"}]},"answers":[{"id":"a1","seatbid":[{"seat":"s1","bid":[{"id":"x","impid":"1","price":9,"cid":"c1"}]}]}],"now":99}
+"#,
+        output: r#"{"answer":"awarded","auction":"a1","awards":[{"award":0,"imp":"1","seat":"s1","cid":"c1","charge":2500000}],"reasons":[0]}
+{"answer":"awarded","auction":"a1","awards":[{"award":0,"imp":"1","seat":"s1","cid":"c1","charge":2500000}],"reasons":[0]}
+{"seat":"s1","cid":"c1","budget":10000000,"reserved":2500000,"billed":0,"slab":25}
+{"asks":1,"awards":1,"entries":1}
+"#,
+        status: 0,
+    },
+    Case {
+        name: "id reused",
+        input: r#"{"day":"2025-03-01","bidders":[{"name":"b1"}],"campaigns":[{"bidder":"b1","seat":"s1","cid":"c1","budget":0.01}]}
+{"ask":{"id":"a1","imp":[{"id":"1"}]},"answers":[{"id":"a1","seatbid":[{"seat":"s1","bid":[{"id":"x","impid":"1","price":2.5,"cid":"c1"}]}]}],"now":10}
+{"ask":{"id":"a1","imp":[{"id":"2"}]},"answers":[{"id":"a1","seatbid":[{"seat":"s1","bid":[]}]}],"now":10}
+"#,
+        output: r#"{"answer":"awarded","auction":"a1","awards":[{"award":0,"imp":"1","seat":"s1","cid":"c1","charge":2500000}],"reasons":[0]}
+{"answer":"reused","kept":"1658342f81fb8a672f3c7879854ccb0bca45c54795eb604b1fb44c6093415495","given":"163071bddc1cc487e2d23de146066d846c94b39c58303702ca33d214f6cc2445"}
+{"seat":"s1","cid":"c1","budget":10000000,"reserved":2500000,"billed":0,"slab":25}
+{"asks":1,"awards":1,"entries":1}
+"#,
+        status: 0,
+    },
+    Case {
+        name: "discount beats price",
+        input: r#"{"day":"2025-03-01","bidders":[{"name":"b1"}],"campaigns":[{"bidder":"b1","seat":"s1","cid":"c1","budget":0.01},{"bidder":"b1","seat":"s1","cid":"c2","budget":0.01}]}
+{"ask":{"id":"a1","imp":[{"id":"1"}]},"answers":[{"id":"a1","seatbid":[{"seat":"s1","bid":[{"id":"x","impid":"1","price":5,"cid":"c1"}]}]}],"now":10}
+{"ask":{"id":"a2","imp":[{"id":"1"}]},"answers":[{"id":"a2","seatbid":[{"seat":"s1","bid":[{"id":"x","impid":"1","price":3.0,"cid":"c1"},{"id":"x","impid":"1","price":2.5,"cid":"c2"}]}]}],"now":10}
+"#,
+        output: r#"{"answer":"awarded","auction":"a1","awards":[{"award":0,"imp":"1","seat":"s1","cid":"c1","charge":5000000}],"reasons":[0]}
+{"answer":"awarded","auction":"a2","awards":[{"award":1,"imp":"1","seat":"s1","cid":"c2","charge":2500000}],"reasons":[102,0]}
+{"seat":"s1","cid":"c1","budget":10000000,"reserved":5000000,"billed":0,"slab":50}
+{"seat":"s1","cid":"c2","budget":10000000,"reserved":2500000,"billed":0,"slab":25}
+{"asks":2,"awards":2,"entries":2}
+"#,
+        status: 0,
+    },
+    Case {
+        name: "first of equals",
+        input: r#"{"day":"2025-03-01","bidders":[{"name":"b1"}],"campaigns":[{"bidder":"b1","seat":"s1","cid":"c1","budget":0.01},{"bidder":"b1","seat":"s1","cid":"c2","budget":0.01}]}
+{"ask":{"id":"a1","imp":[{"id":"1"}]},"answers":[{"id":"a1","seatbid":[{"seat":"s1","bid":[{"id":"x","impid":"1","price":2.5,"cid":"c1"},{"id":"x","impid":"1","price":2.5,"cid":"c2"}]}]}],"now":10}
+"#,
+        output: r#"{"answer":"awarded","auction":"a1","awards":[{"award":0,"imp":"1","seat":"s1","cid":"c1","charge":2500000}],"reasons":[0,102]}
+{"seat":"s1","cid":"c1","budget":10000000,"reserved":2500000,"billed":0,"slab":25}
+{"seat":"s1","cid":"c2","budget":10000000,"reserved":0,"billed":0,"slab":0}
+{"asks":1,"awards":1,"entries":1}
+"#,
+        status: 0,
+    },
+    Case {
+        name: "budget used up",
+        input: r#"{"day":"2025-03-01","bidders":[{"name":"b1"}],"campaigns":[{"bidder":"b1","seat":"s1","cid":"c1","budget":0.01}]}
+{"ask":{"id":"a1","imp":[{"id":"1"}]},"answers":[{"id":"a1","seatbid":[{"seat":"s1","bid":[{"id":"x","impid":"1","price":10,"cid":"c1"}]}]}],"now":10}
+{"ask":{"id":"a2","imp":[{"id":"1"}]},"answers":[{"id":"a2","seatbid":[{"seat":"s1","bid":[{"id":"x","impid":"1","price":0.000001,"cid":"c1"}]}]}],"now":10}
+"#,
+        output: r#"{"answer":"awarded","auction":"a1","awards":[{"award":0,"imp":"1","seat":"s1","cid":"c1","charge":10000000}],"reasons":[0]}
+{"answer":"nosale","auction":"a2","reasons":[1001]}
+{"seat":"s1","cid":"c1","budget":10000000,"reserved":10000000,"billed":0,"slab":100}
+{"asks":2,"awards":1,"entries":2}
+"#,
+        status: 0,
+    },
+    Case {
+        name: "empty day",
+        input: r#"{"day":"2025-03-01","bidders":[{"name":"b1"}],"campaigns":[{"bidder":"b1","seat":"s1","cid":"c1","budget":0.01}]}
+"#,
+        output: r#"{"seat":"s1","cid":"c1","budget":10000000,"reserved":0,"billed":0,"slab":0}
+{"asks":0,"awards":0,"entries":0}
+"#,
+        status: 0,
+    },
+    Case {
+        name: "cut line",
+        input: r#"{"day":"2025-03-01","bidders":[{"name":"b1"}],"campaigns":[{"bidder":"b1","seat":"s1","cid":"c1","budget":0.01}]}
+{"ask""#,
+        output: r#"{"answer":"refused","line":2,"why":"form"}
+{"seat":"s1","cid":"c1","budget":10000000,"reserved":0,"billed":0,"slab":0}
+{"asks":0,"awards":0,"entries":0}
+"#,
+        status: 0,
+    },
+    Case {
+        name: "no roster",
+        input: r#"{}
+"#,
+        output: r#"{"answer":"roster","why":"form"}
+"#,
+        status: 3,
+    },
+    Case {
+        name: "no line",
+        input: r#""#,
+        output: r#"{"answer":"roster","why":"form"}
+"#,
+        status: 3,
+    },
+];
+
+#[test]
+fn answers_scripts_in_pieces(rt: HostRuntime) -> Result<(), Fail> {
+    let alloc = rt.alloc();
+    let words = [Text::of(alloc, "day")?];
+    for case in &CASES {
+        for step in [0, 1, 2, 3, 7] {
+            let mut source = MemorySource::new(alloc, case.input.as_bytes(), step, &[])?;
+            let mut sink = MemorySink::new(alloc, step, &[])?;
+            let status = adx(alloc, &words, &mut source, &mut sink);
+            assert_eq!(rt; status, case.status, "{} by {step}", case.name);
+            assert_eq!(rt;
+                sink.taken(),
+                case.output.as_bytes(),
+                "{} by {step}",
+                case.name
+            );
+        }
+    }
+    Ok(())
+}
