@@ -12,3 +12,4 @@ pub mod Chains
 pub mod FirstLine
 pub mod Runs
 pub mod Days
+pub mod BillLaws

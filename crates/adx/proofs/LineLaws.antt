@@ -8,11 +8,15 @@ use Rattle.adx_json.proofs.Unique.{one_plain_tree}
 use Rattle.day_machine.specs.declared.ask.Ask.{Ask}
 use Rattle.adx.specs.declared.roster.Campaign.{Campaign}
 use Rattle.adx.specs.Lines.{line_limit}
-use Rattle.adx.specs.Forms.{ask_tree, roster_tree}
+use Rattle.adx.specs.Forms.{ask_tree, bill_tree, roster_tree}
+use Rattle.adx.specs.declared.bill.Bill.{Bill}
+use Rattle.adx.specs.declared.line.ScriptLine.{ScriptLine}
 use Rattle.adx.specs.AskParts.{ask_made}
+use Rattle.adx.specs.BillParts.{bill_made}
 use Rattle.adx.specs.RosterParts.{roster_in}
-use Rattle.adx.specs.Reads.{ReadsAsk, ReadsRoster, IsReady, AreSized}
+use Rattle.adx.specs.Reads.{ReadsAsk, ReadsBill, ReadsLine, MakesLine, ReadsRoster, IsReady, IsReadyLine, AreSized}
 use Rattle.adx.proofs.AskLaws.{ask_sound, ask_complete, ask_well_formed}
+use Rattle.adx.proofs.BillLaws.{bill_sound, bill_complete}
 use Rattle.adx.proofs.RosterLaws.{roster_sound, roster_complete, roster_sized}
 
 -- a plain value with the line's spelling is the line's value
@@ -62,3 +66,29 @@ roster_ready t (Some cs) is =
 
 pub no_roster : (line : List ℕ) → ((t : Tree) → IsPlain t → line ≢ spelling t) → ReadsRoster line None
 no_roster line none = λ r h. none (roster_tree r) h.plain h.spelled
+
+pub bill_reads : (line : List ℕ) (t : Tree) (made : Option Bill) → IsPlain t → line ≡ spelling t → length line ≤ line_limit → made ≡ bill_made t → ReadsBill line made
+bill_reads line t None plain e short is = λ f h.
+    let same = same_value line t (bill_tree f) plain e h.plain h.spelled in
+    let made = is ∙ ap bill_made same ∙ bill_complete f h.bill in
+    absurd (cc made)
+bill_reads line t (Some b) plain e short is =
+    let sound = bill_sound t b (sym is) in (
+      sound.0,
+      record { short = short; plain = subst IsPlain sound.1 plain; spelled = e ∙ ap spelling sound.1; bill = sound.2 },
+      sound.3,
+    )
+
+pub no_bill : (line : List ℕ) → ((t : Tree) → IsPlain t → line ≢ spelling t) → ReadsBill line None
+no_bill line none = λ f h. none (bill_tree f) h.plain h.spelled
+
+-- what a line is, from what its value makes
+pub line_reads : (campaigns : List Campaign) (line : List ℕ) (t : Tree) (found : ScriptLine) → IsPlain t → line ≡ spelling t → length line ≤ line_limit → MakesLine campaigns t found → ReadsLine campaigns line found
+line_reads campaigns line t (ScriptLine.Ask a) plain e short is = ask_reads campaigns line t (Some a) plain e short is
+line_reads campaigns line t (ScriptLine.Bill b) plain e short is = bill_reads line t (Some b) plain e short is
+line_reads campaigns line t ScriptLine.Other plain e short is = (ask_reads campaigns line t None plain e short is.0, bill_reads line t None plain e short is.1)
+
+pub line_ready : (campaigns : List Campaign) (t : Tree) (found : ScriptLine) → length campaigns ≤ 1024 → MakesLine campaigns t found → IsReadyLine (length campaigns) found
+line_ready campaigns t (ScriptLine.Ask a) few is = ask_ready campaigns t (Some a) few is
+line_ready campaigns t (ScriptLine.Bill b) few is = tt
+line_ready campaigns t ScriptLine.Other few is = tt

@@ -1,6 +1,6 @@
 -- The lines that a day reads for now, as plain JSON values of a fixed form, and what they say. The
 -- members are those of OpenRTB 2.6 (BidRequest, Imp, BidResponse, SeatBid, Bid) where they are in an ask.
-use Rattle.std.specs.Prelude.{◌≡◌, ℕ, ◌≤◌, List, [], ◌∷◌, map, length, Bool, ◌&&◌, nat_lt, ◌==◌, if◌then◌else◌, Option, Some, None, IfSome, Result, Ok, Err, IsOk, IsTrue, All, AllPairs, codes, slice_index}
+use Rattle.std.specs.Prelude.{◌≡◌, ℕ, ◌<◌, ◌≤◌, List, [], ◌∷◌, map, length, Bool, ◌&&◌, nat_lt, ◌==◌, if◌then◌else◌, Option, Some, None, IfSome, Result, Ok, Err, IsOk, IsTrue, All, AllPairs, codes, slice_index}
 use Rattle.std.specs.List.{position}
 use Rattle.std.specs.Str.{bytes_eq}
 use Rattle.sha2.specs.Sha256.{sha256}
@@ -15,6 +15,7 @@ use Rattle.adx_json.specs.Spelling.{spelling}
 use Rattle.adx_json.specs.Plain.{IsPlain}
 use Rattle.day_machine.specs.declared.ask.Ask.{Ask}
 use Rattle.adx.specs.declared.roster.Campaign.{Campaign}
+use Rattle.adx.specs.declared.bill.Bill.{Bill}
 use Rattle.adx.specs.Lines.{line_limit}
 
 -- an object of these members
@@ -175,3 +176,28 @@ pub record IsAskLine (line : List ℕ) (f : AskForm) : Type 0 where
   pub plain : IsPlain (ask_tree f)
   pub spelled : line ≡ spelling (ask_tree f)
   pub ask : IsAsk f
+
+-- the line of a bill: an auction, and the number of an award as a number's text
+pub record BillForm : Type 0 where
+  pub auction : List ℕ
+  pub bid : List ℕ
+
+abbrev pub bill_tree : BillForm → Tree
+bill_tree f = members ((codes "notice", text (codes "bill")) ∷ (codes "auction", text f.auction) ∷ (codes "bid", number f.bid) ∷ [])
+
+pub record IsBill (f : BillForm) : Type 0 where
+  -- a whole number of 1 to 15 digits below 2^32
+  pub whole : IsTrue (is_whole f.bid)
+  pub digits : length f.bid ≤ 15
+  pub below : digits_value f.bid < 4294967296
+
+-- the line is the spelling of this bill
+pub record IsBillLine (line : List ℕ) (f : BillForm) : Type 0 where
+  pub short : length line ≤ line_limit
+  pub plain : IsPlain (bill_tree f)
+  pub spelled : line ≡ spelling (bill_tree f)
+  pub bill : IsBill f
+
+-- the bill that the line makes
+abbrev pub bill_of_form : BillForm → Bill
+bill_of_form f = record { auction = f.auction; award = digits_value f.bid }

@@ -3,6 +3,7 @@ pub mod Reading
 pub mod Forms
 pub mod Parts
 pub mod AskParts
+pub mod BillParts
 pub mod AskHead
 pub mod RosterParts
 pub mod Output

@@ -84,6 +84,16 @@ ask_answer_line campaigns history Answer.Unknown = codes "{\"answer\":\"unknown\
 ask_answer_line campaigns history (Answer.Reused kept given) = reused_line kept given
 ask_answer_line campaigns history (Answer.DayFull which count) = dayfull_line which count
 
+-- the line of an answer to a bill; the other answers are those to asks
+abbrev pub bill_answer_line : Answer → List ℕ
+bill_answer_line (Answer.Awarded place) = []
+bill_answer_line (Answer.NoSale place) = []
+bill_answer_line Answer.Counted = codes "{\"answer\":\"counted\"}\n"
+bill_answer_line (Answer.Repeat place) = codes "{\"answer\":\"repeat\"}\n"
+bill_answer_line Answer.Unknown = codes "{\"answer\":\"unknown\"}\n"
+bill_answer_line (Answer.Reused kept given) = []
+bill_answer_line (Answer.DayFull which count) = []
+
 -- a script line that isn't of its form; the roster's line has the number 1
 abbrev pub refused_line : ℕ → List ℕ
 refused_line n = codes "{\"answer\":\"refused\",\"line\":" ++ decimal n ++ codes ",\"why\":\"form\"}\n"

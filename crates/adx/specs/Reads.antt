@@ -8,12 +8,33 @@ use Rattle.adx_json.specs.declared.tree.Json.{Json}
 use Rattle.day_machine.specs.declared.ask.Ask.{Ask}
 use Rattle.day_machine.specs.Asks.{IsWellFormed, IsUndecided}
 use Rattle.adx.specs.declared.roster.Campaign.{Campaign}
-use Rattle.adx.specs.Forms.{RosterForm, AskForm, IsRosterLine, IsAskLine, campaigns_of, ask_of_form}
+use Rattle.adx.specs.declared.bill.Bill.{Bill}
+use Rattle.adx.specs.declared.line.ScriptLine.{ScriptLine}
+use Rattle.adx.specs.Forms.{RosterForm, AskForm, BillForm, IsRosterLine, IsAskLine, IsBillLine, campaigns_of, ask_of_form, bill_of_form}
+use Rattle.adx.specs.AskParts.{ask_made}
+use Rattle.adx.specs.BillParts.{bill_made}
 
 -- the line is an ask's, which this is, or it is no ask's
 abbrev pub ReadsAsk : List Campaign → List ℕ → Option Ask → Type 0
 ReadsAsk campaigns line None = (f : AskForm) → IsAskLine line f → ⊥
 ReadsAsk campaigns line (Some a) = (f : AskForm) × IsAskLine line f × (a ≡ ask_of_form campaigns f)
+
+-- the line is a bill's, which this is, or it is no bill's
+abbrev pub ReadsBill : List ℕ → Option Bill → Type 0
+ReadsBill line None = (f : BillForm) → IsBillLine line f → ⊥
+ReadsBill line (Some b) = (f : BillForm) × IsBillLine line f × (b ≡ bill_of_form f)
+
+-- what a script line is
+abbrev pub ReadsLine : List Campaign → List ℕ → ScriptLine → Type 0
+ReadsLine campaigns line (ScriptLine.Ask a) = ReadsAsk campaigns line (Some a)
+ReadsLine campaigns line (ScriptLine.Bill b) = ReadsBill line (Some b)
+ReadsLine campaigns line ScriptLine.Other = ReadsAsk campaigns line None × ReadsBill line None
+
+-- the same of the line's value
+abbrev pub MakesLine : List Campaign → Tree → ScriptLine → Type 0
+MakesLine campaigns t (ScriptLine.Ask a) = Some a ≡ ask_made campaigns t
+MakesLine campaigns t (ScriptLine.Bill b) = Some b ≡ bill_made t
+MakesLine campaigns t ScriptLine.Other = (None ≡ ask_made campaigns t) × (None ≡ bill_made t)
 
 -- the line is a roster's, whose campaigns these are, or it is no roster's
 abbrev pub ReadsRoster : List ℕ → Option (List Campaign) → Type 0
@@ -28,6 +49,12 @@ IsPlainValue line (Some value) = IsPlain (tree_of value) × (line ≡ spelling (
 -- an ask that a day with so many campaigns can plan
 abbrev pub IsReady : ℕ → Ask → Type 0
 IsReady campaigns a = IsWellFormed campaigns a × IsUndecided a
+
+-- an ask among the script's lines is one that a day can plan
+abbrev pub IsReadyLine : ℕ → ScriptLine → Type 0
+IsReadyLine campaigns (ScriptLine.Ask a) = IsReady campaigns a
+IsReadyLine campaigns (ScriptLine.Bill b) = Unit {0}
+IsReadyLine campaigns ScriptLine.Other = Unit {0}
 
 -- how many campaigns a day takes, and of which budgets
 pub record AreSized (cs : List Campaign) : Type 0 where

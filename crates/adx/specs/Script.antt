@@ -1,16 +1,17 @@
 -- What the program writes for a script: a line for each line, by one run of the day machine, and then
 -- the closing table. This project's own.
 use Rattle.std.specs.Prelude.{◌≡◌, ◌⊎◌, ℕ, suc, ◌+◌, ◌<◌, ◌≤◌, List, [], ◌∷◌, ◌++◌, map, length, Option, Some, None}
+use Rattle.adx_units.specs.Number.{digits_value}
 use Rattle.day_machine.specs.declared.entry.Entry.{Entry}
 use Rattle.day_machine.specs.declared.limits.DayLimits.{DayLimits}
-use Rattle.day_machine.specs.Replies.{Terms, ask_reply, with_entry}
+use Rattle.day_machine.specs.Replies.{Terms, ask_reply, bill_reply, with_entry}
 use Rattle.adx.specs.declared.roster.Campaign.{Campaign}
 use Rattle.adx_io.specs.Streams.{Tape}
 use Rattle.adx.specs.declared.ending.Ending.{Ending}
 use Rattle.adx.specs.Lines.{IsCut, BeginsWithLine, HasNoNewline, input_limit}
 use Rattle.adx.specs.Reading.{with_more}
-use Rattle.adx.specs.Forms.{RosterForm, AskForm, IsRosterLine, IsAskLine, campaigns_of, ask_of_form}
-use Rattle.adx.specs.Output.{ask_answer_line, refused_line, toolong_line, roster_refused_line, closing_table}
+use Rattle.adx.specs.Forms.{RosterForm, AskForm, BillForm, IsRosterLine, IsAskLine, IsBillLine, campaigns_of, ask_of_form}
+use Rattle.adx.specs.Output.{ask_answer_line, bill_answer_line, refused_line, toolong_line, roster_refused_line, closing_table}
 
 -- the limits of a day whose roster states none
 abbrev pub standard_limits : DayLimits
@@ -26,16 +27,24 @@ pub record AnswersAsk (campaigns : List Campaign) (history : List Entry) (line o
   pub entry : next ≡ with_entry history (ask_reply (terms_of campaigns) history (ask_of_form campaigns f)).entry
   pub answer : out ≡ ask_answer_line campaigns next (ask_reply (terms_of campaigns) history (ask_of_form campaigns f)).answer
 
+-- a bill is answered by the day machine's reply too
+pub record AnswersBill (history : List Entry) (line out : List ℕ) (next : List Entry) (f : BillForm) : Type 0 where
+  pub read : IsBillLine line f
+  pub entry : next ≡ with_entry history (bill_reply history f.auction (digits_value f.bid)).entry
+  pub answer : out ≡ bill_answer_line (bill_reply history f.auction (digits_value f.bid)).answer
+
 -- any other line is refused by its number, and changes nothing
 pub record RefusesLine (history : List Entry) (number : ℕ) (line out : List ℕ) (next : List Entry) : Type 0 where
-  pub unread : (f : AskForm) → IsAskLine line f → ⊥
+  pub no_ask : (f : AskForm) → IsAskLine line f → ⊥
+  pub no_bill : (f : BillForm) → IsBillLine line f → ⊥
   pub same : next ≡ history
   pub answer : out ≡ refused_line number
 
 -- what a line is answered after a history, and the history that it leaves
 abbrev pub Answers : List Campaign → List Entry → ℕ → List ℕ → List ℕ → List Entry → Type 0
 Answers campaigns history number line out next =
-    ((f : AskForm) × AnswersAsk campaigns history line out next f) ⊎ RefusesLine history number line out next
+    ((f : AskForm) × AnswersAsk campaigns history line out next f)
+    ⊎ (((f : BillForm) × AnswersBill history line out next f) ⊎ RefusesLine history number line out next)
 
 -- what the lines are answered in turn; the first of them has the number
 abbrev pub AnswersAll : List Campaign → List Entry → ℕ → List (List ℕ) → List ℕ → List Entry → Type 0

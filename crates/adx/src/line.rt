@@ -2,16 +2,28 @@ ghost use Rattle.std.specs.Prelude.{◌≡◌, ◌≤◌, length, option_map, If
 ghost use Rattle.adx_json.specs.View.{tree_of};
 ghost use Rattle.adx.specs.Lines.{line_limit};
 ghost use Rattle.adx.specs.AskParts.{ask_made};
-ghost use Rattle.adx.specs.Reads.{IsPlainValue, IsReady, AreSized, ReadsAsk, ReadsRoster};
+ghost use Rattle.adx.specs.Reads.{IsPlainValue, IsReadyLine, AreSized, ReadsLine, MakesLine, ReadsRoster};
 
 use crate::ask_form::ask_of_parts;
 use crate::ask_parts::ask_parts;
+use crate::bill::{Bill, bill_of_value};
 use crate::roster::{Campaign, roster};
 use adx_json::plain::PlainFault;
 use adx_json::{Json, plain};
 use adx_units::OutOfMemory;
 use day_machine::Ask;
 use std::alloc::Global;
+
+/// What a line of a script is.
+#[derive(Drop)]
+pub(crate) enum ScriptLine {
+    /// An ask, before the day settles it.
+    Ask(Ask),
+    /// The bill of an award.
+    Bill(Bill),
+    /// Neither.
+    Other,
+}
 
 /// The value that a line is in plain JSON; None where it isn't one.
 fn plain_value(alloc: Global, line: &[u8]) -> Result<Option<Json>, OutOfMemory>
@@ -40,23 +52,42 @@ fn ask_of_value(
     }
 }
 
-/// The ask that a line makes, before the day settles it; None exactly where the line isn't an ask's.
-pub(crate) fn read_ask(
+/// What a plain value is as a script line.
+fn script_line(
+    alloc: Global,
+    campaigns: &[Campaign],
+    value: &Json,
+) -> Result<ScriptLine, OutOfMemory>
+    requires { length campaigns.now ≤ 1024 }
+    ensures { IfOk result (MakesLine campaigns.now (tree_of value.now)) }
+{
+    if let Some(ask) = ask_of_value(alloc, campaigns, value)? {
+        return Ok(ScriptLine::Ask(ask));
+    }
+    match bill_of_value(alloc, value)? {
+        Some(bill) => Ok(ScriptLine::Bill(bill)),
+        None => Ok(ScriptLine::Other),
+    }
+}
+
+/// What a line of a script is: an ask exactly where it is an ask's, and a bill exactly where it is a
+/// bill's.
+pub(crate) fn read_line(
     alloc: Global,
     campaigns: &[Campaign],
     line: &[u8],
-) -> Result<Option<Ask>, OutOfMemory>
+) -> Result<ScriptLine, OutOfMemory>
     requires few { length campaigns.now ≤ 1024 }
     requires short { length line.now ≤ line_limit }
-    ensures reads { IfOk result (ReadsAsk campaigns.now line.now) }
-    ensures ready { IfOk result (λ found. IfSome found (IsReady (length campaigns.now))) }
+    ensures reads { IfOk result (ReadsLine campaigns.now line.now) }
+    ensures ready { IfOk result (IsReadyLine (length campaigns.now)) }
 {
     match plain_value(alloc, line)? {
         Some(value) => {
-            let found = ask_of_value(alloc, campaigns, &value)?;
+            let found = script_line(alloc, campaigns, &value)?;
             Ok(found)
         }
-        None => Ok(None),
+        None => Ok(ScriptLine::Other),
     }
 }
 

@@ -9,6 +9,7 @@ mod answering;
 mod ask_form;
 mod ask_lines;
 mod ask_parts;
+mod bill;
 mod command;
 mod day;
 mod ending;

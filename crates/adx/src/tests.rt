@@ -11,7 +11,7 @@ struct Case {
     status: u8,
 }
 
-const CASES: [Case; 10] = [
+const CASES: [Case; 14] = [
     Case {
         name: "first award",
         input: r#"{"day":"2025-03-01","bidders":[{"name":"b1"}],"campaigns":[{"bidder":"b1","seat":"s1","cid":"c1","budget":0.01}]}
@@ -85,6 +85,86 @@ const CASES: [Case; 10] = [
 {"answer":"nosale","auction":"a2","reasons":[1001]}
 {"seat":"s1","cid":"c1","budget":10000000,"reserved":10000000,"billed":0,"slab":100}
 {"asks":2,"awards":1,"entries":2}
+"#,
+        status: 0,
+    },
+    Case {
+        name: "unknown notice",
+        input: r#"{"day":"2025-03-01","bidders":[{"name":"b1"}],"campaigns":[{"bidder":"b1","seat":"s1","cid":"c1","budget":0.01}]}
+{"ask":{"id":"a1","imp":[{"id":"1"}]},"answers":[{"id":"a1","seatbid":[{"seat":"s1","bid":[{"id":"x","impid":"1","price":2.5,"cid":"c1"}]}]}],"now":10}
+{"notice":"bill","auction":"a1","bid":7}
+{"notice":"bill","auction":"a2","bid":0}
+"#,
+        output: r#"{"answer":"awarded","auction":"a1","awards":[{"award":0,"imp":"1","seat":"s1","cid":"c1","charge":2500000}],"reasons":[0]}
+{"answer":"unknown"}
+{"answer":"unknown"}
+{"seat":"s1","cid":"c1","budget":10000000,"reserved":2500000,"billed":0,"slab":25}
+{"asks":1,"awards":1,"entries":1}
+"#,
+        status: 0,
+    },
+    Case {
+        name: "tick is no line",
+        input: r#"{"day":"2025-03-01","bidders":[{"name":"b1"}],"campaigns":[{"bidder":"b1","seat":"s1","cid":"c1","budget":0.01}]}
+{"ask":{"id":"a1","imp":[{"id":"1"}]},"answers":[{"id":"a1","seatbid":[{"seat":"s1","bid":[{"id":"x","impid":"1","price":2.5,"cid":"c1"}]}]}],"now":10}
+{"tick":5}
+"#,
+        output: r#"{"answer":"awarded","auction":"a1","awards":[{"award":0,"imp":"1","seat":"s1","cid":"c1","charge":2500000}],"reasons":[0]}
+{"answer":"refused","line":3,"why":"form"}
+{"seat":"s1","cid":"c1","budget":10000000,"reserved":2500000,"billed":0,"slab":25}
+{"asks":1,"awards":1,"entries":1}
+"#,
+        status: 0,
+    },
+    Case {
+        name: "bill twice, between other lines",
+        input: r#"{"day":"2025-03-01","bidders":[{"name":"b1"}],"campaigns":[{"bidder":"b1","seat":"s1","cid":"c1","budget":0.01}]}
+{"ask":{"id":"a1","imp":[{"id":"1"}]},"answers":[{"id":"a1","seatbid":[{"seat":"s1","bid":[{"id":"x","impid":"1","price":2.5,"cid":"c1"}]}]}],"now":10}
+{"ask":{"id":"a2","imp":[{"id":"1"}]},"answers":[{"id":"a2","seatbid":[{"seat":"s1","bid":[{"id":"x","impid":"1","price":5,"cid":"c1"}]}]}],"now":10}
+{"notice":"bill","auction":"a2","bid":0}
+{"notice":"bill","auction":"a2","bid":1}
+{"notice":"bill","auction":"a1","bid":0}
+{"notice":"bill","auction":"a2","bid":1}
+{"ask":{"id":"a2","imp":[{"id":"1"}]},"answers":[{"id":"a2","seatbid":[{"seat":"s1","bid":[{"id":"x","impid":"1","price":9,"cid":"c1"}]}]}],"now":99}
+{"ask":{"id":"a3","imp":[{"id":"1"}]},"answers":[{"id":"a3","seatbid":[{"seat":"s1","bid":[{"id":"x","impid":"1","price":2.6,"cid":"c1"}]}]}],"now":10}
+{"ask":{"id":"a4","imp":[{"id":"1"}]},"answers":[{"id":"a4","seatbid":[{"seat":"s1","bid":[{"id":"x","impid":"1","price":2.5,"cid":"c1"}]}]}],"now":10}
+"#,
+        output: r#"{"answer":"awarded","auction":"a1","awards":[{"award":0,"imp":"1","seat":"s1","cid":"c1","charge":2500000}],"reasons":[0]}
+{"answer":"awarded","auction":"a2","awards":[{"award":1,"imp":"1","seat":"s1","cid":"c1","charge":5000000}],"reasons":[0]}
+{"answer":"unknown"}
+{"answer":"counted"}
+{"answer":"counted"}
+{"answer":"repeat"}
+{"answer":"awarded","auction":"a2","awards":[{"award":1,"imp":"1","seat":"s1","cid":"c1","charge":5000000}],"reasons":[0]}
+{"answer":"nosale","auction":"a3","reasons":[1001]}
+{"answer":"awarded","auction":"a4","awards":[{"award":2,"imp":"1","seat":"s1","cid":"c1","charge":2500000}],"reasons":[0]}
+{"seat":"s1","cid":"c1","budget":10000000,"reserved":2500000,"billed":7500000,"slab":100}
+{"asks":4,"awards":3,"entries":6}
+"#,
+        status: 0,
+    },
+    Case {
+        name: "bills out of form",
+        input: r#"{"day":"2025-03-01","bidders":[{"name":"b1"}],"campaigns":[{"bidder":"b1","seat":"s1","cid":"c1","budget":0.01}]}
+{"ask":{"id":"a1","imp":[{"id":"1"}]},"answers":[{"id":"a1","seatbid":[{"seat":"s1","bid":[{"id":"x","impid":"1","price":2.5,"cid":"c1"}]}]}],"now":10}
+{"notice":"bill","auction":"a1","bid":4294967296}
+{"notice":"bill","auction":"a1","bid":00}
+{"notice":"bill","auction":"a1","bid":-1}
+{"notice":"bill","auction":"a1","bid":0.0}
+{"notice":"bill","auction":"a1","bid":"0"}
+{"notice":"bill","auction":"a1","bid":4294967295}
+{"notice":"bill","auction":"a1","bid":0}
+"#,
+        output: r#"{"answer":"awarded","auction":"a1","awards":[{"award":0,"imp":"1","seat":"s1","cid":"c1","charge":2500000}],"reasons":[0]}
+{"answer":"refused","line":3,"why":"form"}
+{"answer":"refused","line":4,"why":"form"}
+{"answer":"refused","line":5,"why":"form"}
+{"answer":"refused","line":6,"why":"form"}
+{"answer":"refused","line":7,"why":"form"}
+{"answer":"unknown"}
+{"answer":"counted"}
+{"seat":"s1","cid":"c1","budget":10000000,"reserved":0,"billed":2500000,"slab":25}
+{"asks":1,"awards":1,"entries":2}
 "#,
         status: 0,
     },

@@ -1,5 +1,5 @@
 -- Decimal digits: the number of a text in two parts, and a bound by its length.
-use Rattle.std.proofs.Common.{◌≡◌, ℕ, suc, ◌+◌, ◌-◌, ◌*◌, ◌/◌, ◌%◌, ◌^◌, ◌<◌, ◌≤◌, true, nat_le, ◌&&◌, ◌||◌, not, ◌==◌, min, List, [], ◌∷◌, ◌++◌, length, fold, sym, ap, ◌∙◌, arith, pow-suc, mul-le-mul_right, pow-add, mul-div_cancel, mul_assoc, mul_comm}
+use Rattle.std.proofs.Common.{◌≡◌, ℕ, suc, ◌+◌, ◌-◌, ◌*◌, ◌/◌, ◌%◌, ◌^◌, ◌<◌, ◌≤◌, true, nat_le, ◌||◌, not, ◌==◌, min, List, [], ◌∷◌, ◌++◌, length, fold, sym, ap, ◌∙◌, arith, pow-suc, mul-le-mul_right, pow-add, mul-div_cancel, mul_assoc, mul_comm}
 use Rattle.std.specs.List.{list_all}
 use Rattle.std.proofs.Math.Nat.{pow-zero, one-le-pow, mul-mod_left, mul-div-mul_right, div-add-mod'}
 use Rattle.std.proofs.lemmas.List.Sums.{fold-append}

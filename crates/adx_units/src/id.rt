@@ -64,3 +64,32 @@ impl Id {
         })
     }
 }
+
+#[cfg(test)]
+mod tests {
+    use super::*;
+    use std::test::Fail;
+
+    /// A text of 128 bytes.
+    const LONGEST: &str =
+        "0123456789abcdef0123456789abcdef0123456789abcdef0123456789abcdef0123456789abcdef0123456789abcdef0123456789abcdef0123456789abcdef";
+
+    #[test]
+    fn names_texts_and_copies(rt: HostRuntime) -> Result<(), Fail> {
+        let alloc = rt.alloc();
+        for name in ["a", "Id-1.é", LONGEST] {
+            let id = Id::of(alloc, name)?.ok_or(OutOfMemory)?;
+            let copy = id.copy(alloc)?;
+            let text = Text::of(alloc, name)?;
+            let second = text.copy(alloc)?;
+            assert_eq!(rt; copy.as_bytes(), name.as_bytes());
+            assert_eq!(rt; second.as_bytes(), name.as_bytes());
+        }
+        let mut longer = String::from_str(alloc, LONGEST)?;
+        longer.push('x')?;
+        for text in ["", longer.as_str()] {
+            assert!(rt; Id::of(alloc, text)?.is_none());
+        }
+        Ok(())
+    }
+}

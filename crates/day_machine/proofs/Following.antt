@@ -13,11 +13,12 @@ use Rattle.day_machine.specs.Books.{awards_of, awards_of_entry, billed_money, co
 use Rattle.day_machine.specs.Asks.{IsOffer, IsWellFormed, IsUndecided}
 use Rattle.day_machine.specs.Replies.{Terms, Reply, ask_of, seen_as, seen_in, ask_reply, ask_reply_by, new_ask_reply}
 use Rattle.day_machine.specs.Legal.{MayFollow, IsLegal}
-use Rattle.day_machine.specs.DayState.{DayState, IsDay}
+use Rattle.day_machine.specs.DayState.{DayState, IsDay, EndsByBills}
 use Rattle.day_machine.specs.Standings.{AreWithin, IsBudget, IsPriced}
 use Rattle.day_machine.proofs.Settling.{settled_follows, refusal_other}
 use Rattle.day_machine.proofs.Within.{within_budget, latest_small, few_awards, few_bids, awards_of_entry_few}
 use Rattle.day_machine.proofs.Histories.{legal_push}
+use Rattle.day_machine.proofs.Opening.{open_and_bills}
 use Rattle.adx_units.specs.Money.{units}
 use Rattle.discount_table.specs.Choice.{budget_at}
 
@@ -123,3 +124,9 @@ committed_day terms history items state e ok day terms_is history_is follows ite
     let same : items ≡ history ++ e ∷ [] = items_is ∙ cond-true ok _ _ ok_is in
     let D : List Entry → Type 0 = λ h. IsDay terms h in
     subst D (sym same) (day_push terms history e day here)
+
+-- each bill of a day ended one of its awards
+pub read_ends : (terms : Terms) (history xs : List Entry) → IsDay terms history → xs ≡ history → EndsByBills xs
+read_ends terms history xs day same =
+    let P : List Entry → Type 0 = λ h. EndsByBills h in
+    subst P (sym same) (record { few = day_awards terms history day; each = open_and_bills terms history day.legal })

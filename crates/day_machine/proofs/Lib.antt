@@ -7,3 +7,9 @@ pub mod Within
 pub mod Standing
 pub mod Following
 pub mod Ends
+pub mod Notices
+pub mod Opening
+pub mod Keeping
+pub mod Agreeing
+pub mod Replying
+pub mod Running

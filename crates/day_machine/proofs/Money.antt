@@ -24,7 +24,7 @@ open_or_billed false charge end = refl
 open_or_billed true charge None = omega arith
 open_or_billed true charge (Some billed) = omega arith
 
-sum_of_awards : (campaign n : ℕ) (awards : List Award) → sum_by (λ (p : ℕ × Award). award_charge campaign p.1) (enumerate_from n awards) ≡ sum_by (award_charge campaign) awards
+pub sum_of_awards : (campaign n : ℕ) (awards : List Award) → sum_by (λ (p : ℕ × Award). award_charge campaign p.1) (enumerate_from n awards) ≡ sum_by (award_charge campaign) awards
 sum_of_awards campaign n [] = refl
 sum_of_awards campaign n (w ∷ ws) =
     let f : ℕ × Award → ℕ = λ p. award_charge campaign p.1 in

@@ -94,6 +94,10 @@ billed_money history campaign = charges_where is_billed history campaign
 abbrev pub committed : List Entry → ℕ → ℕ
 committed history campaign = reserved history campaign + billed_money history campaign
 
+-- the number of awards without an end
+unfoldable pub open_count : List Entry → ℕ
+open_count history = count_by (λ (p : ℕ × Award). is_open (end_of p.0 history)) (enumerate_from 0 (awards_of history))
+
 -- the moment that an entry brings
 abbrev pub moment_of : Entry → ℕ
 moment_of (Entry.Ask a) = a.now
@@ -116,6 +120,15 @@ ask_count history = count_by is_ask history
 abbrev pub bids_of : Entry → ℕ
 bids_of (Entry.Ask a) = length a.offers
 bids_of (Entry.Bill n) = 0
+
+-- the entry is a bill
+abbrev pub is_bill : Entry → Bool
+is_bill (Entry.Ask a) = false
+is_bill (Entry.Bill n) = true
+
+-- the number of bills of a history
+abbrev pub bill_count : List Entry → ℕ
+bill_count history = count_by is_bill history
 
 -- the number of recorded bids of a history
 abbrev pub bid_count : List Entry → ℕ

@@ -1,10 +1,10 @@
 -- What a contract sees of a day. This project's own.
-use Rattle.std.specs.Prelude.{ℕ, ◌+◌, ◌*◌, ◌≤◌, List, length, All}
+use Rattle.std.specs.Prelude.{◌≡◌, ℕ, ◌+◌, ◌*◌, ◌^◌, ◌<◌, ◌≤◌, List, length, All}
 use Rattle.adx_units.specs.declared.units.Units.{Units}
 use Rattle.day_machine.specs.declared.entry.Entry.{Entry}
 use Rattle.day_machine.specs.declared.limits.DayLimits.{DayLimits}
 use Rattle.day_machine.specs.Replies.{Terms}
-use Rattle.day_machine.specs.Books.{awards_of_entry}
+use Rattle.day_machine.specs.Books.{awards_of_entry, awards_of, open_count, bill_count}
 use Rattle.day_machine.specs.Legal.{IsLegal}
 use Rattle.day_machine.specs.Standings.{IsBudget}
 
@@ -17,6 +17,12 @@ pub record DayState : Type 0 where
 -- for how many entries an entry asks: itself, and two for each of its awards
 abbrev pub room_of : Entry → ℕ
 room_of e = 1 + 2 * length (awards_of_entry e)
+
+-- how much room an entry needs to be added: an ask what it asks for and what the bills of the open
+-- awards do, a bill its own
+abbrev pub room_needed : List Entry → Entry → ℕ
+room_needed history (Entry.Ask a) = room_of (Entry.Ask a) + open_count history
+room_needed history (Entry.Bill n) = 1
 
 abbrev pub terms_of : List Units → DayLimits → Terms
 terms_of budgets limits = record { budgets = budgets; limits = limits }
@@ -33,3 +39,13 @@ pub record AreTerms (terms : Terms) : Type 0 where
 pub record IsDay (terms : Terms) (history : List Entry) : Type 0 where
   pub terms_ok : AreTerms terms
   pub legal : IsLegal terms history
+
+-- a history of few awards, of which each bill ended one
+pub record EndsByBills (history : List Entry) : Type 0 where
+  pub few : length (awards_of history) < 2 ^ 32
+  pub each : open_count history + bill_count history ≡ length (awards_of history)
+
+-- a day with room for the bill of each open award
+pub record IsKeptDay (terms : Terms) (history : List Entry) (room : ℕ) : Type 0 where
+  pub day : IsDay terms history
+  pub bills : open_count history ≤ room

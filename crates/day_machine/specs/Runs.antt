@@ -1,6 +1,6 @@
 -- Runs of a day over turns, the calls of a run taken once, and the plain books of such calls. This
 -- project's own.
-use Rattle.std.specs.Prelude.{ℕ, ◌+◌, max, List, [], ◌∷◌, ◌++◌, map, length, filter, Bool, true, false, ◌&&◌, not, ◌==◌, if◌then◌else◌, Option, None, slice_index_or}
+use Rattle.std.specs.Prelude.{ℕ, ◌+◌, max, List, [], ◌∷◌, ◌++◌, map, length, filter, Bool, true, false, ◌&&◌, not, ◌==◌, if◌then◌else◌, Option, None, slice_index_or, All}
 use Rattle.std.specs.List.{list_any, sum_by, enumerate_from}
 use Rattle.std.specs.Str.{bytes_eq}
 use Rattle.adx_units.specs.declared.units.Units.{Units}
@@ -9,13 +9,21 @@ use Rattle.day_machine.specs.declared.answer.Answer.{Answer}
 use Rattle.day_machine.specs.declared.ask.Ask.{Ask}
 use Rattle.day_machine.specs.declared.entry.Entry.{Entry}
 use Rattle.day_machine.specs.Books.{Award, awards_of_ask}
-use Rattle.day_machine.specs.Asks.{undecided}
+use Rattle.day_machine.specs.Asks.{IsWellFormed, IsUndecided, undecided}
 use Rattle.day_machine.specs.Replies.{Terms, Call, ask, bill, reply, with_entry}
 
 -- a call with its outcome: done, or given up for want of memory or by a fault
 pub record Turn : Type 0 where
   pub call : Call
   pub done : Bool
+
+-- the asks of these turns are well formed and undecided
+abbrev pub IsAskedWell : ℕ → Call → Type 0
+IsAskedWell campaigns (ask a) = IsWellFormed campaigns a × IsUndecided a
+IsAskedWell campaigns (bill auction n) = Unit {0}
+
+abbrev pub AreAskedWell : ℕ → List Turn → Type 0
+AreAskedWell campaigns turns = All (λ t. IsAskedWell campaigns t.call) turns
 
 -- what a turn adds to a history: a done one its reply's entry, a faulted one nothing
 abbrev pub entry_of_turn : Terms → List Entry → Turn → Option Entry

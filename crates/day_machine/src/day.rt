@@ -2,15 +2,16 @@ ghost use Rattle.std.specs.Prelude.{◌≡◌, ◌∷◌, ◌++◌, ◌+◌, ◌
 ghost use Rattle.discount_table.specs.Choice.{budget_at};
 ghost use Rattle.day_machine.specs.Asks.{IsUndecided, IsWellFormed};
 ghost use Rattle.day_machine.specs.Books.{ask_count as ask_count_of, awards_of, billed_money, committed as committed_of, reserved as reserved_of};
-ghost use Rattle.day_machine.specs.DayState.{AreTerms, room_of, terms_of};
+ghost use Rattle.day_machine.specs.DayState.{AreTerms, room_needed, terms_of};
 ghost use Rattle.day_machine.specs.Legal.{MayFollow};
-ghost use Rattle.day_machine.specs.Replies.{ask_reply, seen_in};
+ghost use Rattle.day_machine.specs.Replies.{ask_reply, bill_reply, seen_in};
 
 use crate::answer::{Answer, Seen};
 use crate::ask::Ask;
 use crate::entry::Entry;
 use crate::limits::DayLimits;
-use crate::{awards, bills, history, plan};
+use crate::notice::NoticeKind;
+use crate::{awards, bills, history, notice, plan};
 use adx_units::{OutOfMemory, Units};
 use std::alloc::Global;
 use std::marker::Model;
@@ -26,7 +27,7 @@ pub struct Day {
 
 impl Model for Day {
     ghost use Rattle.std.specs.Prelude.{vec_len, vec_capacity, ◌-◌};
-    ghost use Rattle.day_machine.specs.DayState.{DayState, IsDay, terms_of};
+    ghost use Rattle.day_machine.specs.DayState.{DayState, IsKeptDay, terms_of};
 
     ghost Value = { DayState };
 
@@ -36,7 +37,7 @@ impl Model for Day {
       room = vec_capacity d.entries - vec_len d.entries;
     } };
 
-    ghost invariant = { λ d. IsDay (terms_of d.budgets.items d.limits) d.entries.items };
+    ghost invariant = { λ d. IsKeptDay (terms_of d.budgets.items d.limits) d.entries.items (vec_capacity d.entries - vec_len d.entries) };
 }
 
 impl Day {
@@ -87,23 +88,45 @@ impl Day {
         plan::plan_ask(&self.budgets, self.limits, &self.entries, ask)
     }
 
-    /// Makes the memory for an entry and, for an ask, for two further entries per award.
+    /// The answer to a notice of an award, and the entry that a commit is to add, if the reply adds
+    /// one. The room for that entry is there already: it needs no prepare. The day itself stays as it
+    /// is.
+    pub fn plan_notice(
+        &self,
+        kind: NoticeKind,
+        auction: &str,
+        award: u32,
+    ) -> (Answer, Option<Entry>)
+        ensures answer { result.0 ≡ (bill_reply self.now.history auction.now award).answer }
+        ensures entry { result.1 ≡ (bill_reply self.now.history auction.now award).entry }
+        ensures legal { IfSome result.1 (MayFollow self.now.terms self.now.history) }
+        ensures room { IfSome result.1 (λ _. 1 ≤ self.now.room) }
+        ensures prepared { IfSome result.1 (λ e. room_needed self.now.history e ≤ self.now.room) }
+    {
+        match kind {
+            NoticeKind::Bill => notice::plan_bill(&self.entries, auction, award),
+        }
+    }
+
+    /// Makes the memory for an entry: for an ask, for two further entries per award of it and for the
+    /// bill of each award that is open already.
     pub fn prepare(&mut self, entry: &Entry) -> Result<(), OutOfMemory>
         requires { MayFollow self.old.terms self.old.history entry.now }
-        ensures room { OnOk result (room_of entry.now ≤ self.new.room) }
+        ensures room { OnOk result (room_needed self.old.history entry.now ≤ self.new.room) }
         ensures kept { self.old.room ≤ self.new.room }
-        ensures full { OnErr result (self.old.room < room_of entry.now) }
+        ensures full { OnErr result (self.old.room < room_needed self.old.history entry.now) }
         ensures terms { self.new.terms ≡ self.old.terms }
         ensures history { self.new.history ≡ self.old.history }
     {
-        self.entries.reserve(plan::room_of(entry))?;
+        let room = plan::room_needed(&self.entries, entry);
+        self.entries.reserve(room)?;
         Ok(())
     }
 
     /// Adds an entry to the end of the history, without memory.
     pub fn commit(&mut self, entry: Entry)
         requires legal { MayFollow self.old.terms self.old.history entry }
-        requires room { 1 ≤ self.old.room }
+        requires room { room_needed self.old.history entry ≤ self.old.room }
         ensures terms { self.new.terms ≡ self.old.terms }
         ensures history { self.new.history ≡ self.old.history ++ entry ∷ [] }
         ensures room { self.old.room ≤ self.new.room + 1 }

@@ -1,5 +1,5 @@
 ghost use Rattle.std.specs.Prelude.{◌≡◌, ◌^◌, ◌<◌, bytes_eq, if◌then◌else◌};
-ghost use Rattle.day_machine.specs.Books.{ask_count as ask_count_of, bid_count as bid_count_of, latest as latest_of};
+ghost use Rattle.day_machine.specs.Books.{ask_count as ask_count_of, bill_count as bill_count_of, bid_count as bid_count_of, latest as latest_of};
 ghost use Rattle.day_machine.specs.Replies.{seen_in as seen_in_history};
 
 use crate::answer::Seen;
@@ -54,6 +54,19 @@ pub fn ask_count(entries: &[Entry]) -> u64
     let mut count = 0;
     for entry in entries {
         if let Entry::Ask(_) = entry {
+            count += 1;
+        }
+    }
+    count
+}
+
+/// The number of bills of the history.
+pub fn bill_count(entries: &[Entry]) -> u64
+    ensures { result ≡ bill_count_of entries.now }
+{
+    let mut count = 0;
+    for entry in entries {
+        if let Entry::Bill { .. } = entry {
             count += 1;
         }
     }

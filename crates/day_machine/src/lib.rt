@@ -15,6 +15,7 @@ mod entry;
 mod history;
 mod laws;
 mod limits;
+mod notice;
 mod plan;
 mod settle;
 
@@ -22,8 +23,9 @@ pub use answer::{Answer, Seen, Which};
 pub use ask::{Ask, Kept};
 pub use day::Day;
 pub use entry::Entry;
-pub use laws::within_budget;
+pub use laws::{plain_books_hold, runs_stay_legal, within_budget};
 pub use limits::DayLimits;
+pub use notice::NoticeKind;
 
 #[cfg(test)]
 mod tests;

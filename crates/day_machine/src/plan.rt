@@ -1,8 +1,8 @@
 ghost use Rattle.std.specs.Prelude.{◌≡◌, ◌≢◌, ◌==◌, ◌≤◌, length, IfSome};
 ghost use Rattle.std.specs.List.{list_any};
 ghost use Rattle.day_machine.specs.Asks.{IsUndecided, IsWellFormed};
-ghost use Rattle.day_machine.specs.Books.{awards_of_entry};
-ghost use Rattle.day_machine.specs.DayState.{IsDay, room_of as room_of_entry, terms_of};
+ghost use Rattle.day_machine.specs.Books.{awards_of_entry, open_count as open_count_of};
+ghost use Rattle.day_machine.specs.DayState.{EndsByBills, IsDay, room_needed as room_needed_by, room_of as room_of_entry, terms_of};
 ghost use Rattle.day_machine.specs.Legal.{MayFollow};
 ghost use Rattle.day_machine.specs.Replies.{ask_reply, new_ask_reply, sale_reply};
 
@@ -98,12 +98,32 @@ pub fn plan_ask(
 }
 
 /// For how many entries an entry asks: itself, and two for each of its awards.
-pub fn room_of(entry: &Entry) -> usize
+fn room_of(entry: &Entry) -> usize
     requires { length (awards_of_entry entry.now) ≤ 1024 }
     ensures { result ≡ room_of_entry entry.now }
 {
     match entry {
         Entry::Ask(ask) => 1 + 2 * awards::award_count_of_ask(ask) as usize,
+        Entry::Bill { .. } => 1,
+    }
+}
+
+/// The number of awards without an end.
+fn open_count(entries: &[Entry]) -> u64
+    requires { EndsByBills entries.now }
+    ensures { result ≡ open_count_of entries.now }
+{
+    awards::award_count(entries) - history::bill_count(entries)
+}
+
+/// How much room an entry needs to be added.
+pub fn room_needed(entries: &[Entry], entry: &Entry) -> usize
+    requires ends { EndsByBills entries.now }
+    requires few { length (awards_of_entry entry.now) ≤ 1024 }
+    ensures { result ≡ room_needed_by entries.now entry.now }
+{
+    match entry {
+        Entry::Ask(_) => room_of(entry) + open_count(entries) as usize,
         Entry::Bill { .. } => 1,
     }
 }

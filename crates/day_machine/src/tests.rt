@@ -123,6 +123,30 @@ fn answers() -> [(&'static str, u8, (u32, u64), (u32, u64), usize, Answer); 9] {
     ]
 }
 
+/// The day's answer to the bill of an award, whose entry it takes.
+fn bill_answer(day: &mut Day, auction: &str, award: u32) -> Answer {
+    let (answer, entry) = day.plan_notice(NoticeKind::Bill, auction, award);
+    if let Some(entry) = entry {
+        day.commit(entry);
+    }
+    answer
+}
+
+/// The answers that the day then gives to bills, one after another.
+fn bill_answers() -> [(&'static str, u32, Answer); 8] {
+    [
+        ("b", 1, Answer::Counted),
+        ("b", 1, Answer::Repeat { entry: 5 }),
+        // The auction is another one's, without an award, or not there.
+        ("a", 1, Answer::Unknown),
+        ("c", 1, Answer::Unknown),
+        ("z", 0, Answer::Unknown),
+        ("e", 3, Answer::Unknown),
+        ("e", 2, Answer::Counted),
+        ("b", 1, Answer::Repeat { entry: 5 }),
+    ]
+}
+
 #[test]
 fn plays_a_small_day(rt: HostRuntime) -> Result<(), Fail> {
     let limits = DayLimits {
@@ -143,6 +167,10 @@ fn plays_a_small_day(rt: HostRuntime) -> Result<(), Fail> {
         )?;
         assert_eq!(rt; given, want, "at {auction}");
     }
+    for (auction, award, want) in bill_answers() {
+        let given = bill_answer(&mut day, auction, award);
+        assert_eq!(rt; given, want, "the bill of {award} at {auction}");
+    }
     for (place, want) in [
         (0, [Some(0), Some(102)]),
         (1, [Some(102), Some(0)]),
@@ -157,7 +185,10 @@ fn plays_a_small_day(rt: HostRuntime) -> Result<(), Fail> {
         (day.committed(0), day.committed(1)),
         (Units(60), Units(35))
     );
-    assert_eq!(rt; (day.reserved(0), day.billed(1)), (Units(60), Units(0)));
+    assert_eq!(rt; (day.reserved(0), day.billed(0)), (Units(60), Units(0)));
+    assert_eq!(rt; (day.reserved(1), day.billed(1)), (Units(0), Units(35)));
     within_budget();
+    runs_stay_legal();
+    plain_books_hold();
     Ok(())
 }

@@ -1,5 +1,5 @@
 -- Fifteen digits are below the cap.
-use Rattle.std.proofs.Common.{◌≡◌, ℕ, Option, Some, None, true, if◌then◌else◌, sym, ap, ◌∙◌, arith}
+use Rattle.std.proofs.Common.{Some, None, if◌then◌else◌, sym, ap, ◌∙◌, arith}
 use Rattle.adx_units.specs.declared.scale.TheConstants.{CAP}
 use Rattle.adx_units.specs.Number.{digits_value}
 use Rattle.adx_units.proofs.Digits.{short_whole-small, short_whole-capped}

@@ -1,5 +1,10 @@
-use Rattle.day_machine.proofs.Following.{follows_few}
+use Rattle.day_machine.specs.DayState.{terms_of}
+use Rattle.day_machine.proofs.Following.{follows_few, read_ends}
 use Rattle.day_machine.proofs.day.Day.prepare.Goals as goal
 
-pub room_of-requires : goal.room_of-requires
-room_of-requires c = follows_few c.args.self.now.terms c.args.self.now.history c.args.entry.now c.requires
+pub room_needed-room-requires-clause-ends : goal.room_needed-room-requires-clause-ends
+room_needed-room-requires-clause-ends c =
+    read_ends (terms_of c.self.inside.budgets.items c.self.inside.limits) c.self.inside.entries.items c.deref.result.now c.self.invariant.day c.deref.ensures.value
+
+pub room_needed-room-requires-clause-few : goal.room_needed-room-requires-clause-few
+room_needed-room-requires-clause-few c = follows_few c.args.self.now.terms c.args.self.now.history c.args.entry.now c.requires
