@@ -28,6 +28,14 @@ first_same (a ∷ line) (b ∷ other) rest behind none none' e =
     let tail = first_same line other rest behind (All-tail (λ x. x ≢ 10) a line none) (All-tail (λ x. x ≢ 10) b other none') (tails a b (line ++ 10 ∷ rest) (other ++ 10 ∷ behind) e) in
     ap (λ x. x ∷ line) head ∙ ap (λ xs. b ∷ xs) tail
 
+-- what stands behind them is the same
+pub rest_same : (line other rest behind : List ℕ) → HasNoNewline line → HasNoNewline other → line ++ 10 ∷ rest ≡ other ++ 10 ∷ behind → rest ≡ behind
+rest_same [] [] rest behind none none' e = tails 10 10 rest behind e
+rest_same [] (b ∷ other) rest behind none none' e = absurd (All-head (λ x. x ≢ 10) b other none' (sym (heads 10 b rest (other ++ 10 ∷ behind) e)))
+rest_same (a ∷ line) [] rest behind none none' e = absurd (All-head (λ x. x ≢ 10) a line none (heads a 10 (line ++ 10 ∷ rest) behind e))
+rest_same (a ∷ line) (b ∷ other) rest behind none none' e =
+    rest_same line other rest behind (All-tail (λ x. x ≢ 10) a line none) (All-tail (λ x. x ≢ 10) b other none') (tails a b (line ++ 10 ∷ rest) (other ++ 10 ∷ behind) e)
+
 -- a text without a newline has no first line
 pub no_first : (text line rest : List ℕ) → HasNoNewline text → text ≡ line ++ 10 ∷ rest → ⊥
 no_first [] [] rest none e = cc

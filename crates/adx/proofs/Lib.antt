@@ -1,4 +1,5 @@
 pub mod ReadingSteps
+pub mod Putting
 pub mod PartsSteps
 pub mod PartsLaws
 pub mod AmountLaws
@@ -10,6 +11,8 @@ pub mod AskSteps
 pub mod Joined
 pub mod Chains
 pub mod FirstLine
+pub mod Calls
 pub mod Runs
+pub mod OneOutput
 pub mod Days
 pub mod BillLaws

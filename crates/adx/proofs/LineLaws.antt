@@ -20,7 +20,7 @@ use Rattle.adx.proofs.BillLaws.{bill_sound, bill_complete}
 use Rattle.adx.proofs.RosterLaws.{roster_sound, roster_complete, roster_sized}
 
 -- a plain value with the line's spelling is the line's value
-same_value : (line : List ℕ) (t u : Tree) → IsPlain t → line ≡ spelling t → IsPlain u → line ≡ spelling u → t ≡ u
+pub same_value : (line : List ℕ) (t u : Tree) → IsPlain t → line ≡ spelling t → IsPlain u → line ≡ spelling u → t ≡ u
 same_value line t u p e q f = one_plain_tree t u p q (sym e ∙ f)
 
 pub ask_reads : (campaigns : List Campaign) (line : List ℕ) (t : Tree) (made : Option Ask) → IsPlain t → line ≡ spelling t → length line ≤ line_limit → made ≡ ask_made campaigns t → ReadsAsk campaigns line made

@@ -1,17 +1,24 @@
 -- How the search for a line goes on: through pieces without a newline, to its end or the input's.
-use Rattle.std.proofs.Common.{◌≡◌, ◌≢◌, ℕ, ◌+◌, List, [], ◌∷◌, ◌++◌, length, take, drop, Bool, Option, Some, None, Ok, Err, sym, ap, ◌∙◌, append_assoc, append-nil, length-append, arith, subst}
-use Rattle.std.proofs.lemmas.List.{take-append-drop}
-use Rattle.std.proofs.lemmas.List.Elements.{All-append}
-use Rattle.adx_io.specs.Streams.{Tape, TakesAll}
+use Rattle.std.proofs.Common.{◌≡◌, ◌≢◌, ℕ, ◌+◌, List, [], ◌∷◌, ◌++◌, length, Bool, false, Option, Some, None, Ok, Err, refl, zero-le, sym, ap, ◌∙◌, append_assoc, length-append, arith, subst}
+use Rattle.std.proofs.lemmas.List.Elements.{All-nil, All-append}
+use Rattle.adx_io.specs.Streams.{Tape}
 use Rattle.adx_io.specs.declared.failed.Failed.{Failed}
 use Rattle.adx.specs.declared.input.Refill.{Refill}
 use Rattle.adx.specs.declared.reading.Next.{Next}
 use Rattle.adx.specs.Lines.{HasNoNewline, input_limit, InputState, Keeps, Refills}
-use Rattle.adx.specs.Reading.{ReadsFront, ToldNext, with_more}
+use Rattle.adx.specs.Reading.{ReadsFront, ToldNext}
 
 -- the line so far, kept as this piece goes on
 abbrev pub KeepsOn : InputState → InputState → List ℕ → Type 0
 KeepsOn mid after piece = (front : List ℕ) → Keeps mid.overlong mid.line front → Keeps after.overlong after.line (front ++ piece)
+
+-- nothing of the line was read yet
+pub front_starts : (before : InputState) (tape : Option Tape) → ReadsFront before (record before { line = []; overlong = false }) tape tape
+front_starts before None = refl
+front_starts before (Some tape) = (
+  [],
+  record { no_newline = All-nil (λ b. b ≢ 10); keeps = (refl, zero-le); reads = record { next = refl; count = refl } },
+)
 
 -- all that was taken was looked at, and no newline is there
 pub front_more : (before mid after : InputState) (old new : Option Tape) (piece : List ℕ) → ReadsFront before mid old new → HasNoNewline piece → mid.pending ≡ piece → after.pending ≡ [] → after.taken ≡ mid.taken → KeepsOn mid after piece → ReadsFront before after old new
@@ -109,19 +116,6 @@ source_failed before mid after (Some old) (Some cur) (Some new) e reads was fill
       },
       now,
     )
-
--- a front of what was written was put, and the rest is still to be put
-pub front_put : (old new : Option (List ℕ)) (out : List ℕ) (e : Failed) → TakesAll old new out (Err e) → (rest : List ℕ) × (with_more new rest ≡ with_more old out)
-front_put None new out e took = ([], ap (λ h. with_more h []) took.2)
-front_put (Some old) new out e took = (
-  drop took.0 out,
-  ap (λ h. with_more h (drop took.0 out)) took.2 ∙ ap Some (append_assoc old (take took.0 out) (drop took.0 out) ∙ ap (λ xs. old ++ xs) (take-append-drop took.0 out)),
-)
-
--- all that was written was put
-pub all_put : (old new : Option (List ℕ)) (out : List ℕ) (done : Unit {0}) → TakesAll old new out (Ok done) → with_more new [] ≡ with_more old out
-all_put None new out done took = ap (λ h. with_more h []) took
-all_put (Some old) new out done took = ap (λ h. with_more h []) took ∙ ap Some (append-nil (old ++ out))
 
 -- the source gave more
 pub refilled : (before mid after : InputState) (old cur new : Option Tape) → ReadsFront before mid old cur → mid.pending ≡ [] → Refills cur new after.pending (Ok Refill.Bytes) → after.taken ≡ mid.taken + length after.pending → SameLine mid after → ReadsFront before after old new

@@ -3,7 +3,7 @@ use Rattle.std.specs.Prelude.{◌≡◌, ◌⊎◌, ℕ, List, [], ◌∷◌, co
 use Rattle.adx_io.specs.Streams.{Tape}
 use Rattle.adx.specs.declared.ending.Ending.{Ending}
 use Rattle.adx.specs.Output.{usage_line}
-use Rattle.adx.specs.Reading.{with_more}
+use Rattle.adx.specs.Reading.{with_more, TookFront}
 use Rattle.adx.specs.Script.{Ends}
 
 -- the words of the command that serves a day
@@ -22,7 +22,8 @@ status_of Ending.OutOfMemory = 12
 abbrev pub ServesDay : Option Tape → Option Tape → Option (List ℕ) → Option (List ℕ) → ℕ → Type 0
 ServesDay old new held held_now status = (ending : Ending) × (status ≡ status_of ending) × Ends old new held held_now ending
 
--- the words are no command: the sink took the usage line, or failed; nothing was asked of the source
+-- the words are no command: the sink took the usage line, or a front of it and failed; nothing was asked of the
+-- source
 abbrev pub TellsUsage : Option Tape → Option Tape → Option (List ℕ) → Option (List ℕ) → ℕ → Type 0
 TellsUsage old new held held_now status =
-    (new ≡ old) × (((status ≡ 2) × (with_more held_now [] ≡ with_more held usage_line)) ⊎ (status ≡ 5))
+    (new ≡ old) × (((status ≡ 2) × (held_now ≡ with_more held usage_line)) ⊎ ((status ≡ 5) × TookFront held held_now usage_line))

@@ -17,11 +17,12 @@ abbrev pub RefusesRoster : List ℕ → Option Tape → Option Tape → Option (
 RefusesRoster line old new held out held_now result =
     ((r : RosterForm) → IsRosterLine line r → ⊥) × (new ≡ old) × EndsAs result Ending.Refused held out roster_refused_line held_now
 
--- what came of the first line; memory may have been refused before more was asked of the source
+-- what came of the first line; memory may have been refused before more was asked of the source or put into
+-- the sink
 abbrev pub EndsBehind : List ℕ → InputState → Option Tape → Option Tape → Option (List ℕ) → List ℕ → Option (List ℕ) → Ending → Type 0
 EndsBehind line before old new held out held_now result =
     ServesRoster line before old new held out held_now result
-    ⊎ (RefusesRoster line old new held out held_now result ⊎ ((new ≡ old) × (result ≡ Ending.OutOfMemory)))
+    ⊎ (RefusesRoster line old new held out held_now result ⊎ ((new ≡ old) × (held_now ≡ held) × (result ≡ Ending.OutOfMemory)))
 
 -- a source that tells its bytes goes on to do so, and any other doesn't begin to
 abbrev pub TellsOn : Option Tape → Option Tape → Type 0

@@ -7,6 +7,7 @@ pub mod BillParts
 pub mod AskHead
 pub mod RosterParts
 pub mod Output
+pub mod Calls
 pub mod Script
 pub mod Reads
 pub mod Running

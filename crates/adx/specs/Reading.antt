@@ -43,16 +43,27 @@ ToldNext before after None new next = new ≡ None
 ToldNext before after (Some old) None next = ⊥
 ToldNext before after (Some old) (Some new) next = ReadsNext before after old new next
 
--- what the sink took, where it tells that, and then what is still to be put
+-- what the sink took, where it tells that, and then these bytes
 abbrev pub with_more : Option (List ℕ) → List ℕ → Option (List ℕ)
 with_more None bytes = None
 with_more (Some held) bytes = Some (held ++ bytes)
 
--- after a fault some front of what was to be put was taken, and else all of it was or is still to be put
+-- the sink, where it tells its bytes, took this front of what was to be put, and the rest is still to be put
+pub record Puts (old new : Option (List ℕ)) (before after : List ℕ) : Type 0 where
+  pub front : List ℕ
+  pub took : new ≡ with_more old front
+  pub split : before ≡ front ++ after
+
+-- the sink took some front of these bytes
+abbrev pub TookFront : Option (List ℕ) → Option (List ℕ) → List ℕ → Type 0
+TookFront old new bytes = (rest : List ℕ) × Puts old new bytes rest
+
+-- a line may be found before all that was to be put was put; at a fault of the sink some front of it was
+-- taken; at the input's end, its limit and a fault of the source all of it was
 abbrev pub PutsOn : Next → Option (List ℕ) → List ℕ → Option (List ℕ) → List ℕ → Type 0
-PutsOn Next.Line old before new after = with_more new after ≡ with_more old before
-PutsOn Next.End old before new after = (with_more new [] ≡ with_more old before) × (after ≡ [])
-PutsOn Next.PastLimit old before new after = (with_more new [] ≡ with_more old before) × (after ≡ [])
-PutsOn Next.ReadFault old before new after = (with_more new [] ≡ with_more old before) × (after ≡ [])
-PutsOn Next.WriteFault old before new after = (rest : List ℕ) × (with_more new rest ≡ with_more old before)
-PutsOn Next.OutOfMemory old before new after = with_more new after ≡ with_more old before
+PutsOn Next.Line old before new after = Puts old new before after
+PutsOn Next.End old before new after = (new ≡ with_more old before) × (after ≡ [])
+PutsOn Next.PastLimit old before new after = (new ≡ with_more old before) × (after ≡ [])
+PutsOn Next.ReadFault old before new after = (new ≡ with_more old before) × (after ≡ [])
+PutsOn Next.WriteFault old before new after = TookFront old new before
+PutsOn Next.OutOfMemory old before new after = TookFront old new before

@@ -5,12 +5,14 @@ use Rattle.adx_units.specs.Number.{digits_value}
 use Rattle.day_machine.specs.declared.entry.Entry.{Entry}
 use Rattle.day_machine.specs.declared.limits.DayLimits.{DayLimits}
 use Rattle.day_machine.specs.Replies.{Terms, ask_reply, bill_reply, with_entry}
+use Rattle.day_machine.specs.Runs.{Turn}
 use Rattle.adx.specs.declared.roster.Campaign.{Campaign}
 use Rattle.adx_io.specs.Streams.{Tape}
 use Rattle.adx.specs.declared.ending.Ending.{Ending}
 use Rattle.adx.specs.Lines.{IsCut, BeginsWithLine, HasNoNewline, input_limit}
-use Rattle.adx.specs.Reading.{with_more}
+use Rattle.adx.specs.Reading.{with_more, TookFront}
 use Rattle.adx.specs.Forms.{RosterForm, AskForm, BillForm, IsRosterLine, IsAskLine, IsBillLine, campaigns_of, ask_of_form}
+use Rattle.adx.specs.Calls.{AsksAll, HasBooks}
 use Rattle.adx.specs.Output.{ask_answer_line, bill_answer_line, refused_line, toolong_line, roster_refused_line, closing_table}
 
 -- the limits of a day whose roster states none
@@ -60,11 +62,14 @@ abbrev pub cut_line : ℕ → List ℕ → List ℕ
 cut_line number [] = []
 cut_line number (b ∷ bs) = refused_line number
 
--- the lines of a script behind its roster line, its last piece, what the lines are answered and the
--- history that they leave
+-- the lines of a script behind its roster line, its last piece, what the lines are answered, the history that
+-- they leave, and what they ask of the day, with the books of it
 pub record RunsOver (campaigns : List Campaign) (script : List ℕ) (lines : List (List ℕ)) (last answers : List ℕ) (history : List Entry) : Type 0 where
   pub cut : IsCut script lines last
   pub answered : AnswersAll campaigns [] 2 lines answers history
+  pub turns : List Turn
+  pub calls : AsksAll campaigns lines turns
+  pub books : HasBooks (terms_of campaigns) turns history
 
 -- what is written for a script behind its roster line: the answers, the refusal of a cut line, and the
 -- closing table
@@ -117,10 +122,29 @@ IsPastLimit input out =
 
 -- the sink, where it tells its bytes, took these in the run
 abbrev pub Wrote : Option (List ℕ) → Option (List ℕ) → List ℕ → Type 0
-Wrote held held_now out = with_more held_now [] ≡ with_more held out
+Wrote held held_now out = held_now ≡ with_more held out
 
--- what was written for an input, of which this is left, where the run ended so; of a run that ended at a
--- sink that failed, or for want of memory, nothing is said here
+-- what is written for an input where nothing fails: its whole output, the refusal of a first line that is no
+-- roster, or what comes before its limit
+abbrev pub IsWhole : List ℕ → List ℕ → Type 0
+IsWhole input out =
+    ((length input ≤ input_limit) × IsOutput input out)
+    ⊎ (((HasRoster input → ⊥) × (out ≡ roster_refused_line)) ⊎ IsPastLimit input out)
+
+-- what is to be written at some point of a run: the answers to the whole lines of a front of the input, which
+-- ends within the limit, or all
+abbrev pub IsDue : List ℕ → List ℕ → Type 0
+IsDue input out =
+    ((front back : List ℕ) × (input ≡ front ++ back) × (length front ≤ input_limit) × IsFront front out) ⊎ IsWhole input out
+
+-- the sink took a front of what was to be written, which is a front of what is written where nothing fails
+abbrev pub TookDue : List ℕ → Option (List ℕ) → Option (List ℕ) → Type 0
+TookDue input held held_now =
+    (due : List ℕ) × TookFront held held_now due × IsDue input due
+    × ((whole : List ℕ) → IsWhole input whole → TookFront held held_now whole)
+
+-- what was written for an input, of which this is left, where the run ended so; where the sink failed, or
+-- memory was refused, it is a front of what was to be written
 abbrev pub EndsWith : List ℕ → List ℕ → Option (List ℕ) → Option (List ℕ) → Ending → Type 0
 EndsWith input left held held_now Ending.Done =
     (out : List ℕ) × Wrote held held_now out × (left ≡ []) × (length input ≤ input_limit) × IsOutput input out
@@ -128,8 +152,8 @@ EndsWith input left held held_now Ending.Refused =
     (out : List ℕ) × Wrote held held_now out × (((HasRoster input → ⊥) × (out ≡ roster_refused_line)) ⊎ IsPastLimit input out)
 EndsWith input left held held_now Ending.ReadFault =
     (out : List ℕ) × Wrote held held_now out × ((taken : List ℕ) × (input ≡ taken ++ left) × IsFront taken out)
-EndsWith input left held held_now Ending.WriteFault = Unit {0}
-EndsWith input left held held_now Ending.OutOfMemory = Unit {0}
+EndsWith input left held held_now Ending.WriteFault = TookDue input held held_now
+EndsWith input left held held_now Ending.OutOfMemory = TookDue input held held_now
 
 -- the same where the source tells its bytes
 abbrev pub Ends : Option Tape → Option Tape → Option (List ℕ) → Option (List ℕ) → Ending → Type 0

@@ -60,7 +60,8 @@ fn serve_roster<S: Source, K: Sink>(
     sink: &mut K,
     out: &mut String,
 ) -> Ending
-    requires { work_left input.old ≤ 2 * input_limit }
+    requires work { work_left input.old ≤ 2 * input_limit }
+    requires within { input.old.taken ≤ input_limit }
     ensures ends { (line : List ℕ) → Keeps input.old.overlong input.old.line line
         → EndsBehind line input.old (S.tape source.old) (S.tape source.new) (K.held sink.old) (string_bytes out.old) (K.held sink.new) result }
     ensures tells { TellsOn (S.tape source.old) (S.tape source.new) }

@@ -82,7 +82,8 @@ impl Input {
 
     /// Begins with the next line.
     pub(crate) fn start_line(&mut self)
-        ensures { self.new ≡ record self.old { line = []; overlong = false } }
+        ensures line { self.new ≡ record self.old { line = []; overlong = false } }
+        ensures within { self.new.taken ≤ input_limit }
     {
         self.line.clear();
         self.overlong = false;

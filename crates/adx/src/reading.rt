@@ -35,7 +35,7 @@ pub(crate) fn next_line<S: Source, K: Sink>(
     ensures reads { ToldNext input.old input.new (S.tape source.old) (S.tape source.new) result }
     ensures puts { PutsOn result (K.held sink.old) (string_bytes out.old) (K.held sink.new) (string_bytes out.new) }
     ensures goes_on { result ≡ Next.Line → work_left input.new < work_left input.old }
-    ensures within { result ≡ Next.End → input.new.taken ≤ input_limit }
+    ensures within { input.new.taken ≤ input_limit }
     ensures source_later { S.faults source.old ≤ S.faults source.new }
     ensures sink_later { K.faults sink.old ≤ K.faults sink.new }
     ensures read_fault { result ≡ Next.ReadFault → Rises (S.faults source.old) (S.faults source.new) }

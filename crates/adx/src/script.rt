@@ -143,6 +143,7 @@ fn run_lines<S: Source, K: Sink>(
     requires terms { day.old.terms ≡ terms_of campaigns.now }
     requires begins { day.old.history ≡ [] }
     requires work { work_left input.old ≤ 2 * input_limit }
+    requires within { input.old.taken ≤ input_limit }
     ensures ends { ScriptEndsTold campaigns.now input.old (S.tape source.old) (S.tape source.new) (K.held sink.old) (string_bytes out.old) (K.held sink.new) result }
     ensures source_later { S.faults source.old ≤ S.faults source.new }
     ensures sink_later { K.faults sink.old ≤ K.faults sink.new }
@@ -176,6 +177,7 @@ pub(crate) fn run_day<S: Source, K: Sink>(
 ) -> Ending
     requires sized { AreSized campaigns.now }
     requires work { work_left input.old ≤ 2 * input_limit }
+    requires within { input.old.taken ≤ input_limit }
     ensures ends { ScriptEndsTold campaigns.now input.old (S.tape source.old) (S.tape source.new) (K.held sink.old) (string_bytes out.old) (K.held sink.new) result }
     ensures source_later { S.faults source.old ≤ S.faults source.new }
     ensures sink_later { K.faults sink.old ≤ K.faults sink.new }

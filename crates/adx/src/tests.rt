@@ -4,6 +4,7 @@ use adx_units::Text;
 use std::test::Fail;
 
 /// A script with the bytes that the sink takes for it and the exit status.
+#[derive(Clone, Copy)]
 struct Case {
     name: &'static str,
     input: &'static str,
@@ -222,5 +223,114 @@ fn answers_scripts_in_pieces(rt: HostRuntime) -> Result<(), Fail> {
             );
         }
     }
+    Ok(())
+}
+
+/// A script with two asks and three bills.
+const EVENTFUL: Case = Case {
+    name: "two asks and three bills",
+    input: r#"{"day":"2025-03-01","bidders":[{"name":"b1"}],"campaigns":[{"bidder":"b1","seat":"s1","cid":"c1","budget":0.01}]}
+{"ask":{"id":"a1","imp":[{"id":"1"}]},"answers":[{"id":"a1","seatbid":[{"seat":"s1","bid":[{"id":"x","impid":"1","price":2.5,"cid":"c1"}]}]}],"now":10}
+{"notice":"bill","auction":"a1","bid":0}
+{"ask":{"id":"a2","imp":[{"id":"1"}]},"answers":[{"id":"a2","seatbid":[{"seat":"s1","bid":[{"id":"x","impid":"1","price":5,"cid":"c1"}]}]}],"now":10}
+{"notice":"bill","auction":"a1","bid":0}
+{"notice":"bill","auction":"a2","bid":0}
+"#,
+    output: r#"{"answer":"awarded","auction":"a1","awards":[{"award":0,"imp":"1","seat":"s1","cid":"c1","charge":2500000}],"reasons":[0]}
+{"answer":"counted"}
+{"answer":"awarded","auction":"a2","awards":[{"award":1,"imp":"1","seat":"s1","cid":"c1","charge":5000000}],"reasons":[0]}
+{"answer":"repeat"}
+{"answer":"unknown"}
+{"seat":"s1","cid":"c1","budget":10000000,"reserved":5000000,"billed":2500000,"slab":75}
+{"asks":2,"awards":2,"entries":3}
+"#,
+    status: 0,
+};
+
+/// So many lines from the front of the text.
+fn first_lines(text: &[u8], count: usize) -> &[u8] {
+    let mut left = count;
+    for (place, byte) in text.iter().enumerate() {
+        if left == 0 {
+            return text.split_at(place).0;
+        }
+        if *byte == b'\n' {
+            left -= 1;
+        }
+    }
+    text
+}
+
+/// How many whole lines the bytes have.
+fn line_count(bytes: &[u8]) -> usize {
+    bytes.iter().filter(|byte| **byte == b'\n').count()
+}
+
+#[test]
+fn keeps_the_answers_to_whole_lines_at_a_read_fault(rt: HostRuntime) -> Result<(), Fail> {
+    const STEP: usize = 7;
+    let alloc = rt.alloc();
+    let words = [Text::of(alloc, "day")?];
+    let input = EVENTFUL.input.as_bytes();
+    let output = EVENTFUL.output.as_bytes();
+    // One call for each piece of the input, and one that finds its end.
+    let calls = input.len().div_ceil(STEP) + 1;
+    for call in 0..=calls {
+        let mut source = MemorySource::new(alloc, input, STEP, &[call as u64])?;
+        let mut sink = MemorySink::new(alloc, 0, &[])?;
+        let status = adx(alloc, &words, &mut source, &mut sink);
+        let (want_status, want) = if call == calls {
+            (0, output)
+        } else {
+            let (taken, _) = input.split_at(input.len().min(call * STEP));
+            // The roster's line has no answer.
+            (4, first_lines(output, line_count(taken).saturating_sub(1)))
+        };
+        assert_eq!(rt; status, want_status, "take {call} fails");
+        assert_eq!(rt; sink.taken(), want, "take {call} fails");
+    }
+    Ok(())
+}
+
+#[test]
+fn leaves_a_front_of_the_output_at_a_write_fault(rt: HostRuntime) -> Result<(), Fail> {
+    let alloc = rt.alloc();
+    let words = [Text::of(alloc, "day")?];
+    let input = EVENTFUL.input.as_bytes();
+    let output = EVENTFUL.output.as_bytes();
+    for call in 0..=output.len() {
+        let mut source = MemorySource::new(alloc, input, 0, &[])?;
+        let mut sink = MemorySink::new(alloc, 1, &[call as u64])?;
+        let status = adx(alloc, &words, &mut source, &mut sink);
+        let want_status = if call == output.len() { 0 } else { 5 };
+        assert_eq!(rt; status, want_status, "put {call} fails");
+        assert_eq!(rt; sink.taken(), output.split_at(call).0, "put {call} fails");
+    }
+    Ok(())
+}
+
+#[test]
+fn refuses_an_overlong_line(rt: HostRuntime) -> Result<(), Fail> {
+    const LINE_LIMIT: usize = 4_194_304;
+    let alloc = rt.alloc();
+    let words = [Text::of(alloc, "day")?];
+    let (roster, lines) = EVENTFUL.input.split_once('\n').unwrap_or(("", ""));
+    let mut input = Vec::from_slice(alloc, roster.as_bytes())?;
+    input.push(b'\n')?;
+    for _ in 0..=LINE_LIMIT {
+        input.push(b'x')?;
+    }
+    input.push(b'\n')?;
+    input.extend_from_slice(lines.as_bytes())?;
+    let mut output = Vec::from_slice(
+        alloc,
+        b"{\"answer\":\"refused\",\"line\":2,\"why\":\"form\"}\n",
+    )?;
+    output.extend_from_slice(EVENTFUL.output.as_bytes())?;
+    let mut source = MemorySource::new(alloc, input.as_slice(), 0, &[])?;
+    let mut sink = MemorySink::new(alloc, 0, &[])?;
+    let status = adx(alloc, &words, &mut source, &mut sink);
+    assert_eq!(rt; status, 0);
+    assert_eq!(rt; sink.taken(), output.as_slice());
     Ok(())
 }
