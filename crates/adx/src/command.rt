@@ -36,7 +36,8 @@ fn is_day(words: &[Text]) -> bool
 /// The status is 0 where the source was read to its end; 2 where the words aren't a command, and then
 /// the sink takes a usage line; 3 where the first line isn't a roster, or the input passes 2^36 bytes;
 /// 4 where the source failed, and then the sink took the answers to all whole lines that the source
-/// gave; 5 where the sink failed; 12 where memory was refused.
+/// gave; 5 where the sink failed, and 12 where memory was refused, and then the sink took a front of the
+/// output.
 pub fn adx<S: Source, K: Sink>(alloc: Global, words: &[Text], source: &mut S, sink: &mut K) -> u8
     ensures day { words.now ≡ day_words → ServesDay (S.tape source.old) (S.tape source.new) (K.held sink.old) (K.held sink.new) result }
     ensures usage { words.now ≢ day_words → TellsUsage (S.tape source.old) (S.tape source.new) (K.held sink.old) (K.held sink.new) result }
