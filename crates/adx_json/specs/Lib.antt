@@ -3,3 +3,11 @@ pub mod Spelling
 pub mod Plain
 pub mod View
 pub mod Reading
+pub mod Grammar
+pub mod Faults
+pub mod Machine
+pub mod Scan
+pub mod Found
+pub mod Repeats
+pub mod WellFormed
+pub mod Named

@@ -31,7 +31,7 @@ fn push_escaped(out: &mut String, text: &str) -> Result<(), OutOfMemory>
     }
 }
 
-fn is_bare(byte: u8) -> bool
+pub(crate) fn is_bare(byte: u8) -> bool
     ensures { result ≡ is_bare_byte byte }
 {
     !(byte == b'"' || byte == b'\\' || byte < 32)

@@ -1,20 +1,29 @@
-//! JSON values as trees, their one compact spelling, and the plain form of this project's lines.
+//! JSON (RFC 8259) as trees: texts read with the place of each fault, and one compact spelling written.
 //!
-//! A contract sees a value as a `Tree`, without where it lies in memory, and its text as bytes.
-//! What is written is the tree's one spelling; what is read is exactly a plain tree's spelling.
-//! Stands on adx_units.
+//! A contract sees a value as a `Tree`, without where it lies in memory, and its text as bytes. `read`
+//! takes exactly the texts of the grammar with at most 64 levels, and `write` gives one that is read back.
+//! The module `plain` reads the narrow form of this project's lines. Stands on adx_units.
 #![tactic(auto)]
 
 mod escape;
+mod fault;
 mod front;
 mod law;
+mod named;
+mod number;
 pub mod plain;
+mod reader;
+mod repeats;
 #[cfg(test)]
 mod tests;
+mod text;
 mod tree;
+mod utf8;
 mod writing;
 
 pub use escape::push_text;
+pub use fault::JsonFault;
 pub use law::one_tree;
+pub use reader::read;
 pub use tree::{Json, Member};
 pub use writing::write;

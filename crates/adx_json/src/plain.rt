@@ -188,7 +188,7 @@ fn member_at(alloc: Global, bytes: &[u8], levels: usize) -> Result<(Member, &[u8
 }
 
 /// Whether one of the members has this name.
-fn has_name(members: &[Member], name: &[u8]) -> bool
+pub(crate) fn has_name(members: &[Member], name: &[u8]) -> bool
     ensures { result ≡ list_any (λ m. bytes_eq (out-Member m).name name.now) members.now }
 {
     members.iter().any(|member| member.name.as_bytes() == name)

@@ -1,6 +1,8 @@
 //! The one compact spelling of a tree.
-ghost use Rattle.std.specs.Prelude.{◌≡◌, ◌++◌, ◌∷◌, [], IfOk, OnOk, string_bytes, if◌then◌else◌};
-ghost use Rattle.adx_json.specs.Tree.{items_of, members_of};
+ghost use Rattle.std.specs.Prelude.{◌≡◌, ◌≤◌, ◌++◌, ◌∷◌, [], IfOk, OnOk, string_bytes, if◌then◌else◌};
+ghost use Rattle.adx_json.specs.Tree.{items_of, members_of, levels};
+ghost use Rattle.adx_json.specs.Grammar.{IsJson};
+ghost use Rattle.adx_json.specs.WellFormed.{IsWellFormed, HasUtf8};
 ghost use Rattle.adx_json.specs.Spelling.{spelling, items_spelling, members_spelling};
 ghost use Rattle.adx_json.specs.View.{tree_of, trees_of, members_view};
 
@@ -9,9 +11,11 @@ use crate::tree::{Json, Member};
 use adx_units::{OutOfMemory, Text};
 use std::alloc::Global;
 
-/// The compact spelling of a tree.
+/// The compact spelling of a tree: the one JSON text (RFC 8259) of it with no white space and no needless escape.
+/// What is written of a well-formed tree of at most 64 levels is read back as that tree.
 pub fn write(alloc: Global, tree: &Json) -> Result<Text, OutOfMemory>
-    ensures { IfOk result (λ t. t ≡ spelling (tree_of tree.now)) }
+    ensures spelled { IfOk result (λ t. t ≡ spelling (tree_of tree.now)) }
+    ensures back { IsWellFormed (tree_of tree.now) → HasUtf8 (tree_of tree.now) → levels (tree_of tree.now) ≤ 64 → IfOk result (λ t. IsJson t (tree_of tree.now)) }
 {
     let mut out = String::new(alloc);
     push_value(&mut out, tree)?;

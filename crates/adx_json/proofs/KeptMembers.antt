@@ -1,0 +1,152 @@
+-- Members whose names come again are left out one after another.
+use Rattle.std.proofs.Common.{◌≡◌, ℕ, zero, suc, ◌+◌, ◌<◌, ◌≤◌, List, [], ◌∷◌, ◌++◌, append_assoc, append-nil, reverse, length, take, drop, Bool, true, false, cond, ◌||◌, refl, sym, ap, ap₂, ◌∙◌, subst, arith, add-one, length-append}
+use Rattle.std.proofs.lemmas.List.{reverse-append}
+use Rattle.std.specs.List.{list_any}
+use Rattle.std.specs.Str.{bytes_eq}
+use Rattle.adx_json.specs.Tree.{Members, no_members, member, members_of}
+use Rattle.adx_json.specs.Grammar.{has_name, last_of_each}
+use Rattle.adx_json.specs.View.{member_of, members_view}
+use Rattle.adx_json.specs.Repeats.{ComesAgain}
+use Rattle.adx_json.specs.declared.tree.Member.{Member}
+use Rattle.adx_json.proofs.Names.{has_name_of, name_is}
+use Rattle.adx_json.proofs.ReadMembers.{before_members}
+
+pub has_name_list : (ms : List Member) (name : List ℕ) → list_any (has_name_of name) ms ≡ has_name name (members_of (members_view ms))
+has_name_list [] name = refl
+has_name_list (m ∷ ms) name = ap₂ (λ (k : List ℕ) (b : Bool). bytes_eq k name || b) (name_is m) (has_name_list ms name)
+
+-- those kept so far, and those that are left
+pub record KeptSoFar (all kept : List Member) (at : ℕ) : Type 0 where
+  pub same : before_members (members_view (take at kept)) (last_of_each (members_of (members_view (drop at kept)))) ≡ last_of_each (members_of (members_view all))
+  pub within : at ≤ length kept
+
+pub kept_start : (all : List Member) → KeptSoFar all all 0
+kept_start all = record { same = refl; within = omega arith }
+
+drop_next : (at : ℕ) (ms : List Member) (m : Member) (later : List Member) → drop at ms ≡ m ∷ later → drop (suc at) ms ≡ later
+drop_next zero [] m later e = cc
+drop_next zero (x ∷ ms) m later e = cc
+drop_next (suc at) [] m later e = cc
+drop_next (suc at) (x ∷ ms) m later e = drop_next at ms m later e
+
+take_next : (at : ℕ) (ms : List Member) (m : Member) (later : List Member) → drop at ms ≡ m ∷ later → take (suc at) ms ≡ take at ms ++ m ∷ []
+take_next zero [] m later e = cc
+take_next zero (x ∷ ms) m later e = let same : x ≡ m = cc in ap (λ y. y ∷ []) same
+take_next (suc at) [] m later e = cc
+take_next (suc at) (x ∷ ms) m later e = ap (λ y. x ∷ y) (take_next at ms m later e)
+
+before_view : (ms : List Member) (m : Member) (us : Members) → before_members (members_view (ms ++ m ∷ [])) us ≡ before_members (members_view ms) (member (member_of m).0 (member_of m).1 us)
+before_view [] m us = refl
+before_view (x ∷ ms) m us = ap (member (member_of x).0 (member_of x).1) (before_view ms m us)
+
+last_at : (m : Member) (later : List Member) (b : Bool) → has_name (member_of m).0 (members_of (members_view later)) ≡ b
+    → last_of_each (members_of (members_view (m ∷ later))) ≡ cond b (last_of_each (members_of (members_view later))) (member (member_of m).0 (member_of m).1 (last_of_each (members_of (members_view later))))
+last_at m later b e = ap (λ x. cond x (last_of_each (members_of (members_view later))) (member (member_of m).0 (member_of m).1 (last_of_each (members_of (members_view later))))) e
+
+-- a member that isn't repeated is kept
+pub kept_more : (all kept : List Member) (at : ℕ) (again : Bool) → KeptSoFar all kept at → ComesAgain kept at again → at < length kept → again ≡ false → KeptSoFar all kept (at + 1)
+kept_more all kept at again s c low e = subst (KeptSoFar all kept) (sym (add-one at)) (record {
+  same =
+      ap₂ (λ (x y : List Member). before_members (members_view x) (last_of_each (members_of (members_view y)))) (take_next at kept c.member c.later c.whole) (drop_next at kept c.member c.later c.whole)
+      ∙ before_view (take at kept) c.member (last_of_each (members_of (members_view c.later)))
+      ∙ ap (before_members (members_view (take at kept))) (sym (last_at c.member c.later false (sym c.is ∙ e)))
+      ∙ ap (λ x. before_members (members_view (take at kept)) (last_of_each (members_of (members_view x)))) (sym c.whole)
+      ∙ s.same;
+  within = low;
+})
+
+take_front : (front rest : List Member) → take (length front) (front ++ rest) ≡ front
+take_front [] rest = refl
+take_front (x ∷ front) rest = ap (λ y. x ∷ y) (take_front front rest)
+
+drop_front : (front rest : List Member) → drop (length front) (front ++ rest) ≡ rest
+drop_front [] rest = refl
+drop_front (x ∷ front) rest = drop_front front rest
+
+length_take : (at : ℕ) (ms : List Member) → at ≤ length ms → length (take at ms) ≡ at
+length_take zero ms h = refl
+length_take (suc at) [] h = absurd (omega arith)
+length_take (suc at) (x ∷ ms) h = ap suc (length_take at ms (omega arith))
+
+-- a repeated one is left out
+pub kept_less : (all kept now : List Member) (at : ℕ) (again : Bool) → KeptSoFar all kept at → ComesAgain kept at again → at < length kept → again ≡ true → now ≡ take at kept ++ drop (at + 1) kept → KeptSoFar all now at
+kept_less all kept now at again s c low e removed =
+    let behind : drop (at + 1) kept ≡ c.later = ap (λ k. drop k kept) (add-one at) ∙ drop_next at kept c.member c.later c.whole in
+    let size : length (take at kept) ≡ at = length_take at kept s.within in
+    let cut : now ≡ take at kept ++ c.later = removed ∙ ap (λ x. take at kept ++ x) behind in
+    let front : take at now ≡ take at kept = ap (take at) cut ∙ ap (λ k. take k (take at kept ++ c.later)) (sym size) ∙ take_front (take at kept) c.later in
+    let back : drop at now ≡ c.later = ap (drop at) cut ∙ ap (λ k. drop k (take at kept ++ c.later)) (sym size) ∙ drop_front (take at kept) c.later in
+    record {
+      same =
+          ap₂ (λ (x y : List Member). before_members (members_view x) (last_of_each (members_of (members_view y)))) front back
+          ∙ ap (before_members (members_view (take at kept))) (sym (last_at c.member c.later true (sym c.is ∙ e)))
+          ∙ ap (λ x. before_members (members_view (take at kept)) (last_of_each (members_of (members_view x)))) (sym c.whole)
+          ∙ s.same;
+      within =
+          let many : length now ≡ length (take at kept) + length c.later = ap length cut ∙ length-append (take at kept) c.later in
+          omega arith;
+    }
+
+drop_past : (at : ℕ) (ms : List Member) → length ms ≤ at → drop at ms ≡ []
+drop_past zero [] h = refl
+drop_past zero (x ∷ ms) h = absurd (omega arith)
+drop_past (suc at) [] h = refl
+drop_past (suc at) (x ∷ ms) h = drop_past at ms (omega arith)
+
+take_past : (at : ℕ) (ms : List Member) → length ms ≤ at → take at ms ≡ ms
+take_past zero [] h = refl
+take_past zero (x ∷ ms) h = absurd (omega arith)
+take_past (suc at) [] h = refl
+take_past (suc at) (x ∷ ms) h = ap (λ y. x ∷ y) (take_past at ms (omega arith))
+
+before_none : (ms : List Member) → before_members (members_view ms) no_members ≡ members_of (members_view ms)
+before_none [] = refl
+before_none (m ∷ ms) = ap (member (member_of m).0 (member_of m).1) (before_none ms)
+
+pub kept_end : (all kept : List Member) (at : ℕ) → KeptSoFar all kept at → length kept ≤ at → members_of (members_view kept) ≡ last_of_each (members_of (members_view all))
+kept_end all kept at s past =
+    sym (ap₂ (λ (x y : List Member). before_members (members_view x) (last_of_each (members_of (members_view y)))) (take_past at kept past) (drop_past at kept past) ∙ before_none kept)
+    ∙ s.same
+
+-- those kept from the end on, and the names that were met
+pub record ManySoFar (all left kept : List Member) (seen : List ℕ → Bool) : Type 0 where
+  pub later : List Member
+  pub whole : all ≡ left ++ later
+  pub same : members_of (members_view (reverse kept)) ≡ last_of_each (members_of (members_view later))
+  pub names : (q : List ℕ) → seen q ≡ has_name q (members_of (members_view later))
+
+pub many_start : (all : List Member) (seen : List ℕ → Bool) → ((q : List ℕ) → seen q ≡ false) → ManySoFar all all [] seen
+many_start all seen none = record { later = []; whole = sym (append-nil all); same = refl; names = none }
+
+either_cond : (b x : Bool) → cond b true x ≡ b || x
+either_cond true x = refl
+either_cond false x = refl
+
+names_more : (m : Member) (later : List Member) (name : List ℕ) (seen now : List ℕ → Bool) → name ≡ (member_of m).0 → ((q : List ℕ) → seen q ≡ has_name q (members_of (members_view later))) → ((q : List ℕ) → now q ≡ cond (bytes_eq name q) true (seen q)) → (q : List ℕ) → now q ≡ has_name q (members_of (members_view (m ∷ later)))
+names_more m later name seen now e h update q = update q ∙ ap₂ (λ (n : List ℕ) (x : Bool). cond (bytes_eq n q) true x) e (h q) ∙ either_cond (bytes_eq (member_of m).0 q) (has_name q (members_of (members_view later)))
+
+whole_more : (all left now later : List Member) (m : Member) → all ≡ left ++ later → left ≡ now ++ m ∷ [] → all ≡ now ++ m ∷ later
+whole_more all left now later m e f = e ∙ ap (λ x. x ++ later) f ∙ append_assoc now (m ∷ []) later
+
+-- a new name, and one that was met
+pub many_kept : (all left now kept : List Member) (m : Member) (name : List ℕ) (seen after : List ℕ → Bool) → ManySoFar all left kept seen → left ≡ now ++ m ∷ [] → name ≡ (member_of m).0 → seen name ≡ false → ((q : List ℕ) → after q ≡ cond (bytes_eq name q) true (seen q)) → ManySoFar all now (kept ++ m ∷ []) after
+many_kept all left now kept m name seen after s cut e new update = record {
+  later = m ∷ s.later;
+  whole = whole_more all left now s.later m s.whole cut;
+  same =
+      ap (λ x. members_of (members_view x)) (reverse-append kept (m ∷ []))
+      ∙ ap (member (member_of m).0 (member_of m).1) s.same
+      ∙ sym (last_at m s.later false (sym (s.names (member_of m).0) ∙ ap seen (sym e) ∙ new));
+  names = names_more m s.later name seen after e s.names update;
+}
+
+pub many_dropped : (all left now kept : List Member) (m : Member) (name : List ℕ) (seen after : List ℕ → Bool) → ManySoFar all left kept seen → left ≡ now ++ m ∷ [] → name ≡ (member_of m).0 → seen name ≡ true → ((q : List ℕ) → after q ≡ cond (bytes_eq name q) true (seen q)) → ManySoFar all now kept after
+many_dropped all left now kept m name seen after s cut e met update = record {
+  later = m ∷ s.later;
+  whole = whole_more all left now s.later m s.whole cut;
+  same = s.same ∙ sym (last_at m s.later true (sym (s.names (member_of m).0) ∙ ap seen (sym e) ∙ met));
+  names = names_more m s.later name seen after e s.names update;
+}
+
+pub many_end : (all left kept : List Member) (seen : List ℕ → Bool) → ManySoFar all left kept seen → left ≡ [] → members_of (members_view (reverse kept)) ≡ last_of_each (members_of (members_view all))
+many_end all left kept seen s none = s.same ∙ ap (λ x. last_of_each (members_of (members_view x))) (sym (s.whole ∙ ap (λ x. x ++ s.later) none))

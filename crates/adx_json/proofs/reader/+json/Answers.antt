@@ -1,0 +1,172 @@
+use Rattle.std.proofs.Common.{◌≡◌, [], ◌∷◌, ◌++◌, true, false, refl, ap, ◌∙◌, arith}
+use Rattle.std.proofs.lemmas.List.{map-append}
+use Rattle.std.proofs.lemmas.Result.{err_from_is_err_and}
+use Rattle.adx_json.specs.Tree.{null, boolean, items_of, members_of}
+use Rattle.adx_json.specs.Machine.{at_value}
+use Rattle.adx_json.specs.Found.{StopsAt}
+use Rattle.adx_json.specs.View.{tree_of, trees_of, member_of, members_view}
+use Rattle.adx_json.proofs.TextParts.{handed, at_byte}
+use Rattle.adx_json.proofs.Views.{tree_of-Null, tree_of-Bool, tree_of-Number, tree_of-Text, tree_of-List, tree_of-Object}
+use Rattle.adx_json.proofs.ReaderParts.{element_found, element_refused, value_empty, text_value, text_refused, list_value, list_refused, list_deep, object_value, object_refused, object_deep, word_value, word_refused, other_byte, number_value, number_refused}
+use Rattle.adx_json.proofs.Stops.{true_step, false_step, null_step, OtherByte}
+use Rattle.adx_json.proofs.ReadItems.{items_start, items_none, items_more, items_end, items_unended}
+use Rattle.adx_json.proofs.ReadMembers.{members_start, members_none, members_more, members_end, members_unended}
+use Rattle.adx_json.proofs.reader.+json.Goals as goal
+
+pub element_at-returns-in_err-value-clause-stops : goal.element_at-returns-in_err-value-clause-stops
+element_at-returns-in_err-value-clause-stops t c =
+    let p = err_from_is_err_and c.from_residual.result c.from_residual.ensures.1 in
+    let e = c.in_err-value.field-0.0 in
+    handed c.from_residual.result p.0 e (λ x. StopsAt x c.args.levels at_value c.args.bytes.now) p.1 p.2 (element_refused c.args.levels c.args.bytes.now c.after_space-start.result.now e c.after_space-start.ensures c.in_err-value.ensures.stops)
+
+pub element_at-returns-clause-found : goal.element_at-returns-clause-found
+element_at-returns-clause-found t c =
+    element_found c.args.levels c.args.bytes.now c.after_space-start.result.now (tree_of c.in_ok-value.value) c.in_ok-value.rest.now c.after_space-end.result.now c.after_space-start.ensures c.in_ok-value.ensures.found c.after_space-end.ensures
+
+pub items_at-returns-in-Some-clause-found : goal.items_at-returns-in-Some-clause-found
+items_at-returns-in-Some-clause-found t c =
+    rw c.new-found.ensures.items (items_none c.args.levels c.args.bytes.now c.after_space-start.result.now c.in-Some.rest.now c.after_space-start.ensures c.in-Some.ensures)
+
+pub items_at-items-init : goal.items_at-items-init
+items_at-items-init t c =
+    rw c.new-found.ensures.items (items_start c.args.levels c.args.bytes.now c.after_space-start.result.now c.after_space-start.ensures c.in_default.ensures)
+
+pub items_at-returns-in-Some-after-clause-found : goal.items_at-returns-in-Some-after-clause-found
+items_at-returns-in-Some-after-clause-found t c =
+    let whole : trees_of c.push.new.self.items ≡ trees_of c.items.found.items ++ tree_of c.in_ok-item.item ∷ [] =
+    ap trees_of c.in_ok-push.ensures.items ∙ map-append tree_of c.items.found.items (c.in_ok-item.item ∷ []) in
+    rw whole (items_end c.args.levels c.args.bytes.now (trees_of c.items.found.items) c.items.left.now (tree_of c.in_ok-item.item) c.in_ok-item.rest.now c.in-Some-after.end.now c.items.invariant c.in_ok-item.ensures.found c.in-Some-after.ensures)
+
+pub items_at-returns-in_default-after-2-clause-stops : goal.items_at-returns-in_default-after-2-clause-stops
+items_at-returns-in_default-after-2-clause-stops t c =
+    items_unended c.args.levels c.args.bytes.now (trees_of c.items.found.items) c.items.left.now (tree_of c.in_ok-item.item) c.in_ok-item.rest.now c.items.invariant c.in_ok-item.ensures.found c.in_default-after-2.ensures c.in_default-after.ensures
+
+pub items_at-items-preserved : goal.items_at-items-preserved
+items_at-items-preserved t c =
+    let whole : trees_of c.push.new.self.items ≡ trees_of c.items.found.items ++ tree_of c.in_ok-item.item ∷ [] =
+    ap trees_of c.in_ok-push.ensures.items ∙ map-append tree_of c.items.found.items (c.in_ok-item.item ∷ []) in
+    rw whole (items_more c.args.levels c.args.bytes.now (trees_of c.items.found.items) c.items.left.now (tree_of c.in_ok-item.item) c.in_ok-item.rest.now c.in-Some-after-2.more.now c.items.invariant c.in_ok-item.ensures.found c.in-Some-after-2.ensures)
+
+pub members_at-returns-in-Some-clause-found : goal.members_at-returns-in-Some-clause-found
+members_at-returns-in-Some-clause-found t c =
+    rw c.new-found.ensures.items (members_none c.args.levels c.args.bytes.now c.after_space-start.result.now c.in-Some.rest.now c.after_space-start.ensures c.in-Some.ensures)
+
+pub members_at-members-init : goal.members_at-members-init
+members_at-members-init t c =
+    rw c.new-found.ensures.items (members_start c.args.levels c.args.bytes.now c.after_space-start.result.now c.after_space-start.ensures c.in_default.ensures)
+
+pub members_at-returns-in-Some-after-clause-found : goal.members_at-returns-in-Some-after-clause-found
+members_at-returns-in-Some-after-clause-found t c =
+    let m = c.in_ok-member.member in
+    let whole : members_view c.push.new.self.items ≡ members_view c.members.found.items ++ member_of m ∷ [] =
+    ap members_view c.in_ok-push.ensures.items ∙ map-append member_of c.members.found.items (m ∷ []) in
+    rw whole (members_end c.args.levels c.args.bytes.now (members_view c.members.found.items) c.members.left.now (member_of m).0 (member_of m).1 c.in_ok-member.rest.now c.in-Some-after.end.now c.members.invariant c.in_ok-member.ensures.found c.in-Some-after.ensures)
+
+pub members_at-returns-in_default-after-2-clause-stops : goal.members_at-returns-in_default-after-2-clause-stops
+members_at-returns-in_default-after-2-clause-stops t c =
+    let m = c.in_ok-member.member in
+    members_unended c.args.levels c.args.bytes.now (members_view c.members.found.items) c.members.left.now (member_of m).0 (member_of m).1 c.in_ok-member.rest.now c.members.invariant c.in_ok-member.ensures.found c.in_default-after-2.ensures c.in_default-after.ensures
+
+pub members_at-members-preserved : goal.members_at-members-preserved
+members_at-members-preserved t c =
+    let m = c.in_ok-member.member in
+    let whole : members_view c.push.new.self.items ≡ members_view c.members.found.items ++ member_of m ∷ [] =
+    ap members_view c.in_ok-push.ensures.items ∙ map-append member_of c.members.found.items (m ∷ []) in
+    rw whole (members_more c.args.levels c.args.bytes.now (members_view c.members.found.items) c.members.left.now (member_of m).0 (member_of m).1 c.in_ok-member.rest.now c.in-Some-after-2.more.now c.members.invariant c.in_ok-member.ensures.found c.in-Some-after-2.ensures)
+
+pub value_at-returns-in_default-clause-stops : goal.value_at-returns-in_default-clause-stops
+value_at-returns-in_default-clause-stops t c = value_empty c.args.levels c.args.bytes.now c.in_default.ensures.cases
+
+pub value_at-returns-in_err-text-in-34-clause-stops : goal.value_at-returns-in_err-text-in-34-clause-stops
+value_at-returns-in_err-text-in-34-clause-stops t c =
+    let p = err_from_is_err_and c.from_residual.result c.from_residual.ensures.1 in
+    let e = c.in_err-text-in-34.field-0.0 in
+    let first = at_byte c.args.bytes.now c.in-Some.byte.now 34 c.in-Some.rest.now c.in-Some.ensures.cases.0 c.in-34.is in
+    handed c.from_residual.result p.0 e (λ x. StopsAt x c.args.levels at_value c.args.bytes.now) p.1 p.2 (text_refused c.args.levels c.args.bytes.now c.in-Some.rest.now e first c.in_err-text-in-34.ensures.stops)
+
+pub value_at-returns-in_ok-text-in-34-clause-found : goal.value_at-returns-in_ok-text-in-34-clause-found
+value_at-returns-in_ok-text-in-34-clause-found t c =
+    let first = at_byte c.args.bytes.now c.in-Some.byte.now 34 c.in-Some.rest.now c.in-Some.ensures.cases.0 c.in-34.is in
+    rw (tree_of-Text c.in_ok-text-in-34.text) (text_value c.args.levels c.args.bytes.now c.in-Some.rest.now c.in_ok-text-in-34.text c.in_ok-text-in-34.rest.now first c.in_ok-text-in-34.ensures.found)
+
+pub value_at-returns-then-levels-eq0-clause-stops : goal.value_at-returns-then-levels-eq0-clause-stops
+value_at-returns-then-levels-eq0-clause-stops t c =
+    list_deep c.args.levels c.args.bytes.now c.in-Some.rest.now (at_byte c.args.bytes.now c.in-Some.byte.now 91 c.in-Some.rest.now c.in-Some.ensures.cases.0 c.in-91.is) c.if-levels-eq0.true
+
+pub value_at-returns-in_err-items-in-91-clause-stops : goal.value_at-returns-in_err-items-in-91-clause-stops
+value_at-returns-in_err-items-in-91-clause-stops t c =
+    let p = err_from_is_err_and c.from_residual-in_err-items-in-91.result c.from_residual-in_err-items-in-91.ensures.1 in
+    let e = c.in_err-items-in-91.field-0.0 in
+    let first = at_byte c.args.bytes.now c.in-Some.byte.now 91 c.in-Some.rest.now c.in-Some.ensures.cases.0 c.in-91.is in
+    handed c.from_residual-in_err-items-in-91.result p.0 e (λ x. StopsAt x c.args.levels at_value c.args.bytes.now) p.1 p.2 (list_refused c.args.levels c.args.bytes.now c.in-Some.rest.now e first (omega arith) c.in_err-items-in-91.ensures.stops)
+
+pub value_at-returns-in_ok-items-in-91-clause-found : goal.value_at-returns-in_ok-items-in-91-clause-found
+value_at-returns-in_ok-items-in-91-clause-found t c =
+    let first = at_byte c.args.bytes.now c.in-Some.byte.now 91 c.in-Some.rest.now c.in-Some.ensures.cases.0 c.in-91.is in
+    rw (tree_of-List c.in_ok-items-in-91.items) (list_value c.args.levels c.args.bytes.now c.in-Some.rest.now (items_of (trees_of c.in_ok-items-in-91.items.items)) c.in_ok-items-in-91.rest.now first (omega arith) c.in_ok-items-in-91.ensures.found)
+
+pub value_at-returns-then-levels-eq0-2-clause-stops : goal.value_at-returns-then-levels-eq0-2-clause-stops
+value_at-returns-then-levels-eq0-2-clause-stops t c =
+    object_deep c.args.levels c.args.bytes.now c.in-Some.rest.now (at_byte c.args.bytes.now c.in-Some.byte.now 123 c.in-Some.rest.now c.in-Some.ensures.cases.0 c.in-123.is) c.if-levels-eq0-2.true
+
+pub value_at-returns-in_err-members-in-123-clause-stops : goal.value_at-returns-in_err-members-in-123-clause-stops
+value_at-returns-in_err-members-in-123-clause-stops t c =
+    let p = err_from_is_err_and c.from_residual-in_err-members-in-123.result c.from_residual-in_err-members-in-123.ensures.1 in
+    let e = c.in_err-members-in-123.field-0.0 in
+    let first = at_byte c.args.bytes.now c.in-Some.byte.now 123 c.in-Some.rest.now c.in-Some.ensures.cases.0 c.in-123.is in
+    handed c.from_residual-in_err-members-in-123.result p.0 e (λ x. StopsAt x c.args.levels at_value c.args.bytes.now) p.1 p.2 (object_refused c.args.levels c.args.bytes.now c.in-Some.rest.now e first (omega arith) c.in_err-members-in-123.ensures.stops)
+
+pub value_at-returns-in_ok-kept-in-123-clause-found : goal.value_at-returns-in_ok-kept-in-123-clause-found
+value_at-returns-in_ok-kept-in-123-clause-found t c =
+    let first = at_byte c.args.bytes.now c.in-Some.byte.now 123 c.in-Some.rest.now c.in-Some.ensures.cases.0 c.in-123.is in
+    rw (tree_of-Object c.in_ok-kept-in-123.kept, c.in_ok-kept-in-123.ensures) (object_value c.args.levels c.args.bytes.now c.in-Some.rest.now (members_of (members_view c.in_ok-members-in-123.members.items)) c.in_ok-members-in-123.rest.now first (omega arith) c.in_ok-members-in-123.ensures.found)
+
+pub value_at-returns-in_err-rest-in-116-clause-stops : goal.value_at-returns-in_err-rest-in-116-clause-stops
+value_at-returns-in_err-rest-in-116-clause-stops t c =
+    let p = err_from_is_err_and c.from_residual-in_err-rest-in-116.result c.from_residual-in_err-rest-in-116.ensures.1 in
+    let e = c.in_err-rest-in-116.field-0.0 in
+    let first = at_byte c.args.bytes.now c.in-Some.byte.now 116 c.in-Some.rest.now c.in-Some.ensures.cases.0 c.in-116.is in
+    handed c.from_residual-in_err-rest-in-116.result p.0 e (λ x. StopsAt x c.args.levels at_value c.args.bytes.now) p.1 p.2 (word_refused c.args.levels c.args.bytes.now c.in-Some.rest.now 116 114 (117 ∷ 101 ∷ []) e (λ fs. true_step 64 fs) first c.in_err-rest-in-116.ensures.stops)
+
+pub value_at-returns-in_ok-rest-in-116-clause-found : goal.value_at-returns-in_ok-rest-in-116-clause-found
+value_at-returns-in_ok-rest-in-116-clause-found t c =
+    let first = at_byte c.args.bytes.now c.in-Some.byte.now 116 c.in-Some.rest.now c.in-Some.ensures.cases.0 c.in-116.is in
+    rw (tree_of-Bool true) (word_value c.args.levels (boolean true) c.args.bytes.now c.in-Some.rest.now c.in_ok-rest-in-116.rest.now 116 114 (117 ∷ 101 ∷ []) (λ fs. true_step 64 fs) refl refl refl first c.in_ok-rest-in-116.ensures.found)
+
+pub value_at-returns-in_err-rest-in-102-clause-stops : goal.value_at-returns-in_err-rest-in-102-clause-stops
+value_at-returns-in_err-rest-in-102-clause-stops t c =
+    let p = err_from_is_err_and c.from_residual-in_err-rest-in-102.result c.from_residual-in_err-rest-in-102.ensures.1 in
+    let e = c.in_err-rest-in-102.field-0.0 in
+    let first = at_byte c.args.bytes.now c.in-Some.byte.now 102 c.in-Some.rest.now c.in-Some.ensures.cases.0 c.in-102.is in
+    handed c.from_residual-in_err-rest-in-102.result p.0 e (λ x. StopsAt x c.args.levels at_value c.args.bytes.now) p.1 p.2 (word_refused c.args.levels c.args.bytes.now c.in-Some.rest.now 102 97 (108 ∷ 115 ∷ 101 ∷ []) e (λ fs. false_step 64 fs) first c.in_err-rest-in-102.ensures.stops)
+
+pub value_at-returns-in_ok-rest-in-102-clause-found : goal.value_at-returns-in_ok-rest-in-102-clause-found
+value_at-returns-in_ok-rest-in-102-clause-found t c =
+    let first = at_byte c.args.bytes.now c.in-Some.byte.now 102 c.in-Some.rest.now c.in-Some.ensures.cases.0 c.in-102.is in
+    rw (tree_of-Bool false) (word_value c.args.levels (boolean false) c.args.bytes.now c.in-Some.rest.now c.in_ok-rest-in-102.rest.now 102 97 (108 ∷ 115 ∷ 101 ∷ []) (λ fs. false_step 64 fs) refl refl refl first c.in_ok-rest-in-102.ensures.found)
+
+pub value_at-returns-in_err-rest-in-110-clause-stops : goal.value_at-returns-in_err-rest-in-110-clause-stops
+value_at-returns-in_err-rest-in-110-clause-stops t c =
+    let p = err_from_is_err_and c.from_residual-in_err-rest-in-110.result c.from_residual-in_err-rest-in-110.ensures.1 in
+    let e = c.in_err-rest-in-110.field-0.0 in
+    let first = at_byte c.args.bytes.now c.in-Some.byte.now 110 c.in-Some.rest.now c.in-Some.ensures.cases.0 c.in-110.is in
+    handed c.from_residual-in_err-rest-in-110.result p.0 e (λ x. StopsAt x c.args.levels at_value c.args.bytes.now) p.1 p.2 (word_refused c.args.levels c.args.bytes.now c.in-Some.rest.now 110 117 (108 ∷ 108 ∷ []) e (λ fs. null_step 64 fs) first c.in_err-rest-in-110.ensures.stops)
+
+pub value_at-returns-in_ok-rest-in-110-clause-found : goal.value_at-returns-in_ok-rest-in-110-clause-found
+value_at-returns-in_ok-rest-in-110-clause-found t c =
+    let first = at_byte c.args.bytes.now c.in-Some.byte.now 110 c.in-Some.rest.now c.in-Some.ensures.cases.0 c.in-110.is in
+    rw tree_of-Null (word_value c.args.levels null c.args.bytes.now c.in-Some.rest.now c.in_ok-rest-in-110.rest.now 110 117 (108 ∷ 108 ∷ []) (λ fs. null_step 64 fs) refl refl refl first c.in_ok-rest-in-110.ensures.found)
+
+pub value_at-returns-in_err-number-in_default-byte-clause-stops : goal.value_at-returns-in_err-number-in_default-byte-clause-stops
+value_at-returns-in_err-number-in_default-byte-clause-stops t c =
+    let b = c.in-Some.byte.now in
+    let other : OtherByte b = other_byte c.args.bytes.now b c.in-Some.rest.now c.in-Some.ensures.cases.0 c.requires (λ e. omega arith) (λ e. omega arith) (λ e. omega arith) (λ e. omega arith) (λ e. omega arith) (λ e. omega arith) in
+    let p = err_from_is_err_and c.from_residual-in_err-number-in_default-byte.result c.from_residual-in_err-number-in_default-byte.ensures.1 in
+    let e = c.in_err-number-in_default-byte.field-0.0 in
+    handed c.from_residual-in_err-number-in_default-byte.result p.0 e (λ x. StopsAt x c.args.levels at_value c.args.bytes.now) p.1 p.2 (number_refused c.args.levels c.args.bytes.now b c.in-Some.rest.now e c.in-Some.ensures.cases.0 other c.in_err-number-in_default-byte.ensures.stops)
+
+pub value_at-returns-in_ok-number-in_default-byte-clause-found : goal.value_at-returns-in_ok-number-in_default-byte-clause-found
+value_at-returns-in_ok-number-in_default-byte-clause-found t c =
+    let b = c.in-Some.byte.now in
+    let other : OtherByte b = other_byte c.args.bytes.now b c.in-Some.rest.now c.in-Some.ensures.cases.0 c.requires (λ e. omega arith) (λ e. omega arith) (λ e. omega arith) (λ e. omega arith) (λ e. omega arith) (λ e. omega arith) in
+    rw (tree_of-Number c.in_ok-number-in_default-byte.number) (number_value c.args.levels c.args.bytes.now b c.in-Some.rest.now c.in_ok-number-in_default-byte.number c.in_ok-number-in_default-byte.rest.now c.in-Some.ensures.cases.0 other c.in_ok-number-in_default-byte.ensures.found)

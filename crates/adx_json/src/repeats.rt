@@ -1,0 +1,74 @@
+//! Repeated names of an object's members.
+ghost use Rattle.std.specs.Prelude.{◌≡◌, ◌<◌, length, IfOk};
+ghost use Rattle.adx_json.specs.Tree.{members_of};
+ghost use Rattle.adx_json.specs.Grammar.{last_of_each};
+ghost use Rattle.adx_json.specs.View.{members_view};
+ghost use Rattle.adx_json.specs.Repeats.{ComesAgain};
+
+use crate::plain::has_name;
+use crate::tree::Member;
+use adx_units::OutOfMemory;
+use std::alloc::Global;
+use std::collections::BTreeSet;
+
+/// Up to so many members a name is looked up among those behind it.
+const FEW: usize = 16;
+
+/// The members without those whose names come again later: of members with one name the last stays, in its place.
+pub(crate) fn without_repeats(
+    alloc: Global,
+    members: Vec<Member>,
+) -> Result<Vec<Member>, OutOfMemory>
+    ensures { IfOk result (λ ms. members_of (members_view ms.items) ≡ last_of_each (members_of (members_view members.items))) }
+{
+    if members.len() <= FEW {
+        return Ok(last_of_few(members));
+    }
+    last_of_many(alloc, members)
+}
+
+/// The same from the end on, with the set of the names that were met.
+fn last_of_many(alloc: Global, members: Vec<Member>) -> Result<Vec<Member>, OutOfMemory>
+    ensures { IfOk result (λ ms. members_of (members_view ms.items) ≡ last_of_each (members_of (members_view members.items))) }
+{
+    let mut left = members;
+    let mut kept = Vec::new(alloc);
+    let mut seen = BTreeSet::new(alloc);
+    'members: while let Some(member) = left.pop() {
+        let name = String::from_str(alloc, member.name.as_str())?;
+        let is_new = seen.insert(name)?;
+        if is_new {
+            kept.push(member)?;
+        }
+    }
+    kept.reverse();
+    Ok(kept)
+}
+
+/// The same in place, name by name.
+fn last_of_few(members: Vec<Member>) -> Vec<Member>
+    ensures { members_of (members_view result.items) ≡ last_of_each (members_of (members_view members.items)) }
+{
+    let mut kept = members;
+    let mut at = 0;
+    'members: while at < kept.len() {
+        if comes_again(&kept, at) {
+            let _repeated = kept.remove(at);
+        } else {
+            at += 1;
+        }
+    }
+    kept
+}
+
+/// Whether a member's name is that of one behind it.
+fn comes_again(members: &[Member], at: usize) -> bool
+    requires { at < length members.now }
+    ensures { ComesAgain members.now at result }
+{
+    let (_, rest) = members.split_at(at);
+    match rest.split_first() {
+        Some((member, later)) => has_name(later, member.name.as_bytes()),
+        None => false,
+    }
+}
