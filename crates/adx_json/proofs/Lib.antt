@@ -35,3 +35,4 @@ pub mod Spelled
 pub mod OneString
 pub mod OneTree
 pub mod TextsUtf8
+pub mod PutMembers

@@ -181,10 +181,10 @@ mutual
   more_members_are (member n t ms) w u = (text_spelling n, spelling t, more_members_spelling ms, refl, padded (IsString n) (text_spelling n) (text_is n u.0), padded (IsValue t) (spelling t) (value_is t w.0 u.1), more_members_are ms w.1 u.2)
 
 -- nothing is left out of members with different names
-differ_tail : (n : List ℕ) (ns : List (List ℕ)) → AllPairs (λ a b. a ≢ b) (n ∷ ns) → AllPairs (λ a b. a ≢ b) ns
+pub differ_tail : (n : List ℕ) (ns : List (List ℕ)) → AllPairs (λ a b. a ≢ b) (n ∷ ns) → AllPairs (λ a b. a ≢ b) ns
 differ_tail n ns h i j d low high = h (suc i) (suc j) d (omega arith) (omega arith)
 
-differ_no_name : (n : List ℕ) (ms : Members) → ((j : ℕ) (d : List ℕ) → j < length (names_of ms) → n ≢ get_or (names_of ms) j d) → has_name n ms ≡ false
+pub differ_no_name : (n : List ℕ) (ms : Members) → ((j : ℕ) (d : List ℕ) → j < length (names_of ms) → n ≢ get_or (names_of ms) j d) → has_name n ms ≡ false
 differ_no_name n no_members h = refl
 differ_no_name n (member k t ms) h =
     or_from _ _ (false_from_ne_true (bytes_eq k n) (λ e. h 0 [] (omega arith) (sym ((bytes_eq-Decides k n).0 e)))) (differ_no_name n ms (λ j d low. h (suc j) d (omega arith)))

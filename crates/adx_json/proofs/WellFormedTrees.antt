@@ -9,13 +9,13 @@ use Rattle.adx_json.specs.Grammar.{IsValue, AreItems, AreMoreItems, AreMembers, 
 use Rattle.adx_json.specs.WellFormed.{IsWellFormed, AreWellFormed, HaveWellFormed}
 
 -- names that differ from those behind them
-differ_cons : (n : List ℕ) (ns : List (List ℕ)) → ((j : ℕ) (d : List ℕ) → j < length ns → n ≢ get_or ns j d) → AllPairs (λ a b. a ≢ b) ns → AllPairs (λ a b. a ≢ b) (n ∷ ns)
+pub differ_cons : (n : List ℕ) (ns : List (List ℕ)) → ((j : ℕ) (d : List ℕ) → j < length ns → n ≢ get_or ns j d) → AllPairs (λ a b. a ≢ b) ns → AllPairs (λ a b. a ≢ b) (n ∷ ns)
 differ_cons n ns new h zero zero d low high = absurd (omega arith)
 differ_cons n ns new h zero (suc j) d low high = new j d (omega arith)
 differ_cons n ns new h (suc i) zero d low high = absurd (omega arith)
 differ_cons n ns new h (suc i) (suc j) d low high = h i j d (omega arith) (omega arith)
 
-no_name : (n : List ℕ) (ms : Members) → has_name n ms ≡ false → (j : ℕ) (d : List ℕ) → j < length (names_of ms) → n ≢ get_or (names_of ms) j d
+pub no_name : (n : List ℕ) (ms : Members) → has_name n ms ≡ false → (j : ℕ) (d : List ℕ) → j < length (names_of ms) → n ≢ get_or (names_of ms) j d
 no_name n no_members h j d low e = absurd (omega arith)
 no_name n (member k t ms) h zero d low e = iff_false (bytes_eq-Decides k n) (or_parts (bytes_eq k n) (has_name n ms) h).0 (sym e)
 no_name n (member k t ms) h (suc j) d low e = no_name n ms (or_parts (bytes_eq k n) (has_name n ms) h).1 j d (omega arith) e
@@ -34,7 +34,7 @@ last_differ_at : (n : List ℕ) (t : Tree) (ms : Members) (b : Bool) → has_nam
 last_differ_at n t ms true e h = h
 last_differ_at n t ms false e h = differ_cons n (names_of (last_of_each ms)) (no_name n (last_of_each ms) (last_no_name n ms e)) h
 
-no_pairs : AllPairs {X = List ℕ} (λ a b. a ≢ b) []
+pub no_pairs : AllPairs {X = List ℕ} (λ a b. a ≢ b) []
 no_pairs i j d low high = absurd (omega arith)
 
 last_differ : (ms : Members) → AllPairs (λ a b. a ≢ b) (names_of (last_of_each ms))

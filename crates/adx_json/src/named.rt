@@ -2,6 +2,7 @@
 ghost use Rattle.std.specs.Prelude.{◌≡◌, Some, None, IfSome, IfNone, IfOk, OnOk, position};
 ghost use Rattle.std.specs.Str.{bytes_eq};
 ghost use Rattle.adx_json.specs.Named.{member_in, with_member as tree_with_member, with_value, IsObject};
+ghost use Rattle.adx_json.specs.WellFormed.{IsWellFormed, HasUtf8};
 ghost use Rattle.adx_json.specs.Tree.{members_of};
 ghost use Rattle.adx_json.specs.View.{tree_of, members_view};
 ghost use Rattle.adx_json.specs.declared.tree.Member.{out-Member};
@@ -28,7 +29,9 @@ impl Json {
     /// where memory is refused.
     pub fn with_member(self, alloc: Global, name: &str, value: Json) -> Result<Json, OutOfMemory>
         requires { IsObject (tree_of self) }
-        ensures { IfOk result (λ j. tree_of j ≡ tree_with_member name.now (tree_of value) (tree_of self)) }
+        ensures tree { IfOk result (λ j. tree_of j ≡ tree_with_member name.now (tree_of value) (tree_of self)) }
+        ensures well_formed { IsWellFormed (tree_of self) → IsWellFormed (tree_of value) → IfOk result (λ j. IsWellFormed (tree_of j)) }
+        ensures texts { HasUtf8 (tree_of self) → HasUtf8 (tree_of value) → IfOk result (λ j. HasUtf8 (tree_of j)) }
     {
         let Json::Object(mut members) = self else {
             unreachable!()
