@@ -1,11 +1,10 @@
 -- Decimal digits: the number of a text in two parts, and a bound by its length.
-use Rattle.std.proofs.Common.{◌≡◌, ℕ, suc, ◌+◌, ◌-◌, ◌*◌, ◌/◌, ◌%◌, ◌^◌, ◌<◌, ◌≤◌, true, nat_le, ◌||◌, not, ◌==◌, min, List, [], ◌∷◌, ◌++◌, length, fold, sym, ap, ◌∙◌, arith, pow-suc, mul-le-mul_right, pow-add, mul-div_cancel, mul_assoc, mul_comm}
+use Rattle.std.proofs.Common.{◌≡◌, ℕ, suc, ◌+◌, ◌-◌, ◌*◌, ◌/◌, ◌%◌, ◌^◌, ◌<◌, ◌≤◌, true, nat_le, List, [], ◌∷◌, ◌++◌, length, fold, sym, ap, ◌∙◌, arith, pow-suc, mul-le-mul_right, pow-add, mul-div_cancel, mul_assoc, mul_comm}
 use Rattle.std.specs.List.{list_all}
 use Rattle.std.proofs.Math.Nat.{pow-zero, one-le-pow, mul-mod_left, mul-div-mul_right, div-add-mod'}
 use Rattle.std.proofs.lemmas.List.Sums.{fold-append}
 use Rattle.std.proofs.lemmas.Bool.{and_parts, leb-true}
-use Rattle.std.proofs.Math.Nat.{pow-le-pow_right}
-use Rattle.adx_units.specs.Number.{is_digit, is_digits, begins_with, is_whole, is_short_whole, digits_value}
+use Rattle.adx_units.specs.Number.{is_digit, digits_value}
 
 abbrev pub step : ℕ → ℕ → ℕ
 step n b = 10 * n + (b - 48)
@@ -70,25 +69,3 @@ mul-mod-mul x c m some many =
 pub cut_rest : (b x up s f down c : ℕ) → 0 < b → f + down ≡ c + (up + s) → x * b ^ up * b ^ s % b ^ (f + down) ≡ (x % b ^ c) * b ^ (up + s)
 cut_rest b x up s f down c pos e =
     rw (both_powers b x up s, cut_by b up s f down c e) (mul-mod-mul x (b ^ c) (b ^ (up + s)) (one-le-pow c b pos) (one-le-pow (up + s) b pos))
-
--- fifteen digits stand for less than 10^15
-pub digits_value-short : (ds : List ℕ) → list_all is_digit ds ≡ true → length ds ≤ 15 → digits_value ds < 10 ^ 15
-digits_value-short ds digits short =
-    let base : 0 < 10 = omega arith in
-    let most : 10 ^ length ds ≤ 10 ^ 15 = pow-le-pow_right base short in
-    let value = digits_value-lt ds digits in
-    omega arith
-
--- a short whole number is less than 10^15
-pub short_whole-small : (ds : List ℕ) → is_short_whole ds ≡ true → digits_value ds < 10 ^ 15
-short_whole-small ds h =
-    let both = and_parts (is_whole ds) (nat_le (length ds) 15) h in
-    let whole = and_parts (is_digits ds) (length ds == 1 || not (begins_with 48 ds)) both.0 in
-    let digits = and_parts (nat_le 1 (length ds)) (list_all is_digit ds) whole.0 in
-    digits_value-short ds digits.1 (leb-true (length ds) 15 both.1)
-
--- up to a cap above it
-pub short_whole-capped : (ds : List ℕ) (cap : ℕ) → is_short_whole ds ≡ true → 10 ^ 15 ≤ cap → min (digits_value ds) cap ≡ digits_value ds
-short_whole-capped ds cap h room =
-    let small = short_whole-small ds h in
-    omega arith

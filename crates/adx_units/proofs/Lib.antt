@@ -7,3 +7,5 @@ pub mod Amounts
 pub mod Faults
 pub mod Trimmed
 pub mod Written
+pub mod Changed
+pub mod Scans

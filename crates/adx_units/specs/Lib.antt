@@ -1,2 +1,6 @@
 pub mod Number
 pub mod Money
+pub mod Texts
+pub mod Ids
+pub mod Changed
+pub mod Scans

@@ -18,10 +18,6 @@ begins_with c (b ∷ bs) = b == c
 abbrev pub is_whole : List ℕ → Bool
 is_whole ds = is_digits ds && (length ds == 1 || not (begins_with 48 ds))
 
--- a whole number of 1 to 15 digits
-abbrev pub is_short_whole : List ℕ → Bool
-is_short_whole ds = is_whole ds && nat_le (length ds) 15
-
 abbrev pub is_point : ℕ → Bool
 is_point b = b == 46
 
@@ -65,9 +61,13 @@ digits_after n ds = fold (λ m b. 10 * m + (b - 48)) n ds
 abbrev pub digits_value : List ℕ → ℕ
 digits_value ds = fold (λ n b. 10 * n + (b - 48)) 0 ds
 
--- the number that a whole number of 1 to 15 digits stands for
-abbrev pub short_whole_of : List ℕ → Option ℕ
-short_whole_of ds = if is_short_whole ds then Some (digits_value ds) else None
+-- a whole number that is at most a bound
+abbrev pub is_whole_up_to : ℕ → List ℕ → Bool
+is_whole_up_to most ds = is_whole ds && nat_le (digits_value ds) most
+
+-- the number that a whole number of at most a bound stands for
+abbrev pub whole_up_to : ℕ → List ℕ → Option ℕ
+whole_up_to most ds = if is_whole_up_to most ds then Some (digits_value ds) else None
 
 abbrev pub whole_digits : List ℕ → List ℕ
 whole_digits t = before_first is_point (decimal_part t)

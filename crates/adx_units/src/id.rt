@@ -1,9 +1,13 @@
-ghost use Rattle.std.specs.Prelude.{◌≡◌, ◌≤◌, List, ℕ, IfOk, IfNone, IfSome, length, ◌⊎◌, ◌<◌};
+ghost use Rattle.std.specs.Prelude.{◌≡◌, IfOk, IfNone, IfSome, OnErr, IsUtf8};
+ghost use Rattle.adx_units.specs.Ids.{IsSized};
 
 use crate::memory::OutOfMemory;
 use crate::text::Text;
 use std::alloc::Global;
 use std::marker::Model;
+
+/// The longest name, in bytes.
+pub const LONGEST_ID: usize = 128;
 
 /// A name of 1 to 128 bytes of UTF-8: of an auction, an impression, a bidder, a seat or a campaign.
 /// A contract sees its bytes.
@@ -13,35 +17,56 @@ pub struct Id {
 }
 
 impl Model for Id {
-    ghost use Rattle.std.specs.Prelude.{List, ℕ, ◌≤◌, length};
+    ghost use Rattle.std.specs.Prelude.{List, ℕ};
+    ghost use Rattle.adx_units.specs.Ids.{IsSized};
 
     ghost Value = { List ℕ };
 
     ghost view = { λ i. i.text };
 
-    ghost invariant = { λ i. (1 ≤ length i.text) × (length i.text ≤ 128) };
+    ghost invariant = { λ i. IsSized i.text };
 }
 
 impl Id {
     /// The name that this text is. None exactly where its length isn't 1 to 128 bytes.
     pub fn of(alloc: Global, text: &str) -> Result<Option<Id>, OutOfMemory>
-        ensures none { IfOk result (λ found. IfNone found ((length text.now ≡ 0) ⊎ (128 < length text.now))) }
+        ensures none { IfOk result (λ found. IfNone found (¬ (IsSized text.now))) }
         ensures some { IfOk result (λ found. IfSome found (λ i. i ≡ text.now)) }
-        ensures sized { IfOk result (λ found. IfSome found (λ _. (1 ≤ length text.now) × (length text.now ≤ 128))) }
+        ensures sized { IfOk result (λ found. IfSome found (λ _. IsSized text.now)) }
+        ensures refused { OnErr result (IsSized text.now) }
     {
-        if text.is_empty() || text.len() > 128 {
+        if text.is_empty() || text.len() > LONGEST_ID {
             return Ok(None);
         }
-        Ok(Some(Id {
-            text: Text::of(alloc, text)?,
-        }))
+        let text = Text::of(alloc, text)?;
+        Ok(Some(Id { text }))
+    }
+
+    /// The name that this text is, without memory. None exactly where its length isn't 1 to 128 bytes.
+    pub fn of_text(text: Text) -> Option<Id>
+        ensures none { IfNone result (¬ (IsSized text)) }
+        ensures some { IfSome result (λ i. i ≡ text) }
+        ensures sized { IfSome result (λ _. IsSized text) }
+    {
+        let len = text.as_bytes().len();
+        if len == 0 || len > LONGEST_ID {
+            return None;
+        }
+        Some(Id { text })
+    }
+
+    /// The name as a text, without memory.
+    pub fn into_text(self) -> Text
+        ensures { result ≡ self }
+    {
+        self.text
     }
 
     /// The name as a text.
     pub fn as_str(&self) -> &str
         ensures value { result.now ≡ self.now }
-        ensures some { 1 ≤ length self.now }
-        ensures short { length self.now ≤ 128 }
+        ensures sized { IsSized self.now }
+        ensures utf8 { IsUtf8 self.now }
     {
         self.text.as_str()
     }
@@ -49,8 +74,8 @@ impl Id {
     /// The name's bytes.
     pub fn as_bytes(&self) -> &[u8]
         ensures value { result.now ≡ self.now }
-        ensures some { 1 ≤ length self.now }
-        ensures short { length self.now ≤ 128 }
+        ensures sized { IsSized self.now }
+        ensures utf8 { IsUtf8 self.now }
     {
         self.text.as_bytes()
     }
@@ -84,11 +109,16 @@ mod tests {
             let second = text.copy(alloc)?;
             assert_eq!(rt; copy.as_bytes(), name.as_bytes());
             assert_eq!(rt; second.as_bytes(), name.as_bytes());
+            let owned = Id::of_text(second).ok_or(OutOfMemory)?;
+            assert_eq!(rt; owned.into_text().as_bytes(), name.as_bytes());
+            let from = Text::from(String::from_str(alloc, name)?);
+            assert_eq!(rt; from.as_str(), name);
         }
         let mut longer = String::from_str(alloc, LONGEST)?;
         longer.push('x')?;
         for text in ["", longer.as_str()] {
             assert!(rt; Id::of(alloc, text)?.is_none());
+            assert!(rt; Id::of_text(Text::of(alloc, text)?).is_none());
         }
         Ok(())
     }

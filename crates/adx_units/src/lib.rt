@@ -6,6 +6,7 @@
 #![tactic(auto)]
 
 mod array_text;
+mod counted;
 mod id;
 mod memory;
 mod numeral;
@@ -19,12 +20,13 @@ mod units;
 mod whole;
 
 pub use array_text::ArrayText;
-pub use id::Id;
+pub use counted::Counted;
+pub use id::{Id, LONGEST_ID};
 pub use memory::OutOfMemory;
 pub use offer::{ADMITTED, Offer};
-pub use price::{PriceFault, budget_of, floor_of, price_of};
+pub use price::{BUDGET_LIMIT, PRICE_LIMIT, PriceFault, budget_of, floor_of, price_of};
 pub use price_text::write_price;
 pub use sequence::Sequence;
 pub use text::Text;
 pub use units::Units;
-pub use whole::short_whole_of;
+pub use whole::whole_up_to;

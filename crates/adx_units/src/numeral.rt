@@ -1,7 +1,8 @@
 // The parts of a JSON number's text (RFC 8259, section 6), as slices of the text.
-ghost use Rattle.std.specs.Prelude.{◌≡◌, MatchOption, true, false};
-ghost use Rattle.std.specs.List.{list_all, list_any, position_or_len, before_first, after_first};
-ghost use Rattle.adx_units.specs.Number.{is_digit, is_digits, is_whole as is_whole_text, is_decimal as is_decimal_text, is_number, begins_with, has_minus as has_minus_first, without_minus as text_without_minus, without_sign as text_without_sign, is_exponent_mark, is_point, whole_digits, fraction_digits, exponent_part};
+ghost use Rattle.std.specs.Prelude.{◌≡◌, ◌++◌, ◌∷◌, [], ◌&&◌, not, MatchOption, true, false};
+ghost use Rattle.std.specs.List.{list_all, prefix_len};
+ghost use Rattle.adx_units.specs.Number.{is_digit as is_digit_byte, is_digits, is_whole as is_whole_text, is_number, begins_with, has_minus as has_minus_first, without_minus as text_without_minus, without_sign as text_without_sign, whole_digits, fraction_digits, exponent_part};
+ghost use Rattle.adx_units.specs.Scans.{Stops, IsFraction, HasNoFraction, IsExponent, HasNoExponent};
 
 /// The parts of a number's text.
 #[derive(Clone, Copy)]
@@ -18,87 +19,26 @@ pub(crate) struct Numeral<'a> {
     pub lowers: bool,
 }
 
-// Whether a byte begins an exponent.
-fn is_mark(byte: u8) -> bool
-    ensures { result ≡ is_exponent_mark byte }
+fn is_digit(byte: u8) -> bool
+    ensures { result ≡ is_digit_byte byte }
 {
-    byte == b'e' || byte == b'E'
+    byte >= b'0' && byte <= b'9'
 }
 
-fn is_dot(byte: u8) -> bool
-    ensures { result ≡ is_point byte }
+fn digits_len(text: &[u8]) -> usize
+    ensures { result ≡ prefix_len is_digit_byte text.now }
 {
-    byte == b'.'
+    text.iter().take_while(|byte| is_digit(**byte)).count()
 }
 
-// The place of the exponent's mark, or the length where there is none.
-fn mark_place(text: &[u8]) -> usize
-    ensures { result ≡ position_or_len is_exponent_mark text.now }
+/// The digits at the front, and what stands behind them.
+fn digits_front(text: &[u8]) -> (&[u8], &[u8])
+    ensures whole { text.now ≡ result.0.now ++ result.1.now }
+    ensures digits { list_all is_digit_byte result.0.now ≡ true }
+    ensures stops { Stops is_digit_byte result.1.now }
 {
-    for (i, byte) in text.iter().enumerate() {
-        if is_mark(*byte) {
-            return i;
-        }
-    }
-    text.len()
-}
-
-// The place of the point, or the length where there is none.
-fn point_place(text: &[u8]) -> usize
-    ensures { result ≡ position_or_len is_point text.now }
-{
-    for (i, byte) in text.iter().enumerate() {
-        if is_dot(*byte) {
-            return i;
-        }
-    }
-    text.len()
-}
-
-fn before_mark(text: &[u8]) -> &[u8]
-    ensures { result.now ≡ before_first is_exponent_mark text.now }
-{
-    &text[..mark_place(text)]
-}
-
-fn after_mark(text: &[u8]) -> &[u8]
-    ensures { result.now ≡ after_first is_exponent_mark text.now }
-{
-    let place = mark_place(text);
-    if place < text.len() {
-        &text[place + 1..]
-    } else {
-        &[]
-    }
-}
-
-fn before_point(text: &[u8]) -> &[u8]
-    ensures { result.now ≡ before_first is_point text.now }
-{
-    &text[..point_place(text)]
-}
-
-fn after_point(text: &[u8]) -> &[u8]
-    ensures { result.now ≡ after_first is_point text.now }
-{
-    let place = point_place(text);
-    if place < text.len() {
-        &text[place + 1..]
-    } else {
-        &[]
-    }
-}
-
-fn has_mark(text: &[u8]) -> bool
-    ensures { result ≡ list_any is_exponent_mark text.now }
-{
-    text.iter().any(|byte| is_mark(*byte))
-}
-
-fn has_point(text: &[u8]) -> bool
-    ensures { result ≡ list_any is_point text.now }
-{
-    text.iter().any(|byte| is_dot(*byte))
+    let len = digits_len(text);
+    text.split_at(len)
 }
 
 fn begins(text: &[u8], byte: u8) -> bool
@@ -128,11 +68,18 @@ fn without_sign(text: &[u8]) -> &[u8]
     }
 }
 
+// Whether the text is the digit 0, or digits that don't begin with 0.
+pub(crate) fn is_whole(text: &[u8]) -> bool
+    ensures { result ≡ is_whole_text text.now }
+{
+    all_digits(text) && (text.len() == 1 || !begins(text, b'0'))
+}
+
 // Whether each byte is a digit; also where there is none.
 fn only_digits(text: &[u8]) -> bool
-    ensures { result ≡ list_all is_digit text.now }
+    ensures { result ≡ list_all is_digit_byte text.now }
 {
-    text.iter().all(|byte| *byte >= b'0' && *byte <= b'9')
+    text.iter().all(|byte| is_digit(*byte))
 }
 
 // Whether there is a digit, and nothing else.
@@ -142,35 +89,73 @@ fn all_digits(text: &[u8]) -> bool
     !text.is_empty() && only_digits(text)
 }
 
-// Whether the text is the digit 0, or digits that don't begin with 0.
-pub(crate) fn is_whole(text: &[u8]) -> bool
-    ensures { result ≡ is_whole_text text.now }
+// Whether digits are the one digit 0, or more that don't begin with 0.
+fn are_whole(digits: &[u8]) -> bool
+    requires { list_all is_digit_byte digits.now ≡ true }
+    ensures { result ≡ is_whole_text digits.now }
 {
-    all_digits(text) && (text.len() == 1 || !begins(text, b'0'))
+    match digits {
+        [] => false,
+        [_] => true,
+        [first, ..] => *first != b'0',
+    }
 }
 
-// Whether the text is a whole number, and then perhaps a point and digits.
-fn is_decimal(text: &[u8]) -> bool
-    ensures { result ≡ is_decimal_text text.now }
+/// The fraction's digits and what stands behind them, of what stands behind the whole digits. None where a
+/// point has no digit behind it.
+fn fraction_front(text: &[u8]) -> Option<(&[u8], &[u8])>
+    requires { Stops is_digit_byte text.now }
+    ensures { MatchOption result (HasNoFraction text.now) (λ x. IsFraction text.now x.0.now x.1.now) }
 {
-    is_whole(before_point(text)) && (!has_point(text) || all_digits(after_point(text)))
+    let [b'.', rest @ ..] = text else {
+        return Some((&[], text));
+    };
+    let (digits, behind) = digits_front(rest);
+    if digits.is_empty() {
+        None
+    } else {
+        Some((digits, behind))
+    }
+}
+
+/// The exponent's digits and whether it has a minus, of what stands behind the fraction. None where that
+/// is neither nothing nor an exponent.
+fn exponent_of(text: &[u8]) -> Option<(&[u8], bool)>
+    ensures { MatchOption result (HasNoExponent text.now) (λ x. IsExponent text.now x.0.now x.1) }
+{
+    match text {
+        [] => Some((&[], false)),
+        [b'e' | b'E', rest @ ..] => {
+            let digits = without_sign(rest);
+            if all_digits(digits) {
+                Some((digits, begins(rest, b'-')))
+            } else {
+                None
+            }
+        }
+        _ => None,
+    }
 }
 
 /// The parts of a number's text. None exactly where the text isn't a JSON number.
 pub(crate) fn numeral_of(text: &[u8]) -> Option<Numeral<'_>>
     ensures { MatchOption result (is_number text.now ≡ false) (λ n. (is_number text.now ≡ true) × (n.minus ≡ has_minus_first text.now) × (n.whole.now ≡ whole_digits text.now) × (n.fraction.now ≡ fraction_digits text.now) × (n.exponent.now ≡ text_without_sign (exponent_part text.now)) × (n.lowers ≡ has_minus_first (exponent_part text.now))) }
 {
-    let decimal = without_minus(before_mark(text));
-    let behind = after_mark(text);
-    let exponent = without_sign(behind);
-    if !is_decimal(decimal) || has_mark(text) && !all_digits(exponent) {
+    let (whole, behind) = digits_front(without_minus(text));
+    if !are_whole(whole) {
         return None;
     }
+    let Some((fraction, behind)) = fraction_front(behind) else {
+        return None;
+    };
+    let Some((exponent, lowers)) = exponent_of(behind) else {
+        return None;
+    };
     Some(Numeral {
         minus: begins(text, b'-'),
-        whole: before_point(decimal),
-        fraction: after_point(decimal),
+        whole,
+        fraction,
         exponent,
-        lowers: begins(behind, b'-'),
+        lowers,
     })
 }

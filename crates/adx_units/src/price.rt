@@ -1,14 +1,14 @@
-ghost use Rattle.std.specs.Prelude.{◌≡◌};
+ghost use Rattle.std.specs.Prelude.{◌≡◌, ◌≤◌, IfOk};
 ghost use Rattle.adx_units.specs.Money.{price_of as price_of_text, floor_of as floor_of_text, budget_of as budget_of_text};
 
 use crate::scale::amount_of;
 use crate::units::Units;
 
 /// The largest price and the largest floor, in units.
-const PRICE_LIMIT: u64 = 1_000_000_000_000;
+pub const PRICE_LIMIT: u64 = 1_000_000_000_000;
 
 /// The largest budget, in units.
-const BUDGET_LIMIT: u64 = 1_000_000_000_000_000;
+pub const BUDGET_LIMIT: u64 = 1_000_000_000_000_000;
 
 /// Why a text isn't a price, a floor or a budget: the first of these that holds.
 #[derive(Clone, Copy, Debug, PartialEq, Eq, Hash)]
@@ -27,7 +27,8 @@ pub enum PriceFault {
 /// part of its value times 10^6, in units.
 /// Fails where the text isn't a number, where it is negative or comes to no unit, and past 10^12 units.
 pub fn price_of(text: &[u8]) -> Result<Units, PriceFault>
-    ensures { result ≡ price_of_text text.now }
+    ensures value { result ≡ price_of_text text.now }
+    ensures range { IfOk result (λ price. (1 ≤ price.0) × (price.0 ≤ PRICE_LIMIT)) }
 {
     let Some(price) = amount_of(text, 6) else {
         return Err(PriceFault::NotNumber);
@@ -45,7 +46,8 @@ pub fn price_of(text: &[u8]) -> Result<Units, PriceFault>
 /// to a whole unit. A floor may be 0.
 /// Fails where the text isn't a number, where it is below 0, and past 10^12 units.
 pub fn floor_of(text: &[u8]) -> Result<Units, PriceFault>
-    ensures { result ≡ floor_of_text text.now }
+    ensures value { result ≡ floor_of_text text.now }
+    ensures range { IfOk result (λ floor. floor.0 ≤ PRICE_LIMIT) }
 {
     let Some(floor) = amount_of(text, 6) else {
         return Err(PriceFault::NotNumber);
@@ -65,7 +67,8 @@ pub fn floor_of(text: &[u8]) -> Result<Units, PriceFault>
 /// Fails where the text isn't a number, where it is 0 or negative, past 10^15 units, and where a part
 /// of a unit is left.
 pub fn budget_of(text: &[u8]) -> Result<Units, PriceFault>
-    ensures { result ≡ budget_of_text text.now }
+    ensures value { result ≡ budget_of_text text.now }
+    ensures range { IfOk result (λ budget. (1 ≤ budget.0) × (budget.0 ≤ BUDGET_LIMIT)) }
 {
     let Some(budget) = amount_of(text, 9) else {
         return Err(PriceFault::NotNumber);

@@ -11,7 +11,7 @@ const CAP: u64 = 10_000_000_000_000_000;
 /// So many zeros behind a digit other than 0 reach the cap.
 const ENOUGH: u128 = 16;
 
-/// Above the length of each text: an exponent is counted no further.
+/// Above the length of each text and above each number of 64 bits: an exponent or a whole number is counted no further.
 const FAR: u128 = 100_000_000_000_000_000_000;
 
 /// A number's value in units.
@@ -80,15 +80,15 @@ fn value_of(first: &[u8], second: &[u8]) -> u64
     value_after(value_after(0, first), second)
 }
 
-// By how many places an exponent moves the point, up to `FAR`.
-fn places_of(exponent: &[u8]) -> u128
-    ensures { result ≡ min (digits_value exponent.now) FAR }
+// The number that digits stand for, up to `FAR`.
+pub(crate) fn far_value_of(digits: &[u8]) -> u128
+    ensures { result ≡ min (digits_value digits.now) FAR }
 {
-    let mut places: u128 = 0;
-    for byte in exponent {
-        places = (10 * places + u128::from(digit_of(*byte))).min(FAR);
+    let mut value: u128 = 0;
+    for byte in digits {
+        value = (10 * value + u128::from(digit_of(*byte))).min(FAR);
     }
-    places
+    value
 }
 
 // The value with zeros appended, up to the cap.
@@ -125,7 +125,7 @@ fn shifted(numeral: &Numeral<'_>, places: u128) -> Amount
 {
     let whole = numeral.whole;
     let fraction = numeral.fraction;
-    let moved = places_of(numeral.exponent);
+    let moved = far_value_of(numeral.exponent);
     let reach = moved_point(whole.len() as u128 + places, moved, numeral.lowers);
     let kept_whole = reach.min(whole.len() as u128);
     let kept_fraction = (reach - kept_whole).min(fraction.len() as u128);

@@ -8,8 +8,8 @@ use Rattle.adx_units.proofs.Faults.{counted, zero_numerator, exact_units, second
 use Rattle.adx_units.proofs.price.budget_of.Goals as goal
 use Rattle.adx_units.proofs.price.budget_of.Goals.{then-budget-via-then-budget, then-budget-via-else-budget+then-is_zero}
 
-pub returns-then-budget : goal.returns-then-budget
-returns-then-budget c =
+pub returns-then-budget-clause-value : goal.returns-then-budget-clause-value
+returns-then-budget-clause-value c =
     let t : List ℕ = c.args.text.now in
     let number : is_number t ≡ true = c.in-Some.ensures.0 in
     let minus : c.in-Some.budget.minus ≡ has_minus t = c.in-Some.ensures.1 in
@@ -21,24 +21,24 @@ returns-then-budget c =
     ] in
     second_holds (is_number t) (has_minus t || eqb (numerator t) 0) _ _ _ number test
 
-pub returns-then-passes : goal.returns-then-passes
-returns-then-passes c =
+pub returns-then-passes-clause-value : goal.returns-then-passes-clause-value
+returns-then-passes-clause-value c =
     let t : List ℕ = c.args.text.now in
     let counts = counted t (10 ^ 9) c.in-Some.budget.units c.in-Some.budget.rest c.in-Some.ensures.2 c.in-Some.ensures.3 in
     let some : (has_minus t || eqb (numerator t) 0) ≡ false = or_from (has_minus t) (eqb (numerator t) 0) (sym c.in-Some.ensures.1 ∙ c.if-budget.false) (sym (zero_numerator t (10 ^ 9) c.in-Some.budget.units c.in-Some.budget.rest (omega arith) counts) ∙ sym c.is_zero.ensures ∙ c.if-is_zero.false) in
     let large : ltb (10 ^ 15 * denominator t) (numerator t * 10 ^ 9) ≡ true = sym (passes_is (numerator t * 10 ^ 9) (denominator t) c.in-Some.budget.units CAP (10 ^ 15) c.in-Some.budget.rest (omega arith) counts) ∙ sym c.passes.ensures ∙ c.if-passes.true in
     third_holds (is_number t) (has_minus t || eqb (numerator t) 0) (ltb (10 ^ 15 * denominator t) (numerator t * 10 ^ 9)) _ _ _ _ c.in-Some.ensures.0 some large
 
-pub returns-then-budget-2 : goal.returns-then-budget-2
-returns-then-budget-2 c =
+pub returns-then-budget-2-clause-value : goal.returns-then-budget-2-clause-value
+returns-then-budget-2-clause-value c =
     let t : List ℕ = c.args.text.now in
     let counts = counted t (10 ^ 9) c.in-Some.budget.units c.in-Some.budget.rest c.in-Some.ensures.2 c.in-Some.ensures.3 in
     let some : (has_minus t || eqb (numerator t) 0) ≡ false = or_from (has_minus t) (eqb (numerator t) 0) (sym c.in-Some.ensures.1 ∙ c.if-budget.false) (sym (zero_numerator t (10 ^ 9) c.in-Some.budget.units c.in-Some.budget.rest (omega arith) counts) ∙ sym c.is_zero.ensures ∙ c.if-is_zero.false) in
     let small : ltb (10 ^ 15 * denominator t) (numerator t * 10 ^ 9) ≡ false = sym (passes_is (numerator t * 10 ^ 9) (denominator t) c.in-Some.budget.units CAP (10 ^ 15) c.in-Some.budget.rest (omega arith) counts) ∙ sym c.passes.ensures ∙ c.if-passes.false in
     fourth_holds (is_number t) (has_minus t || eqb (numerator t) 0) (ltb (10 ^ 15 * denominator t) (numerator t * 10 ^ 9)) _ _ _ _ _ _ c.in-Some.ensures.0 some small (sym c.in-Some.ensures.3 ∙ c.if-budget-2.true)
 
-pub returns : goal.returns
-returns c =
+pub returns-clause-value : goal.returns-clause-value
+returns-clause-value c =
     let t : List ℕ = c.args.text.now in
     let counts = counted t (10 ^ 9) c.in-Some.budget.units c.in-Some.budget.rest c.in-Some.ensures.2 c.in-Some.ensures.3 in
     let some : (has_minus t || eqb (numerator t) 0) ≡ false = or_from (has_minus t) (eqb (numerator t) 0) (sym c.in-Some.ensures.1 ∙ c.if-budget.false) (sym (zero_numerator t (10 ^ 9) c.in-Some.budget.units c.in-Some.budget.rest (omega arith) counts) ∙ sym c.is_zero.ensures ∙ c.if-is_zero.false) in

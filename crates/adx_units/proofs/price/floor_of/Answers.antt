@@ -6,8 +6,8 @@ use Rattle.adx_units.proofs.Faults.{counted, zero_numerator, floor_passes, floor
 use Rattle.adx_units.proofs.price.floor_of.Goals as goal
 use Rattle.adx_units.proofs.price.floor_of.Goals.{else-floor-via-then-floor+else-not-is_zero, else-floor-via-else-floor}
 
-pub returns-then-units-gt-PRICE_LIMIT : goal.returns-then-units-gt-PRICE_LIMIT
-returns-then-units-gt-PRICE_LIMIT c =
+pub returns-then-units-gt-PRICE_LIMIT-clause-value : goal.returns-then-units-gt-PRICE_LIMIT-clause-value
+returns-then-units-gt-PRICE_LIMIT-clause-value c =
     let t : List ℕ = c.args.text.now in
     let counts = counted t (10 ^ 6) c.in-Some.floor.units c.in-Some.floor.rest c.in-Some.ensures.2 c.in-Some.ensures.3 in
     let some : (has_minus t && not (eqb (numerator t) 0)) ≡ false = elim c.else-floor.branch [
@@ -17,8 +17,8 @@ returns-then-units-gt-PRICE_LIMIT c =
     ] in
     third_holds (is_number t) (has_minus t && not (eqb (numerator t) 0)) (ltb (10 ^ 12) (floor_units t)) _ _ _ _ c.in-Some.ensures.0 some (floor_passes t c.in-Some.floor.units (10 ^ 12) c.rounded_up-units.result c.in-Some.floor.rest (omega arith) c.rounded_up-units.ensures counts c.if-units-gt-PRICE_LIMIT.true)
 
-pub returns : goal.returns
-returns c =
+pub returns-clause-value : goal.returns-clause-value
+returns-clause-value c =
     let t : List ℕ = c.args.text.now in
     let counts = counted t (10 ^ 6) c.in-Some.floor.units c.in-Some.floor.rest c.in-Some.ensures.2 c.in-Some.ensures.3 in
     let some : (has_minus t && not (eqb (numerator t) 0)) ≡ false = elim c.else-floor.branch [

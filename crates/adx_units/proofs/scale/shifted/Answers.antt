@@ -12,7 +12,7 @@ returns-clause-units c =
     let reach : ℕ = c.moved_point-reach.result in
     let kw : ℕ = c.min-kept_whole.result in
     let kf : ℕ = c.min-kept_fraction.result in
-    let stands = reaches (length n.whole.now) (length n.fraction.now) c.args.places e FAR c.places_of-moved.result reach kw kf n.lowers c.places_of-moved.ensures c.moved_point-reach.ensures (omega arith) c.min-kept_whole.ensures c.min-kept_fraction.ensures in
+    let stands = reaches (length n.whole.now) (length n.fraction.now) c.args.places e FAR c.far_value_of-moved.result reach kw kf n.lowers c.far_value_of-moved.ensures c.moved_point-reach.ensures (omega arith) c.min-kept_whole.ensures c.min-kept_fraction.ensures in
     let digits : c.value_of.result ≡ min (digits_value (take kw n.whole.now ++ take kf n.fraction.now)) CAP = c.value_of.ensures ∙ ap₂ (λ a b. min (digits_value (a ++ b)) CAP) c.split_at.ensures.front c.split_at-2.ensures.front in
     c.with_zeros.ensures ∙ units_reached n.whole.now n.fraction.now (cond n.lowers 0 e) c.args.places (cond n.lowers e 0) FAR reach kw kf (reach - kw - kf) c.value_of.result CAP c.requires.digits stands (omega arith) digits
 
@@ -23,6 +23,6 @@ returns-clause-rest c =
     let reach : ℕ = c.moved_point-reach.result in
     let kw : ℕ = c.min-kept_whole.result in
     let kf : ℕ = c.min-kept_fraction.result in
-    let stands = reaches (length n.whole.now) (length n.fraction.now) c.args.places e FAR c.places_of-moved.result reach kw kf n.lowers c.places_of-moved.ensures c.moved_point-reach.ensures (omega arith) c.min-kept_whole.ensures c.min-kept_fraction.ensures in
+    let stands = reaches (length n.whole.now) (length n.fraction.now) c.args.places e FAR c.far_value_of-moved.result reach kw kf n.lowers c.far_value_of-moved.ensures c.moved_point-reach.ensures (omega arith) c.min-kept_whole.ensures c.min-kept_fraction.ensures in
     let digits : c.value_of-2.result ≡ min (digits_value (drop kw n.whole.now ++ drop kf n.fraction.now)) CAP = c.value_of-2.ensures ∙ ap₂ (λ a b. min (digits_value (a ++ b)) CAP) c.split_at.ensures.back c.split_at-2.ensures.back in
     ap not (rest_reached n.whole.now n.fraction.now (cond n.lowers 0 e) c.args.places (cond n.lowers e 0) FAR reach kw kf (reach - kw - kf) c.value_of-2.result CAP c.requires.digits stands (omega arith) digits)

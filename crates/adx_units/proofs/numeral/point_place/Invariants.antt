@@ -1,7 +1,0 @@
--- No byte before i passes.
-use Rattle.std.proofs.Common.{◌≡◌, ℕ, ◌<◌, false, get_or}
-use Rattle.adx_units.specs.Number.{is_point}
-use Rattle.adx_units.proofs.numeral.point_place.Given as goal
-
-abbrev pub invariant-loop-i : goal.invariant-loop-i
-invariant-loop-i l = (k : ℕ) → k < l.i → is_point (get_or l.text k 0) ≡ false

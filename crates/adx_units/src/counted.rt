@@ -1,0 +1,37 @@
+ghost use Rattle.std.specs.Prelude.{◌≡◌, ℕ, Bool, List, Option, length};
+
+/// A value that stands for a list that only grows, a number of faults and a part that never changes,
+/// as a desk stands for its history, its disk's faults and the roster that it was opened with.
+pub trait Counted {
+    /// One item of the list.
+    type Item;
+
+    /// What stays the same for as long as the value is shared.
+    type Fixed;
+
+    /// What is kept of one call on the value: the call, its outcome, and the item that it added.
+    type Turn;
+
+    // The items, the first first.
+    ghost items: { Self → List Self.Item };
+
+    // How many faults there were.
+    ghost fault_count: { Self → ℕ };
+
+    // The part that doesn't change.
+    ghost fixed: { Self → Self.Fixed };
+
+    // The item that a turn adds to the list, if any.
+    ghost adds: { Self.Turn → Option Self.Item };
+
+    // Whether a turn met a fault that is counted.
+    ghost is_fault: { Self.Turn → Bool };
+
+    /// How many items the list has.
+    fn count(&self) -> u64
+        ensures items { result ≡ length (items self.now) };
+
+    /// How many faults there were; at 2^64 - 1 the number stays.
+    fn faults(&self) -> u64
+        ensures faults { result ≡ fault_count self.now };
+}
