@@ -1,6 +1,7 @@
 ghost use Rattle.std.specs.Prelude.{◌≡◌, ◌≤◌, ◌==◌, ℕ, [], length, min, take, IfOk, if◌then◌else◌};
 
 use crate::failed::Failed;
+use crate::line_buffer::copy_front;
 use crate::source::Source;
 use adx_units::OutOfMemory;
 use std::alloc::Global;
@@ -57,8 +58,8 @@ impl MemorySource {
 }
 
 impl Source for MemorySource {
-    ghost use Rattle.std.specs.Prelude.{◌≡◌, ◌≤◌, ◌++◌, length, min, take, drop, IfOk, OnErr, Ok, Err, Some, if◌then◌else◌};
-    ghost use Rattle.adx_io.specs.Streams.{Moves, HasCause};
+    ghost use Rattle.std.specs.Prelude.{◌≡◌, ◌≤◌, ◌++◌, [], length, min, take, drop, IfOk, OnErr, Ok, Err, Some, if◌then◌else◌};
+    ghost use Rattle.adx_io.specs.Streams.{Moves, HasCause, own_place};
     ghost use Rattle.adx_io.specs.Fakes.{SourceState, fails_now, failure, moved_of, after_call, after_fault};
 
     ghost faults = { λ s. s.habits.faults };
@@ -69,6 +70,7 @@ impl Source for MemorySource {
         ensures count { IfOk result (λ n. n ≤ length out.old) }
         ensures moved { Moves (Some self.old.tape) (Some self.new.tape) out.new result }
         ensures cause { HasCause self.old.habits.faults self.new.habits.faults result }
+        ensures same { own_place ≡ own_place }
         ensures amount { result ≡ (if fails_now self.old.habits then failure else Ok (min (moved_of self.old.habits (length out.old)) (length self.old.tape.left))) }
         ensures habits { self.new.habits ≡ (if fails_now self.old.habits then after_fault self.old.habits else after_call self.old.habits) }
     {
@@ -85,14 +87,6 @@ impl Source for MemorySource {
         self.at += count;
         Ok(count)
     }
-}
-
-fn copy_front(out: &mut [u8], from: &[u8], count: usize)
-    requires room { count ≤ length out.old }
-    requires there { count ≤ length from.now }
-    ensures { take count out.new ≡ take count from.now }
-{
-    out[..count].copy_from_slice(&from[..count]);
 }
 
 /// How many of so many bytes one call with this step moves.
