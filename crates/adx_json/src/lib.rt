@@ -26,4 +26,4 @@ pub use fault::JsonFault;
 pub use law::one_tree;
 pub use reader::read;
 pub use tree::{Json, Member};
-pub use writing::write;
+pub use writing::{push_comma, push_number, push_value, write};

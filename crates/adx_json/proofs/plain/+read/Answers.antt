@@ -100,7 +100,7 @@ members_at-returns-in_err-member-clause-only t c form =
 pub members_at-returns-then-has_name-clause-only : goal.members_at-returns-then-has_name-clause-only
 members_at-returns-then-has_name-clause-only t c form =
     let m = c.in_ok-member.member in
-    let name : c.as_bytes.result.now ≡ (member_of m).0 = c.as_bytes.ensures ∙ name_is m in
+    let name : c.as_bytes.result.now ≡ (member_of m).0 = c.as_bytes.ensures.value ∙ name_is m in
     let asked : c.has_name.result ≡ list_any (has_name_of (member_of m).0) c.members.found.items =
     c.has_name.ensures ∙ ap (λ n. list_any (has_name_of n) c.deref.result.now) name ∙ ap (list_any (has_name_of (member_of m).0)) c.deref.ensures.value in
     let found = repeats c.members.found.items (member_of m).0 (sym asked ∙ c.if-has_name.true) in
@@ -109,7 +109,7 @@ members_at-returns-then-has_name-clause-only t c form =
 pub members_at-returns-in-Some-after-clause-found : goal.members_at-returns-in-Some-after-clause-found
 members_at-returns-in-Some-after-clause-found t c =
     let m = c.in_ok-member.member in
-    let name : c.as_bytes.result.now ≡ (member_of m).0 = c.as_bytes.ensures ∙ name_is m in
+    let name : c.as_bytes.result.now ≡ (member_of m).0 = c.as_bytes.ensures.value ∙ name_is m in
     let asked : c.has_name.result ≡ list_any (has_name_of (member_of m).0) c.members.found.items =
     c.has_name.ensures ∙ ap (λ n. list_any (has_name_of n) c.deref.result.now) name ∙ ap (list_any (has_name_of (member_of m).0)) c.deref.ensures.value in
     let whole : members_view c.push.new.self.items ≡ members_view c.members.found.items ++ member_of m ∷ [] =
@@ -125,7 +125,7 @@ members_at-returns-in_default-after-2-clause-only t c form =
 pub members_at-members-preserved : goal.members_at-members-preserved
 members_at-members-preserved t c =
     let m = c.in_ok-member.member in
-    let name : c.as_bytes.result.now ≡ (member_of m).0 = c.as_bytes.ensures ∙ name_is m in
+    let name : c.as_bytes.result.now ≡ (member_of m).0 = c.as_bytes.ensures.value ∙ name_is m in
     let asked : c.has_name.result ≡ list_any (has_name_of (member_of m).0) c.members.found.items =
     c.has_name.ensures ∙ ap (λ n. list_any (has_name_of n) c.deref.result.now) name ∙ ap (list_any (has_name_of (member_of m).0)) c.deref.ensures.value in
     let whole : members_view c.push.new.self.items ≡ members_view c.members.found.items ++ member_of m ∷ [] =

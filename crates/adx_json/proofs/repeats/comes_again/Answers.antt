@@ -13,5 +13,5 @@ returns-in-Some c =
       member = m;
       later = later;
       whole = sym c.split_at.ensures.back ∙ c.in-Some.ensures.cases.0;
-      is = c.has_name.ensures ∙ ap (λ n. list_any (has_name_of n) later) (c.as_bytes.ensures ∙ name_is m) ∙ has_name_list later (member_of m).0;
+      is = c.has_name.ensures ∙ ap (λ n. list_any (has_name_of n) later) (c.as_bytes.ensures.value ∙ name_is m) ∙ has_name_list later (member_of m).0;
     }

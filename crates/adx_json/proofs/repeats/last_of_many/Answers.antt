@@ -12,52 +12,16 @@ pub members-preserved-in-Continue-branch-3 : goal.members-preserved-in-Continue-
 members-preserved-in-Continue-branch-3 c =
     let m = c.in-Some.member in
     let name = string_bytes c.in_ok-name.name in
-    let named : name ≡ (member_of m).0 = c.in_ok-name.ensures.ok ∙ c.as_str.ensures ∙ name_is m in
+    let named : name ≡ (member_of m).0 = c.in_ok-name.ensures.ok ∙ c.as_str.ensures.value ∙ name_is m in
     let new : contains_text c.members.seen name ≡ false = not-true (contains_text c.members.seen name) (sym c.in_ok-is_new.ensures.added ∙ c.if-is_new.true) in
     let update : (q : List ℕ) → contains_text c.insert.new.self q ≡ cond (bytes_eq name q) true (contains_text c.members.seen q) = btree_set_updates_text name c.members.seen c.insert.new.self true c.in_ok-is_new.ensures.updates in
     rw c.in_ok-push.ensures.items (many_kept c.args.members.items c.members.left.items c.pop.new.self.items c.members.kept.items m name (contains_text c.members.seen) (contains_text c.insert.new.self) c.members.invariant c.in-Some.ensures.items named new update)
-
-pub members-preserved-else-is_new : goal.members-preserved-else-is_new
-members-preserved-else-is_new c =
-    let m = c.in-Some.member in
-    let name = string_bytes c.in_ok-name.name in
-    let named : name ≡ (member_of m).0 = c.in_ok-name.ensures.ok ∙ c.as_str.ensures ∙ name_is m in
-    let met : contains_text c.members.seen name ≡ true = not-false (contains_text c.members.seen name) (sym c.in_ok-is_new.ensures.added ∙ c.if-is_new.false) in
-    let update : (q : List ℕ) → contains_text c.insert.new.self q ≡ cond (bytes_eq name q) true (contains_text c.members.seen q) = btree_set_updates_text name c.members.seen c.insert.new.self true c.in_ok-is_new.ensures.updates in
-    many_dropped c.args.members.items c.members.left.items c.pop.new.self.items c.members.kept.items m name (contains_text c.members.seen) (contains_text c.insert.new.self) c.members.invariant c.in-Some.ensures.items named met update
-
-pub members-preserved-else-is_new-2 : goal.members-preserved-else-is_new-2
-members-preserved-else-is_new-2 c =
-    let m = c.in-Some.member in
-    let name = string_bytes c.in_ok-name.name in
-    let named : name ≡ (member_of m).0 = c.in_ok-name.ensures.ok ∙ c.as_str.ensures ∙ name_is m in
-    let met : contains_text c.members.seen name ≡ true = not-false (contains_text c.members.seen name) (sym c.in_ok-is_new.ensures.added ∙ c.if-is_new.false) in
-    let update : (q : List ℕ) → contains_text c.insert.new.self q ≡ cond (bytes_eq name q) true (contains_text c.members.seen q) = btree_set_updates_text name c.members.seen c.insert.new.self true c.in_ok-is_new.ensures.updates in
-    many_dropped c.args.members.items c.members.left.items c.pop.new.self.items c.members.kept.items m name (contains_text c.members.seen) (contains_text c.insert.new.self) c.members.invariant c.in-Some.ensures.items named met update
-
-pub members-preserved-else-is_new-3 : goal.members-preserved-else-is_new-3
-members-preserved-else-is_new-3 c =
-    let m = c.in-Some.member in
-    let name = string_bytes c.in_ok-name.name in
-    let named : name ≡ (member_of m).0 = c.in_ok-name.ensures.ok ∙ c.as_str.ensures ∙ name_is m in
-    let met : contains_text c.members.seen name ≡ true = not-false (contains_text c.members.seen name) (sym c.in_ok-is_new.ensures.added ∙ c.if-is_new.false) in
-    let update : (q : List ℕ) → contains_text c.insert.new.self q ≡ cond (bytes_eq name q) true (contains_text c.members.seen q) = btree_set_updates_text name c.members.seen c.insert.new.self true c.in_ok-is_new.ensures.updates in
-    many_dropped c.args.members.items c.members.left.items c.pop.new.self.items c.members.kept.items m name (contains_text c.members.seen) (contains_text c.insert.new.self) c.members.invariant c.in-Some.ensures.items named met update
-
-pub members-preserved-else-is_new-4 : goal.members-preserved-else-is_new-4
-members-preserved-else-is_new-4 c =
-    let m = c.in-Some.member in
-    let name = string_bytes c.in_ok-name.name in
-    let named : name ≡ (member_of m).0 = c.in_ok-name.ensures.ok ∙ c.as_str.ensures ∙ name_is m in
-    let met : contains_text c.members.seen name ≡ true = not-false (contains_text c.members.seen name) (sym c.in_ok-is_new.ensures.added ∙ c.if-is_new.false) in
-    let update : (q : List ℕ) → contains_text c.insert.new.self q ≡ cond (bytes_eq name q) true (contains_text c.members.seen q) = btree_set_updates_text name c.members.seen c.insert.new.self true c.in_ok-is_new.ensures.updates in
-    many_dropped c.args.members.items c.members.left.items c.pop.new.self.items c.members.kept.items m name (contains_text c.members.seen) (contains_text c.insert.new.self) c.members.invariant c.in-Some.ensures.items named met update
 
 pub members-preserved : goal.members-preserved
 members-preserved c =
     let m = c.in-Some.member in
     let name = string_bytes c.in_ok-name.name in
-    let named : name ≡ (member_of m).0 = c.in_ok-name.ensures.ok ∙ c.as_str.ensures ∙ name_is m in
+    let named : name ≡ (member_of m).0 = c.in_ok-name.ensures.ok ∙ c.as_str.ensures.value ∙ name_is m in
     let met : contains_text c.members.seen name ≡ true = not-false (contains_text c.members.seen name) (sym c.in_ok-is_new.ensures.added ∙ c.if-is_new.false) in
     let update : (q : List ℕ) → contains_text c.insert.new.self q ≡ cond (bytes_eq name q) true (contains_text c.members.seen q) = btree_set_updates_text name c.members.seen c.insert.new.self true c.in_ok-is_new.ensures.updates in
     many_dropped c.args.members.items c.members.left.items c.pop.new.self.items c.members.kept.items m name (contains_text c.members.seen) (contains_text c.insert.new.self) c.members.invariant c.in-Some.ensures.items named met update

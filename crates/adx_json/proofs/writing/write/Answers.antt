@@ -7,6 +7,6 @@ use Rattle.adx_json.proofs.Spelled.{spelling_is}
 use Rattle.adx_json.proofs.writing.write.Goals as goal
 
 pub returns-clause-back : goal.returns-clause-back
-returns-clause-back c = λ good texts low.
-    let spelled = c.from.ensures ∙ c.in_ok-push_value.ensures ∙ ap (λ b. b ++ spelling (tree_of c.args.tree.now)) c.new-out.ensures.bytes in
-    subst (λ t. IsJson t (tree_of c.args.tree.now)) (sym spelled) (spelling_is (tree_of c.args.tree.now) good texts low)
+returns-clause-back c = λ good low.
+    let spelled = c.from.ensures ∙ c.in_ok-push_value.ensures.spelled ∙ ap (λ b. b ++ spelling (tree_of c.args.tree.now)) c.new-out.ensures.bytes in
+    subst (λ t. IsJson t (tree_of c.args.tree.now)) (sym spelled) (spelling_is (tree_of c.args.tree.now) good c.in_ok-push_value.ensures.utf8 low)
