@@ -5,12 +5,12 @@ use Rattle.std.proofs.lemmas.List.{length-map}
 use Rattle.std.proofs.lemmas.List.Elements.{All-map}
 use Rattle.std.proofs.lemmas.List.Quantifiers.{position-Some}
 use Rattle.std.proofs.lemmas.Option.{same_Some, cond_some}
-use Rattle.adx_units.specs.Number.{is_whole, is_short_whole}
+use Rattle.adx_units.specs.Number.{is_whole, is_whole_up_to, digits_value}
 use Rattle.adx_units.specs.Money.{units, floor_of, price_of}
 use Rattle.adx_units.specs.declared.units.Units.{Units}
 use Rattle.adx_units.specs.declared.price.PriceFault.{PriceFault}
 use Rattle.adx_units.specs.declared.offer.Offer.{Offer}
-use Rattle.adx_units.proofs.Digits.{short_whole-small}
+use Rattle.adx.specs.declared.ask_form.TheConstants.{LATEST_MOMENT}
 use Rattle.adx_json.specs.Tree.{Tree, text, number}
 use Rattle.adx_json.specs.Plain.{IsPlain}
 use Rattle.day_machine.specs.declared.ask.Ask.{Ask}
@@ -231,15 +231,13 @@ form_of o bids = record { id = o.id; imp = o.imp; bidfloor = o.bidfloor; seat = 
 
 form_sound : (o : AskOutline) (bids : List BidForm) → is_outline o ≡ true → length o.bids ≡ length bids → IsAsk (form_of o bids)
 form_sound o bids h same =
-    let a = and_parts (is_id o.id) (is_id o.imp && (is_short_whole o.now && (is_floor o.bidfloor && nat_le (length o.bids) 64))) h in
-    let b = and_parts (is_id o.imp) (is_short_whole o.now && (is_floor o.bidfloor && nat_le (length o.bids) 64)) a.1 in
-    let c = and_parts (is_short_whole o.now) (is_floor o.bidfloor && nat_le (length o.bids) 64) b.1 in
+    let a = and_parts (is_id o.id) (is_id o.imp && (is_whole_up_to LATEST_MOMENT o.now && (is_floor o.bidfloor && nat_le (length o.bids) 64))) h in
+    let b = and_parts (is_id o.imp) (is_whole_up_to LATEST_MOMENT o.now && (is_floor o.bidfloor && nat_le (length o.bids) 64)) a.1 in
+    let c = and_parts (is_whole_up_to LATEST_MOMENT o.now) (is_floor o.bidfloor && nat_le (length o.bids) 64) b.1 in
     let d = and_parts (is_floor o.bidfloor) (nat_le (length o.bids) 64) c.1 in
-    let now = and_parts (is_whole o.now) (nat_le (length o.now) 15) c.0 in
     record {
       few_bids = subst (λ (n : ℕ). n ≤ 64) same (leb-true (length o.bids) 64 d.1);
-      whole = now.0;
-      digits = leb-true (length o.now) 15 now.1;
+      now = c.0;
       bidfloor = floor_is o.bidfloor d.0;
     }
 
@@ -264,12 +262,10 @@ ask_sound campaigns t a h =
 
 form_complete : (f : AskForm) (request : Tree) (trees : List Tree) → IsAsk f → is_id f.id ≡ true → is_id f.imp ≡ true → length trees ≡ length f.bids → is_outline (outline_by request trees f) ≡ true
 form_complete f request trees good id imp many =
-    let whole : nat_le (length f.now) 15 ≡ true = le-leb (length f.now) 15 good.digits in
     let few : nat_le (length trees) 64 ≡ true = ap (λ (n : ℕ). nat_le n 64) many ∙ le-leb (length f.bids) 64 good.few_bids in
-    ap (λ (b : Bool). b && (is_id f.imp && (is_short_whole f.now && (is_floor f.bidfloor && nat_le (length trees) 64)))) id
-    ∙ ap (λ (b : Bool). b && (is_short_whole f.now && (is_floor f.bidfloor && nat_le (length trees) 64))) imp
-    ∙ ap (λ (b : Bool). (b && nat_le (length f.now) 15) && (is_floor f.bidfloor && nat_le (length trees) 64)) good.whole
-    ∙ ap (λ (b : Bool). b && (is_floor f.bidfloor && nat_le (length trees) 64)) whole
+    ap (λ (b : Bool). b && (is_id f.imp && (is_whole_up_to LATEST_MOMENT f.now && (is_floor f.bidfloor && nat_le (length trees) 64)))) id
+    ∙ ap (λ (b : Bool). b && (is_whole_up_to LATEST_MOMENT f.now && (is_floor f.bidfloor && nat_le (length trees) 64))) imp
+    ∙ ap (λ (b : Bool). b && (is_floor f.bidfloor && nat_le (length trees) 64)) good.now
     ∙ ap (λ (b : Bool). b && nat_le (length trees) 64) (is_floor_of f.bidfloor good.bidfloor)
     ∙ few
 
@@ -328,9 +324,7 @@ pub ask_well_formed : (campaigns : List Campaign) (f : AskForm) → length campa
 ask_well_formed campaigns f few good =
     let offer = offer_of campaigns (floor_units_of f.bidfloor) f.seat in
     let is = bid_offer_is campaigns (floor_units_of f.bidfloor) f.seat in
-    let whole : nat_le (length f.now) 15 ≡ true = le-leb (length f.now) 15 good.digits in
-    let short : is_short_whole f.now ≡ true = ap (λ (b : Bool). b && nat_le (length f.now) 15) good.whole ∙ whole in
-    let moment = short_whole-small f.now short in
+    let moment = leb-true (digits_value f.now) LATEST_MOMENT (and_parts (is_whole f.now) (nat_le (digits_value f.now) LATEST_MOMENT) good.now).1 in
     let many = length-map f.bids offer in
     let few_bids = good.few_bids in (
       record {

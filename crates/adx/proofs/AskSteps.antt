@@ -2,7 +2,8 @@
 use Rattle.std.proofs.Common.{◌≡◌, ℕ, ◌≤◌, List, [], ◌∷◌, map, length, Bool, true, false, Option, Some, None, refl, sym, ap, ◌∙◌, if◌then◌else◌, le-leb}
 use Rattle.std.specs.Prelude.{option_map}
 use Rattle.sha2.specs.Sha256.{sha256}
-use Rattle.adx_units.specs.Number.{is_short_whole, short_whole_of, digits_value}
+use Rattle.adx_units.specs.Number.{is_whole_up_to, whole_up_to, digits_value}
+use Rattle.adx.specs.declared.ask_form.TheConstants.{LATEST_MOMENT}
 use Rattle.adx_units.specs.declared.offer.Offer.{Offer}
 use Rattle.adx_json.specs.Spelling.{spelling}
 use Rattle.day_machine.specs.declared.ask.Ask.{Ask}
@@ -65,13 +66,13 @@ some_if : (b : Bool) (x y : ℕ) → (if b then Some x else None) ≡ Some y →
 some_if true x y e = (refl, cc)
 some_if false x y e = absurd (cc)
 
-short_some : (t : List ℕ) (n : ℕ) → short_whole_of t ≡ Some n → (is_short_whole t ≡ true) × (n ≡ digits_value t)
-short_some t n e = some_if (is_short_whole t) (digits_value t) n e
+whole_some : (most : ℕ) (t : List ℕ) (n : ℕ) → whole_up_to most t ≡ Some n → (is_whole_up_to most t ≡ true) × (n ≡ digits_value t)
+whole_some most t n e = some_if (is_whole_up_to most t) (digits_value t) n e
 
 -- the tests of an outline that a day takes, and what its moment and floor are
-pub taken : (o : AskOutline) (moment floor : ℕ) → short_whole_of o.now ≡ Some moment → (if is_floor o.bidfloor then Some (floor_units_of o.bidfloor) else None) ≡ Some floor → length o.bids ≤ 64 → is_id o.id ≡ true → is_id o.imp ≡ true → (is_outline o ≡ true) × (moment ≡ digits_value o.now) × (floor ≡ floor_units_of o.bidfloor)
+pub taken : (o : AskOutline) (moment floor : ℕ) → whole_up_to LATEST_MOMENT o.now ≡ Some moment → (if is_floor o.bidfloor then Some (floor_units_of o.bidfloor) else None) ≡ Some floor → length o.bids ≤ 64 → is_id o.id ≡ true → is_id o.imp ≡ true → (is_outline o ≡ true) × (moment ≡ digits_value o.now) × (floor ≡ floor_units_of o.bidfloor)
 taken o moment floor m f few id imp =
-    let short = short_some o.now moment m in
+    let short = whole_some LATEST_MOMENT o.now moment m in
     let fl = some_if (is_floor o.bidfloor) (floor_units_of o.bidfloor) floor f in
     (rw (id, imp, short.0, fl.0, le-leb (length o.bids) 64 few) refl, short.1, fl.1)
 

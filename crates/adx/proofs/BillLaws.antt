@@ -2,7 +2,8 @@
 use Rattle.std.proofs.Common.{◌≡◌, ℕ, ◌<◌, ◌≤◌, List, [], ◌∷◌, length, Bool, true, ◌&&◌, if◌then◌else◌, nat_le, nat_lt, Option, Some, None, bytes_eq, codes, refl, sym, ap, subst, ◌∙◌}
 use Rattle.std.proofs.lemmas.Bool.{and_parts, leb-true, le-leb, ltb-true, lt-ltb}
 use Rattle.std.proofs.lemmas.Option.{same_Some, cond_some}
-use Rattle.adx_units.specs.Number.{is_whole, is_short_whole, digits_value, short_whole_of}
+use Rattle.adx_units.specs.Number.{is_whole_up_to, digits_value}
+use Rattle.adx.specs.declared.bill.TheConstants.{LAST_AWARD}
 use Rattle.adx_json.specs.Tree.{Tree, text, number}
 use Rattle.adx.specs.declared.bill.Bill.{Bill}
 use Rattle.adx.specs.Parts.{◌>>=◌, fields_in, end_in, next_text_in, next_number_in}
@@ -31,36 +32,20 @@ parts_complete : (f : BillForm) → bill_in (bill_tree f) ≡ Some f
 unfolding bill_in
 parts_complete f = refl
 
--- the number of an award
-award_sound : (bid : List ℕ) (n : ℕ) → award_in bid ≡ Some n → (is_whole bid ≡ true) × (length bid ≤ 15) × (digits_value bid < 4294967296) × (digits_value bid ≡ n)
-award_sound bid n h =
-    let whole = bind_some (short_whole_of bid) _ n h in
-    let short = cond_some (is_short_whole bid) (digits_value bid) whole.0 whole.1 in
-    let parts = and_parts (is_whole bid) (nat_le (length bid) 15) short.0 in
-    let small = cond_some (nat_lt whole.0 4294967296) whole.0 n whole.2 in
-    (parts.0, leb-true (length bid) 15 parts.1, subst (λ k. k < 4294967296) (sym short.1) (ltb-true whole.0 4294967296 small.0), short.1 ∙ small.1)
-
-award_complete : (f : BillForm) → IsBill f → award_in f.bid ≡ Some (digits_value f.bid)
-award_complete f good =
-    let short : is_short_whole f.bid ≡ true = ap (λ (b : Bool). b && nat_le (length f.bid) 15) good.whole ∙ le-leb (length f.bid) 15 good.digits in
-    let small : nat_lt (digits_value f.bid) 4294967296 ≡ true = lt-ltb (digits_value f.bid) 4294967296 good.below in
-    ap (λ (b : Bool). (if b then Some (digits_value f.bid) else None) >>= λ (n : ℕ). if nat_lt n 4294967296 then Some n else None) short
-    ∙ ap (λ (b : Bool). if b then Some (digits_value f.bid) else None) small
-
 pub bill_sound : (t : Tree) (b : Bill) → bill_made t ≡ Some b → (f : BillForm) × (t ≡ bill_tree f) × IsBill f × (b ≡ bill_of_form f)
 unfolding bill_made
 bill_sound t b h =
     let f = bind_some (bill_in t) _ b h in
     let n = bind_some (award_in f.0.bid) _ b f.2 in
-    let award = award_sound f.0.bid n.0 n.1 in (
+    let award = cond_some (is_whole_up_to LAST_AWARD f.0.bid) (digits_value f.0.bid) n.0 n.1 in (
       f.0,
       parts_sound t f.0 f.1,
-      record { whole = award.0; digits = award.1; below = award.2 },
-      sym (same_Some (bill_with f.0.auction n.0) b n.2) ∙ ap (bill_with f.0.auction) (sym award.3),
+      record { bid = award.0 },
+      sym (same_Some (bill_with f.0.auction n.0) b n.2) ∙ ap (bill_with f.0.auction) (sym award.1),
     )
 
 pub bill_complete : (f : BillForm) → IsBill f → bill_made (bill_tree f) ≡ Some (bill_of_form f)
 unfolding bill_made
 bill_complete f good =
     ap (λ (o : Option BillForm). o >>= λ (g : BillForm). award_in g.bid >>= λ (n : ℕ). Some (bill_with g.auction n)) (parts_complete f)
-    ∙ ap (λ (o : Option ℕ). o >>= λ (n : ℕ). Some (bill_with f.auction n)) (award_complete f good)
+    ∙ ap (λ (o : Option ℕ). o >>= λ (n : ℕ). Some (bill_with f.auction n)) (ap (λ (b : Bool). if b then Some (digits_value f.bid) else None) good.bid)

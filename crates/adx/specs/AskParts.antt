@@ -2,7 +2,8 @@
 use Rattle.std.specs.Prelude.{ℕ, List, [], ◌∷◌, map, Bool, true, ◌&&◌, length, nat_le, Option, Some, None, option_copied, codes, if◌then◌else◌, is_ok}
 use Rattle.std.specs.Str.{bytes_eq}
 use Rattle.sha2.specs.Sha256.{sha256}
-use Rattle.adx_units.specs.Number.{is_short_whole, digits_value}
+use Rattle.adx_units.specs.Number.{is_whole_up_to, digits_value}
+use Rattle.adx.specs.declared.ask_form.TheConstants.{LATEST_MOMENT}
 use Rattle.adx_units.specs.Money.{floor_of}
 use Rattle.adx_json.specs.Tree.{Tree}
 use Rattle.adx_json.specs.Spelling.{spelling}
@@ -124,7 +125,7 @@ is_floor (Some floor) = is_ok (floor_of floor)
 
 -- the ids, the bids, the moment and the floor are ones that a day takes
 abbrev pub is_outline : AskOutline → Bool
-is_outline o = is_id o.id && (is_id o.imp && (is_short_whole o.now && (is_floor o.bidfloor && nat_le (length o.bids) 64)))
+is_outline o = is_id o.id && (is_id o.imp && (is_whole_up_to LATEST_MOMENT o.now && (is_floor o.bidfloor && nat_le (length o.bids) 64)))
 
 -- the ask that the parts make, before the day settles it
 abbrev pub ask_by : List Campaign → AskOutline → List BidForm → Ask

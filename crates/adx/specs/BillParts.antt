@@ -1,9 +1,10 @@
 -- A bill line's value taken apart into its form; none where it isn't of that form.
-use Rattle.std.specs.Prelude.{ℕ, List, Option, Some, None, codes, if◌then◌else◌, nat_lt}
+use Rattle.std.specs.Prelude.{ℕ, List, Option, Some, None, codes, if◌then◌else◌}
 use Rattle.std.specs.Str.{bytes_eq}
-use Rattle.adx_units.specs.Number.{short_whole_of}
+use Rattle.adx_units.specs.Number.{whole_up_to}
 use Rattle.adx_json.specs.Tree.{Tree}
 use Rattle.adx.specs.declared.bill.Bill.{Bill}
+use Rattle.adx.specs.declared.bill.TheConstants.{LAST_AWARD}
 use Rattle.adx.specs.Parts.{◌>>=◌, fields_in, end_in, next_text_in, next_number_in}
 use Rattle.adx.specs.Forms.{BillForm}
 
@@ -19,9 +20,9 @@ bill_in t = do
   last ← end_in bid.1
   if bytes_eq kind.0 (codes "bill") then Some (bill_form auction.0 bid.0) else None
 
--- the number of an award: a whole number of 1 to 15 digits below 2^32
+-- the number of an award: a whole number below 2^32
 abbrev pub award_in : List ℕ → Option ℕ
-award_in bid = short_whole_of bid >>= λ n. if nat_lt n 4294967296 then Some n else None
+award_in bid = whole_up_to LAST_AWARD bid
 
 abbrev pub bill_with : List ℕ → ℕ → Bill
 bill_with auction award = record { auction = auction; award = award }

@@ -4,7 +4,7 @@ use Rattle.std.specs.Prelude.{◌≡◌, ℕ, ◌<◌, ◌≤◌, List, [], ◌�
 use Rattle.std.specs.List.{position}
 use Rattle.std.specs.Str.{bytes_eq}
 use Rattle.sha2.specs.Sha256.{sha256}
-use Rattle.adx_units.specs.Number.{is_digit, is_whole, digits_value}
+use Rattle.adx_units.specs.Number.{is_digit, is_whole_up_to, digits_value}
 use Rattle.adx_units.specs.Money.{units, price_of, floor_of, budget_of}
 use Rattle.adx_units.specs.declared.units.Units.{Units}
 use Rattle.adx_units.specs.declared.price.PriceFault.{PriceFault}
@@ -16,6 +16,8 @@ use Rattle.adx_json.specs.Plain.{IsPlain}
 use Rattle.day_machine.specs.declared.ask.Ask.{Ask}
 use Rattle.adx.specs.declared.roster.Campaign.{Campaign}
 use Rattle.adx.specs.declared.bill.Bill.{Bill}
+use Rattle.adx.specs.declared.bill.TheConstants.{LAST_AWARD}
+use Rattle.adx.specs.declared.ask_form.TheConstants.{LATEST_MOMENT}
 use Rattle.adx.specs.Lines.{line_limit}
 
 -- an object of these members
@@ -128,9 +130,7 @@ ask_tree f = members ((codes "ask", request_tree f) ∷ (codes "answers", items 
 
 pub record IsAsk (f : AskForm) : Type 0 where
   pub few_bids : length f.bids ≤ 64
-  -- a whole number of 1 to 15 digits
-  pub whole : IsTrue (is_whole f.now)
-  pub digits : length f.now ≤ 15
+  pub now : IsTrue (is_whole_up_to LATEST_MOMENT f.now)
   pub bidfloor : IfSome f.bidfloor (λ floor. IsOk (floor_of floor))
 
 -- the floor of the impression in units; 0 where none is given
@@ -186,10 +186,7 @@ abbrev pub bill_tree : BillForm → Tree
 bill_tree f = members ((codes "notice", text (codes "bill")) ∷ (codes "auction", text f.auction) ∷ (codes "bid", number f.bid) ∷ [])
 
 pub record IsBill (f : BillForm) : Type 0 where
-  -- a whole number of 1 to 15 digits below 2^32
-  pub whole : IsTrue (is_whole f.bid)
-  pub digits : length f.bid ≤ 15
-  pub below : digits_value f.bid < 4294967296
+  pub bid : IsTrue (is_whole_up_to LAST_AWARD f.bid)
 
 -- the line is the spelling of this bill
 pub record IsBillLine (line : List ℕ) (f : BillForm) : Type 0 where

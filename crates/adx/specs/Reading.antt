@@ -1,5 +1,6 @@
 -- What reading one line does to the input, its source and the sink. This project's own.
 use Rattle.std.specs.Prelude.{◌≡◌, ℕ, suc, ◌+◌, List, [], ◌∷◌, ◌++◌, length, Option, Some, None}
+use Rattle.std.specs.Io.KnownBytes.{append_known}
 use Rattle.adx_io.specs.Streams.{Tape}
 use Rattle.adx.specs.declared.reading.Next.{Next}
 use Rattle.adx.specs.Lines.{HasNoNewline, ended, input_limit, InputState, Keeps, unread}
@@ -45,8 +46,7 @@ ToldNext before after (Some old) (Some new) next = ReadsNext before after old ne
 
 -- what the sink took, where it tells that, and then these bytes
 abbrev pub with_more : Option (List ℕ) → List ℕ → Option (List ℕ)
-with_more None bytes = None
-with_more (Some held) bytes = Some (held ++ bytes)
+with_more held bytes = append_known held bytes
 
 -- the sink, where it tells its bytes, took this front of what was to be put, and the rest is still to be put
 pub record Puts (old new : Option (List ℕ)) (before after : List ℕ) : Type 0 where

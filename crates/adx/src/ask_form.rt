@@ -14,7 +14,7 @@ use crate::roster::Campaign;
 use adx_json::{Json, write};
 use adx_units::{
     ADMITTED, Id, Offer, OutOfMemory, PriceFault, Sequence, Text, Units, floor_of, price_of,
-    short_whole_of,
+    whole_up_to,
 };
 use day_machine::Ask;
 use sha2::{Digest, Sha256};
@@ -22,6 +22,9 @@ use std::alloc::Global;
 
 /// How many seconds an award stays open for its bill where nothing else is said.
 const LIFE: u32 = 3_600;
+
+/// The latest moment of an ask line, in seconds.
+const LATEST_MOMENT: u64 = 999_999_999_999_999;
 
 /// A bid that admission refuses.
 fn refused(reason: u16) -> Offer
@@ -160,7 +163,7 @@ struct Head {
 fn head_of(alloc: Global, parts: AskParts<'_>) -> Result<Option<Head>, OutOfMemory>
     ensures { IfOk result (λ head. IsHeadOf (outline_of parts.entry) head) }
 {
-    let Some(moment) = short_whole_of(parts.now.as_bytes()) else {
+    let Some(moment) = whole_up_to(parts.now.as_bytes(), LATEST_MOMENT) else {
         return Ok(None);
     };
     let Some(floor) = floor_units(parts.bidfloor) else {

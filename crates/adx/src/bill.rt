@@ -4,11 +4,11 @@ ghost use Rattle.adx.specs.BillParts.{bill_form, bill_in, award_in, bill_made};
 
 use crate::parts::{end, fields, next_number, next_text};
 use adx_json::Json;
-use adx_units::{OutOfMemory, Text, short_whole_of};
+use adx_units::{OutOfMemory, Text, whole_up_to};
 use std::alloc::Global;
 
-/// How many numbers an award can have.
-const AWARD_NUMBERS: u64 = 4_294_967_296;
+/// The last number that an award can have.
+const LAST_AWARD: u64 = 4_294_967_295;
 
 /// The bill of an award.
 #[derive(Debug, Drop)]
@@ -38,12 +38,8 @@ fn bill_parts(tree: &Json) -> Option<(&Text, &Text)>
 fn award_number(bid: &Text) -> Option<u32>
     ensures { result ≡ award_in bid.now }
 {
-    let number = short_whole_of(bid.as_bytes())?;
-    if number < AWARD_NUMBERS {
-        Some(number as u32)
-    } else {
-        None
-    }
+    let number = whole_up_to(bid.as_bytes(), LAST_AWARD)?;
+    Some(number as u32)
 }
 
 /// The bill of a bill line's value; None where it isn't one.

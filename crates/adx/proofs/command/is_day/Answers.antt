@@ -16,4 +16,4 @@ one_word false (w ∷ []) word text some few there same test = λ e. cc (test, (
 one_word is_word (w ∷ v ∷ words) word text some few there same test = absurd (omega (arith, few))
 
 pub returns-in-len1 : goal.returns-in-len1
-returns-in-len1 c = one_word c.eq.result c.args.words.now c.word-item.result c.as_str.result.now c.in-len1.len_at_least c.in-len1.len_below c.word-item.is c.as_str.ensures c.eq.ensures
+returns-in-len1 c = one_word c.eq.result c.args.words.now c.word-item.result c.as_str.result.now c.in-len1.len_at_least c.in-len1.len_below c.word-item.is c.as_str.ensures.value c.eq.ensures
