@@ -2,8 +2,17 @@
 use Rattle.std.proofs.Common.{◌∙◌, inl, inr, refl, arith, string_bytes}
 use Rattle.adx.specs.declared.ending.Ending.{Ending}
 use Rattle.adx.specs.declared.reading.Next.{Next}
-use Rattle.adx.proofs.Runs.{run_more, run_done, run_past, run_read_fault, run_aborted}
+use Rattle.adx.proofs.Runs.{run_starts, run_more, run_done, run_past, run_read_fault, run_aborted}
 use Rattle.adx.proofs.script.run_lines.Goals as goal
+
+pub lines-init : goal.lines-init
+lines-init g c = record {
+  running = run_starts c.args.campaigns.now c.args.input.now (g.S.Source.tape c.args.source.now) (g.K.Sink.held c.args.sink.now) (string_bytes c.args.out.now) c.args.day.now.history c.requires.begins c.requires.within;
+  terms = c.requires.terms;
+  work = omega arith;
+  source_later = omega arith;
+  sink_later = omega arith;
+}
 
 pub lines-preserved : goal.lines-preserved
 lines-preserved g c =
