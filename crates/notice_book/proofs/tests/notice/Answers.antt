@@ -1,4 +1,4 @@
-use Rattle.std.proofs.Common.{◌<◌, length, arith}
+use Rattle.std.proofs.Common.{arith}
 use Rattle.notice_book.proofs.Counted.{counts_at}
 use Rattle.notice_book.proofs.tests.notice.Goals as goal
 
