@@ -1,2 +1,3 @@
 pub mod Choice
 pub mod Settling
+pub mod Passes

@@ -5,6 +5,12 @@
 //! Stands on `adx_units`, `discount_table` and `campaign_book`.
 #![tactic(auto)]
 
+mod best;
+mod impression;
+mod passes;
 mod reason;
+mod taken;
 
+pub use impression::choose;
+pub use passes::settle;
 pub use reason::{AWARDED, LOST_TO_HIGHER, OVER_BUDGET};
