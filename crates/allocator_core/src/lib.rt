@@ -14,3 +14,6 @@ mod taken;
 pub use impression::choose;
 pub use passes::settle;
 pub use reason::{AWARDED, LOST_TO_HIGHER, OVER_BUDGET};
+
+#[cfg(test)]
+mod tests;
