@@ -7,7 +7,7 @@
 
 mod table;
 
-pub use table::{discount, slab_of, table_laws};
+pub use table::{discount, slab_of};
 
 #[cfg(test)]
 mod tests;

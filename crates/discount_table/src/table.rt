@@ -1,4 +1,4 @@
-ghost use Rattle.std.specs.Prelude.{◌≡◌, ℕ, ◌+◌, ◌*◌, ◌^◌, ◌<◌, ◌≤◌};
+ghost use Rattle.std.specs.Prelude.{◌≡◌, ◌+◌, ◌*◌, ◌^◌, ◌<◌, ◌≤◌};
 ghost use Rattle.discount_table.specs.Discount.{decline, discount as discount_of, full_discount, slab_of as slab_of_money};
 
 /// The discounts of the slabs 0 to 100, of which a full discount is 10^9.
@@ -21,10 +21,20 @@ const DISCOUNTS: [u64; 101] = [
     31_260_731, 15_707_589, 0,
 ];
 
-/// The discount of a slab from 0 to 100, from 10^9 for an unused budget down to 0 for a used one.
+/// The discount of a slab from 0 to 100, from 10^9 for an unused budget down to 0 for a used one. Its laws
+/// bound what the choice by weight loses.
 pub fn discount(slab: u8) -> u64
     requires { slab ≤ 100 }
-    ensures { result ≡ discount_of slab }
+    ensures value { result ≡ discount_of slab }
+
+    // A step down takes no more off than the decline.
+    ensures covers { 101 * result ≤ 100 * discount_of (slab + 1) + decline }
+    ensures never_rises { discount_of (slab + 1) ≤ result }
+    ensures bounded { result ≤ full_discount }
+
+    ensures full { slab ≡ 0 → result ≡ full_discount }
+    ensures positive { slab < 100 → 0 < result }
+    ensures used_up { slab ≡ 100 → result ≡ 0 }
 {
     let discounts = DISCOUNTS;
     discounts[usize::from(slab)]
@@ -41,14 +51,3 @@ pub fn slab_of(committed: u64, budget: u64) -> u8
     let slab = 100 * committed / budget;
     slab as u8
 }
-
-/// The laws of the table that bound what the choice by weight loses.
-pub fn table_laws()
-    // A step down takes no more off than the decline.
-    ensures covers { (slab : ℕ) → slab < 100 → 101 * discount_of slab ≤ 100 * discount_of (slab + 1) + decline }
-    ensures never_rises { (slab : ℕ) → discount_of (slab + 1) ≤ discount_of slab }
-    ensures full { discount_of 0 ≡ full_discount }
-    ensures bounded { (slab : ℕ) → discount_of slab ≤ full_discount }
-    ensures positive { 0 < discount_of 99 }
-    ensures used_up { discount_of 100 ≡ 0 }
-{}

@@ -23,5 +23,4 @@ fn reads_the_table(rt: HostRuntime) {
             "at {committed} of {budget}"
         );
     }
-    table_laws();
 }
