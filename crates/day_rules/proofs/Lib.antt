@@ -1,0 +1,5 @@
+pub mod Lists
+pub mod Histories
+pub mod Pushing
+pub mod Asking
+pub mod Keeping

@@ -1,0 +1,94 @@
+-- The laws of the definitions, as statements. This project's own.
+use Rattle.std.specs.Prelude.{◌≡◌, ◌≢◌, ℕ, ◌≤◌, List, [], ◌∷◌, ◌++◌, map, length, true, if◌then◌else◌, IsPermutation, IsTrue, Some, slice_get}
+use Rattle.std.specs.List.{list_any}
+use Rattle.notice_book.specs.declared.kind.NoticeKind.{NoticeKind}
+use Rattle.allocator_core.specs.Choice.{budget_at}
+use Rattle.notice_book.specs.declared.award.Award.{Award}
+use Rattle.notice_book.specs.Rules.{is_open}
+use Rattle.day_rules.specs.declared.entry.Entry.{Entry}
+use Rattle.day_rules.specs.Entries.{notice_of, is_same_notice}
+use Rattle.day_rules.specs.Books.{awards_of, reserved, billed, committed}
+use Rattle.day_rules.specs.Terms.{Terms, budgets_after}
+use Rattle.day_rules.specs.Legal.{IsLegal}
+use Rattle.day_rules.specs.Replies.{Reply, notice_reply, reply, with_entry}
+use Rattle.day_rules.specs.Runs.{Turn, AreTurns, run, once, is_effective, is_repeat}
+use Rattle.day_rules.specs.PlainBooks.{no_books, plain_books, plain_reserved, plain_billed}
+
+-- in every legal history the committed money of each campaign is within its budget there
+abbrev pub StaysWithinBudget : Type 0
+StaysWithinBudget =
+    (terms : Terms) (history : List Entry) → IsLegal terms history
+    → (campaign : ℕ) → committed history campaign ≤ budget_at (budgets_after terms history) campaign
+
+-- a run from a legal history is legal
+abbrev pub RunsStayLegal : Type 0
+RunsStayLegal =
+    (terms : Terms) (history : List Entry) (turns : List Turn) → IsLegal terms history
+    → AreTurns (length terms.budgets) turns → IsLegal terms (run terms history turns)
+
+-- the books after a run are the plain books of its calls taken once
+pub record AreOfCallsTakenOnce (terms : Terms) (history : List Entry) (turns : List Turn) (campaign : ℕ) : Type 0 where
+  pub reserved : reserved (run terms history turns) campaign ≡ plain_reserved (plain_books (no_books terms.budgets) (once terms history turns)) campaign
+  pub billed : billed (run terms history turns) campaign ≡ plain_billed (plain_books (no_books terms.budgets) (once terms history turns)) campaign
+
+abbrev pub BooksAreOfCallsTakenOnce : Type 0
+BooksAreOfCallsTakenOnce =
+    (terms : Terms) (history : List Entry) (turns : List Turn) → IsLegal terms history
+    → AreTurns (length terms.budgets) turns → (campaign : ℕ) → AreOfCallsTakenOnce terms history turns campaign
+
+-- an effective turn answers Repeat exactly where the calls taken once leave it out: they stay as they are
+-- with a repeat, and else end in its call
+abbrev pub RepeatsAreLeftOut : Type 0
+RepeatsAreLeftOut =
+    (terms : Terms) (history : List Entry) (turns : List Turn) (turn : Turn) → IsLegal terms history
+    → AreTurns (length terms.budgets) (turns ++ turn ∷ [])
+    → is_effective terms (run terms history turns) turn ≡ true
+    → once terms history (turns ++ turn ∷ [])
+    ≡ (if is_repeat (reply terms (run terms history turns) turn.call).answer
+    then once terms history turns else once terms history turns ++ turn.call ∷ [])
+
+-- a notice of an award as it arrives, with the auction that it names
+pub record Arrival : Type 0 where
+  pub kind : NoticeKind
+  pub auction : List ℕ
+  pub award : ℕ
+
+abbrev pub arrival_reply : List Entry → Arrival → Reply
+arrival_reply history x = notice_reply history x.kind x.auction x.award
+
+abbrev pub after_arrival : List Entry → Arrival → List Entry
+after_arrival history x = with_entry history (arrival_reply history x).entry
+
+abbrev pub after_arrivals : List Entry → List Arrival → List Entry
+after_arrivals history [] = history
+after_arrivals history (x ∷ xs) = after_arrivals (after_arrival history x) xs
+
+-- two notices in either order: each gets the answer that it would get alone, and the awards are the same
+pub record Commute (history : List Entry) (x y : Arrival) : Type 0 where
+  pub first : (arrival_reply (after_arrival history y) x).answer ≡ (arrival_reply history x).answer
+  pub second : (arrival_reply (after_arrival history x) y).answer ≡ (arrival_reply history y).answer
+  pub awards : awards_of (after_arrivals history (x ∷ y ∷ [])) ≡ awards_of (after_arrivals history (y ∷ x ∷ []))
+
+abbrev pub NoticesCommute : Type 0
+NoticesCommute =
+    (terms : Terms) (history : List Entry) (x y : Arrival) → IsLegal terms history → x.award ≢ y.award → Commute history x y
+
+abbrev pub has_arrival : NoticeKind → ℕ → List Arrival → Type 0
+has_arrival kind n xs = IsTrue (list_any (λ x. is_same_notice (notice_of kind n) (notice_of x.kind x.award)) xs)
+
+-- no open award gets both a bill and a loss
+abbrev pub AgreeOnEnds : List Entry → List Arrival → Type 0
+AgreeOnEnds history xs =
+    (n : ℕ) (w : Award) → slice_get (awards_of history) n ≡ Some w → is_open w.end ≡ true
+    → has_arrival NoticeKind.Bill n xs → has_arrival NoticeKind.Loss n xs → ⊥
+
+-- every order of the notices gives the same ends, and so the same money
+pub record AreSameBooks (one other : List Entry) : Type 0 where
+  pub ends : map (λ w. w.end) (awards_of one) ≡ map (λ w. w.end) (awards_of other)
+  pub reserved : (campaign : ℕ) → reserved one campaign ≡ reserved other campaign
+  pub billed : (campaign : ℕ) → billed one campaign ≡ billed other campaign
+
+abbrev pub OrderIsFree : Type 0
+OrderIsFree =
+    (terms : Terms) (history : List Entry) (xs ys : List Arrival) → IsLegal terms history → IsPermutation xs ys
+    → AgreeOnEnds history xs → AreSameBooks (after_arrivals history xs) (after_arrivals history ys)

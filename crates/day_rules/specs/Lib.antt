@@ -1,0 +1,10 @@
+pub mod Entries
+pub mod Terms
+pub mod Books
+pub mod Asks
+pub mod Replies
+pub mod Legal
+pub mod DayState
+pub mod Runs
+pub mod PlainBooks
+pub mod Laws
