@@ -3,3 +3,8 @@ pub mod Histories
 pub mod Pushing
 pub mod Asking
 pub mod Keeping
+pub mod Choosing
+pub mod Money
+pub mod Room
+pub mod Settling
+pub mod Within

@@ -1,12 +1,11 @@
--- Sums over lists, the place of the first of the greatest, and lists cut at an element.
-use Rattle.std.proofs.Common.{◌≡◌, ◌≢◌, ◌⊎◌, ℕ, zero, suc, ◌+◌, ◌<◌, ◌≤◌, List, [], ◌∷◌, ◌++◌, map, length, filter, take, get_or, Bool, true, false, cond, not, ◌&&◌, ◌||◌, leb, ltb, refl, sym, ap, ◌∙◌, subst, inl, inr, arith, Option, Some, None, is_none, is_some, IfSome, length-append}
-use Rattle.std.specs.List.{All, sum_by, enumerate_from, flat_map, range_with_len, list_all, position, position_or_len}
-use Rattle.std.proofs.lemmas.List.Sums.{sum_by-cons, sum_by_more, sum_by-take-le, sum_by-append, position_or_len_is, list_all-from_AllPass}
+-- Sums over lists, places in lists, and lists cut at an element.
+use Rattle.std.proofs.Common.{◌≡◌, ◌≢◌, ◌⊎◌, ℕ, zero, suc, ◌+◌, ◌-◌, ◌<◌, ◌≤◌, List, [], ◌∷◌, ◌++◌, map, length, filter, get_or, Bool, true, false, cond, not, ◌&&◌, ◌||◌, leb, eqb, refl, sym, ap, ◌∙◌, subst, inl, inr, arith, Option, Some, None, length-append}
+use Rattle.std.specs.List.{All, AllPairs, Any, sum_by, enumerate_from, flat_map, list_all, position, slice_get}
+use Rattle.std.specs.Option.{option_map}
+use Rattle.std.proofs.lemmas.List.Sums.{sum_by-cons, sum_by-append}
 use Rattle.std.proofs.lemmas.List.Elements.{All-head, All-tail}
-use Rattle.std.proofs.lemmas.List.FromFn.{length-enumerate_from, get_or-enumerate_from, length-range_with_len, get_or-range_with_len}
-use Rattle.std.proofs.lemmas.List.Folds.{list_all_at}
-use Rattle.std.proofs.lemmas.Bool.{cases_Bool, cond-true, cond-false, le-leb, lt-leb, and_from, and_left, and_right, or_right, or_left, cases_eq, lt-ltb, le-ltb, false≢true, not_from_true, not_from_false, both_ways, or_from, and_parts}
-use Rattle.std.proofs.lemmas.List.{get_or_default, take_all}
+use Rattle.std.proofs.lemmas.List.FromFn.{length-enumerate_from, get_or-enumerate_from}
+use Rattle.std.proofs.lemmas.Bool.{and_parts}
 use Rattle.std.proofs.lemmas.List.Quantifiers.{position-Some}
 
 pub sum_by-same : {X : Type 0} (f g : X → ℕ) (xs : List X) → All (λ x. f x ≡ g x) xs → sum_by f xs ≡ sum_by g xs
@@ -103,67 +102,31 @@ cut_of_push {X} (y ∷ ys) (b ∷ bs) after e x h =
     let u : y ≡ b = cc in
     elim (cut_of_push ys bs after e x t) [ inl w ↦ inl (let v : ys ≡ bs = w.0 in cc, w.1) | inr w ↦ inr (w.0, let v : ys ≡ bs ++ x ∷ w.0 = w.1 in cc) ]
 
+-- what stands at a place of two lists one behind the other
+pub get-append_left : {X : Type 0} (xs ys : List X) (k : ℕ) → k < length xs → slice_get (xs ++ ys) k ≡ slice_get xs k
+get-append_left [] ys k h = absurd (omega arith)
+get-append_left (x ∷ xs) ys zero h = refl
+get-append_left (x ∷ xs) ys (suc k) h = get-append_left xs ys k (omega arith)
+
+pub get-append_right : {X : Type 0} (xs ys : List X) (k : ℕ) → length xs ≤ k → slice_get (xs ++ ys) k ≡ slice_get ys (k - length xs)
+get-append_right [] ys k h = ap (slice_get ys) (omega arith)
+get-append_right (x ∷ xs) ys zero h = absurd (omega arith)
+get-append_right (x ∷ xs) ys (suc k) h = get-append_right xs ys k (omega arith) ∙ ap (slice_get ys) (omega arith)
+
+-- what stands at a place of a list that is made item by item, with the places
+get_enumerated : {X Y : Type 0} (f : ℕ × X → Y) (n : ℕ) (xs : List X) (k : ℕ) → slice_get (map f (enumerate_from n xs)) k ≡ option_map (λ x. f (n + k, x)) (slice_get xs k)
+get_enumerated f n [] k = refl
+get_enumerated f n (x ∷ xs) zero = ap (λ j. Some (f (j, x))) (omega arith)
+get_enumerated {X} {Y} f n (x ∷ xs) (suc k) =
+    get_enumerated f (n + 1) xs k ∙ ap (λ j. option_map (λ (y : X). f (j, y)) (slice_get xs k)) (omega arith)
+
+pub get_numbered : {X Y : Type 0} (f : ℕ × X → Y) (xs : List X) (k : ℕ) → slice_get (map f (enumerate_from 0 xs)) k ≡ option_map (λ x. f (k, x)) (slice_get xs k)
+get_numbered {X} {Y} f xs k =
+    get_enumerated f 0 xs k ∙ ap (λ j. option_map (λ (x : X). f (j, x)) (slice_get xs k)) (omega arith)
+
 -- what competes and weighs no less than what competes
 abbrev pub greatest : {X : Type 0} → (X → Bool) → (X → ℕ) → List X → X → Bool
 greatest p w xs x = p x && list_all (λ y. not (p y) || leb (w y) (w x)) xs
-
--- the best place so far, of the first n, where one competes
-pub record IsBest {X : Type 0} (p : X → Bool) (w : X → ℕ) (xs : List X) (n best : ℕ) : Type 0 where
-  pub before : best < n
-  pub competes : (d : X) → p (get_or xs best d) ≡ true
-  pub most : (k : ℕ) (d : X) → k < n → p (get_or xs k d) ≡ true → w (get_or xs k d) ≤ w (get_or xs best d)
-  pub first : (k : ℕ) (d : X) → k < best → p (get_or xs k d) ≡ true → w (get_or xs k d) < w (get_or xs best d)
-
-abbrev pub NoneYet : {X : Type 0} → (X → Bool) → List X → ℕ → Type 0
-NoneYet {X} p xs n = (k : ℕ) (d : X) → k < n → p (get_or xs k d) ≡ false
-
-found_within : (n len i : ℕ) → n ≡ i → i < len → cond (ltb n len) (Some n) None ≡ Some i
-found_within n len i e within =
-    cond-true (ltb n len) (Some n) None (lt-ltb n len (omega arith)) ∙ ap (λ (k : ℕ). Some k) e
-
-found_past : (n len : ℕ) → n ≡ len → cond (ltb n len) (Some n) None ≡ None
-found_past n len e = cond-false (ltb n len) (Some n) None (le-ltb n len (omega arith))
-
--- the best place so far with its weight, or that none competes yet
-unfoldable pub BestSoFar : {X : Type 0} → (X → Bool) → (X → ℕ) → List X → ℕ → Option ℕ → ℕ → Type 0
-BestSoFar p w xs n None most = NoneYet p xs n
-BestSoFar {X} p w xs n (Some best) most = IsBest p w xs n best × ((d : X) → most ≡ w (get_or xs best d))
-
-position_at : {X : Type 0} (q : X → Bool) (xs : List X) (i : ℕ) (d : X) → i < length xs → ((k : ℕ) → k < i → q (get_or xs k d) ≡ false) → q (get_or xs i d) ≡ true → position q xs ≡ Some i
-position_at {X} q xs i d within before here =
-    let e : position_or_len q xs ≡ i = position_or_len_is q xs i d (omega arith) before (λ _. here) in
-    found_within (position_or_len q xs) (length xs) i e within
-
-position_none : {X : Type 0} (q : X → Bool) (xs : List X) (d : X) → ((k : ℕ) → k < length xs → q (get_or xs k d) ≡ false) → position q xs ≡ None
-position_none q xs d all =
-    let e : position_or_len q xs ≡ length xs = position_or_len_is q xs (length xs) d (omega arith) all (λ h. absurd (omega arith)) in
-    found_past (position_or_len q xs) (length xs) e
-
-pub greatest_none : {X : Type 0} (p : X → Bool) (w : X → ℕ) (xs : List X) (d : X) → NoneYet p xs (length xs) → position (greatest p w xs) xs ≡ None
-greatest_none p w xs d none =
-    position_none (greatest p w xs) xs d (λ k below. and_left (p (get_or xs k d)) _ (none k d below))
-
-pub greatest_some : {X : Type 0} (p : X → Bool) (w : X → ℕ) (xs : List X) (best : ℕ) (d : X) → IsBest p w xs (length xs) best → position (greatest p w xs) xs ≡ Some best
-greatest_some {X} p w xs best d is_best =
-    let beaten = λ (x y : X). not (p y) || leb (w y) (w x) in
-    let top : X = get_or xs best d in
-    position_at (greatest p w xs) xs best d is_best.before
-    (λ k below. elim (cases_Bool (p (get_or xs k d))) [
-      | inl holds ↦
-          let less : w (get_or xs k d) < w top = is_best.first k d below holds in
-          let fails : beaten (get_or xs k d) top ≡ false =
-          or_from (not (p top)) (leb (w top) (w (get_or xs k d))) (not_from_true (p top) (is_best.competes d)) (lt-leb (w top) (w (get_or xs k d)) less) in
-          and_right (p (get_or xs k d)) _ (list_all_at (beaten (get_or xs k d)) xs best d is_best.before fails)
-      | inr misses ↦ and_left (p (get_or xs k d)) _ misses
-    ])
-    (and_from (p top) _ (is_best.competes d)
-    (list_all-from_AllPass (beaten top) xs (λ k e below. elim (cases_Bool (p (get_or xs k e))) [
-      | inl holds ↦
-          let most : w (get_or xs k e) ≤ w (get_or xs best e) = is_best.most k e below holds in
-          let same : get_or xs best e ≡ top = get_or_default xs best e d is_best.before in
-          or_right (not (p (get_or xs k e))) (leb (w (get_or xs k e)) (w top)) (le-leb (w (get_or xs k e)) (w top) (let e' : w (get_or xs best e) ≡ w top = ap w same in omega arith))
-      | inr misses ↦ or_left (not (p (get_or xs k e))) _ (not_from_false (p (get_or xs k e)) misses)
-    ])))
 
 -- what stands at the place that is found
 pub greatest_found : {X : Type 0} (p : X → Bool) (w : X → ℕ) (xs : List X) (best : ℕ) (d : X) → position (greatest p w xs) xs ≡ Some best → (best < length xs) × (p (get_or xs best d) ≡ true)
@@ -171,142 +134,31 @@ greatest_found p w xs best d h =
     let found = position-Some (greatest p w xs) xs best d h in
     (found.0, (and_parts (p (get_or xs best d)) _ found.1).0)
 
--- a loop's steps
-pub none_more : {X : Type 0} (p : X → Bool) (xs : List X) (i : ℕ) (d : X) → i < length xs → NoneYet p xs i → p (get_or xs i d) ≡ false → NoneYet p xs (i + 1)
-none_more p xs i d within none misses = λ k e below. elim (cases_eq k i) [
-  | inl same ↦ rw (same, get_or_default xs i e d within) misses
-  | inr apart ↦ none k e (omega arith)
-]
+-- what holds of one of the items, or of each two of them, item by item
+pub any_here : {X : Type 0} (P : X → Type 0) (x : X) (xs : List X) → P x → Any P (x ∷ xs)
+any_here P x xs here = (0, x, omega arith, refl, here)
 
-pub best_first : {X : Type 0} (p : X → Bool) (w : X → ℕ) (xs : List X) (i : ℕ) (d : X) → i < length xs → NoneYet p xs i → p (get_or xs i d) ≡ true → IsBest p w xs (i + 1) i
-best_first p w xs i d within none holds = record {
-  before = omega arith;
-  competes = λ e. rw (get_or_default xs i e d within) holds;
-  most = λ k e below here. elim (cases_eq k i) [
-    | inl same ↦ let r : w (get_or xs k e) ≡ w (get_or xs i e) = ap (λ (j : ℕ). w (get_or xs j e)) same in omega arith
-    | inr apart ↦ absurd (both_ways (p (get_or xs k e)) (none k e (omega arith)) here)
-  ];
-  first = λ k e below here. absurd (both_ways (p (get_or xs k e)) (none k e below) here);
-}
+pub any_cons : {X : Type 0} (P : X → Type 0) (x : X) (xs : List X) → Any P xs → Any P (x ∷ xs)
+any_cons P x xs there = let below : there.0 < length xs = there.2 in (suc there.0, there.1, omega arith, there.3, there.4)
 
-pub best_keeps : {X : Type 0} (p : X → Bool) (w : X → ℕ) (xs : List X) (i best : ℕ) → IsBest p w xs i best → ((d : X) → p (get_or xs i d) ≡ true → w (get_or xs i d) ≤ w (get_or xs best d)) → IsBest p w xs (i + 1) best
-best_keeps {X} p w xs i best is_best less = record {
-  before = omega (arith, is_best.before);
-  competes = is_best.competes;
-  most = λ k e below here. elim (cases_eq k i) [
-    | inl same ↦
-        let holds : p (get_or xs i e) ≡ true = ap (λ (j : ℕ). p (get_or xs j e)) (sym same) ∙ here in
-        let r : w (get_or xs k e) ≡ w (get_or xs i e) = ap (λ (j : ℕ). w (get_or xs j e)) same in
-        let l = less e holds in
-        omega arith
-    | inr apart ↦ is_best.most k e (omega arith) here
-  ];
-  first = is_best.first;
-}
+any_at : {X : Type 0} (P : X → Type 0) (x y : X) (xs : List X) (k : ℕ) → k < length (x ∷ xs) → get_or (x ∷ xs) k y ≡ y → P y → P x ⊎ Any P xs
+any_at P x y xs zero below at here = inl (subst P (sym at) here)
+any_at P x y xs (suc k) below at here = inr (k, y, omega arith, at, here)
 
-pub best_takes : {X : Type 0} (p : X → Bool) (w : X → ℕ) (xs : List X) (i best : ℕ) (d : X) → i < length xs → IsBest p w xs i best → p (get_or xs i d) ≡ true → ((e : X) → w (get_or xs best e) < w (get_or xs i e)) → IsBest p w xs (i + 1) i
-best_takes p w xs i best d within is_best holds more = record {
-  before = omega arith;
-  competes = λ e. rw (get_or_default xs i e d within) holds;
-  most = λ k e below here. elim (cases_eq k i) [
-    | inl same ↦ let r : w (get_or xs k e) ≡ w (get_or xs i e) = ap (λ (j : ℕ). w (get_or xs j e)) same in omega arith
-    | inr apart ↦ let m = is_best.most k e (omega arith) here in let l = more e in omega arith
-  ];
-  first = λ k e below here. let m = is_best.most k e below here in let l = more e in omega arith;
-}
+pub any_cases : {X : Type 0} (P : X → Type 0) (x : X) (xs : List X) → Any P (x ∷ xs) → P x ⊎ Any P xs
+any_cases P x xs there = any_at P x there.1 xs there.0 there.2 there.3 there.4
 
--- a loop that adds up a function of the numbers below n
-pub range_more : (g : ℕ → ℕ) (n i : ℕ) → i < n → sum_by g (take (i + 1) (range_with_len 0 n)) ≡ sum_by g (take i (range_with_len 0 n)) + g i
-range_more g n i within =
-    let inside : i < length (range_with_len 0 n) = omega (arith, length-range_with_len 0 n) in
-    let at : get_or (range_with_len 0 n) i 0 ≡ i = get_or-range_with_len 0 n i 0 within ∙ (let e : 0 + i ≡ i = omega arith in e) in
-    sum_by_more g (range_with_len 0 n) i 0 inside ∙ ap (λ (j : ℕ). sum_by g (take i (range_with_len 0 n)) + g j) at
+pub pairs_head : {X : Type 0} (R : X → X → Type 0) (x : X) (xs : List X) → AllPairs R (x ∷ xs) → All (R x) xs
+pairs_head R x xs pairs k d below = pairs 0 (suc k) d (omega arith) (omega arith)
 
-pub range_within : (g : ℕ → ℕ) (n i : ℕ) → i < n → sum_by g (take i (range_with_len 0 n)) + g i ≤ sum_by g (range_with_len 0 n)
-range_within g n i within =
-    let next = sum_by-take-le g (range_with_len 0 n) (i + 1) in
-    omega (arith, range_more g n i within)
+pub pairs_tail : {X : Type 0} (R : X → X → Type 0) (x : X) (xs : List X) → AllPairs R (x ∷ xs) → AllPairs R xs
+pairs_tail R x xs pairs i j d before below = pairs (suc i) (suc j) d (omega arith) (omega arith)
 
-pub range_all : (g : ℕ → ℕ) (n i : ℕ) → n ≤ i → sum_by g (take i (range_with_len 0 n)) ≡ sum_by g (range_with_len 0 n)
-range_all g n i past = ap (sum_by g) (take_all i (range_with_len 0 n) (omega (arith, length-range_with_len 0 n)))
+pairs_at : {X : Type 0} (R : X → X → Type 0) (x : X) (xs : List X) → All (R x) xs → AllPairs R xs → (i j : ℕ) (d : X) → i < j → j < length (x ∷ xs) → R (get_or (x ∷ xs) i d) (get_or (x ∷ xs) j d)
+pairs_at R x xs above pairs zero zero d before below = absurd (omega arith)
+pairs_at R x xs above pairs (suc i) zero d before below = absurd (omega arith)
+pairs_at R x xs above pairs zero (suc j) d before below = above j d (omega arith)
+pairs_at R x xs above pairs (suc i) (suc j) d before below = pairs i j d (omega arith) (omega arith)
 
--- a loop that keeps the best place so far
-pub best_start : {X : Type 0} (p : X → Bool) (w : X → ℕ) (xs : List X) (most : ℕ) → BestSoFar p w xs 0 None most
-unfolding BestSoFar
-best_start p w xs most = λ k d below. absurd (omega arith)
-
-pub best_skips : {X : Type 0} (p : X → Bool) (w : X → ℕ) (xs : List X) (i : ℕ) (best : Option ℕ) (most : ℕ) (x : X) → i < length xs → x ≡ get_or xs i x → BestSoFar p w xs i best most → p x ≡ false → BestSoFar p w xs (i + 1) best most
-unfolding BestSoFar
-best_skips p w xs i None most x within is so_far fails = none_more p xs i x within so_far (ap p (sym is) ∙ fails)
-best_skips p w xs i (Some best) most x within is so_far fails = (
-  best_keeps p w xs i best so_far.0 (λ d here.
-      absurd (both_ways (p x) fails (ap p (is ∙ get_or_default xs i x d within) ∙ here))),
-  so_far.1,
-)
-
-pub best_stays : {X : Type 0} (p : X → Bool) (w : X → ℕ) (xs : List X) (i : ℕ) (best : ℕ) (most : ℕ) (x : X) → i < length xs → x ≡ get_or xs i x → BestSoFar p w xs i (Some best) most → w x ≤ most → BestSoFar p w xs (i + 1) (Some best) most
-unfolding BestSoFar
-best_stays p w xs i best most x within is so_far less = (
-  best_keeps p w xs i best so_far.0 (λ d here.
-      let same : w x ≡ w (get_or xs i d) = ap w (is ∙ get_or_default xs i x d within) in
-      let most_is = so_far.1 d in
-      omega arith),
-  so_far.1,
-)
-
-pub best_becomes : {X : Type 0} (p : X → Bool) (w : X → ℕ) (xs : List X) (i : ℕ) (best : Option ℕ) (most : ℕ) (x : X) → i < length xs → x ≡ get_or xs i x → BestSoFar p w xs i best most → p x ≡ true → (is_none best ≡ true) ⊎ (most < w x) → BestSoFar p w xs (i + 1) (Some i) (w x)
-unfolding BestSoFar
-best_becomes p w xs i None most x within is so_far holds more =
-    (best_first p w xs i x within so_far (ap p (sym is) ∙ holds), λ d. ap w (is ∙ get_or_default xs i x d within))
-best_becomes p w xs i (Some best) most x within is so_far holds (inl none) = absurd (false≢true none)
-best_becomes p w xs i (Some best) most x within is so_far holds (inr more) = (
-  best_takes p w xs i best x within so_far.0 (ap p (sym is) ∙ holds) (λ d.
-      let same : w x ≡ w (get_or xs i d) = ap w (is ∙ get_or_default xs i x d within) in
-      let most_is = so_far.1 d in
-      omega arith),
-  λ d. ap w (is ∙ get_or_default xs i x d within),
-)
-
-pub best_end : {X : Type 0} (p : X → Bool) (w : X → ℕ) (xs : List X) (i : ℕ) (best : Option ℕ) (most : ℕ) (d : X) → length xs ≡ i → BestSoFar p w xs i best most → position (greatest p w xs) xs ≡ best
-unfolding BestSoFar
-best_end p w xs i None most d end so_far =
-    greatest_none p w xs d (λ k e below. so_far k e (omega arith))
-best_end {X} p w xs i (Some best) most d end so_far =
-    let P : ℕ → Type 0 = λ n. IsBest p w xs n best in
-    greatest_some p w xs best d (subst P (sym end) so_far.0)
-
--- the same steps as a loop's answers cite them
-pub step_becomes : {X : Type 0} (p : X → Bool) (w : X → ℕ) (xs : List X) (i : ℕ) (best best' : Option ℕ) (most most' weight : ℕ) (b : Bool) (d : X) → i < length xs → BestSoFar p w xs i best most → b ≡ p (get_or xs i d) → b ≡ true → weight ≡ w (get_or xs i d) → (is_none best ≡ true) ⊎ (most < weight) → best' ≡ Some i → most' ≡ weight → BestSoFar p w xs (i + 1) best' most'
-step_becomes {X} p w xs i best best' most most' weight b d within so_far test holds weighs more best_is most_is =
-    let x : X = get_or xs i d in
-    let heavier : (is_none best ≡ true) ⊎ (most < w x) = elim more [ inl none ↦ inl none | inr less ↦ inr (let e : weight ≡ w x = weighs in omega arith) ] in
-    let new : BestSoFar p w xs (i + 1) (Some i) (w x) = best_becomes p w xs i best most x within (get_or_default xs i d x within) so_far (sym test ∙ holds) heavier in
-    let P : Option ℕ → Type 0 = λ o. BestSoFar p w xs (i + 1) o (w x) in
-    let Q : ℕ → Type 0 = λ m. BestSoFar p w xs (i + 1) best' m in
-    subst Q (sym (most_is ∙ weighs)) (subst P (sym best_is) new)
-
-pub step_stays : {X : Type 0} (p : X → Bool) (w : X → ℕ) (xs : List X) (i : ℕ) (best best' : Option ℕ) (most most' weight : ℕ) (d : X) → i < length xs → BestSoFar p w xs i best most → is_some best ≡ true → weight ≡ w (get_or xs i d) → weight ≤ most → best' ≡ best → most' ≡ most → BestSoFar p w xs (i + 1) best' most'
-step_stays p w xs i None best' most most' weight d within so_far some weighs less best_is most_is = absurd (false≢true some)
-step_stays {X} p w xs i (Some best) best' most most' weight d within so_far some weighs less best_is most_is =
-    let x : X = get_or xs i d in
-    let new : BestSoFar p w xs (i + 1) (Some best) most = best_stays p w xs i best most x within (get_or_default xs i d x within) so_far (let e : weight ≡ w x = weighs in omega arith) in
-    let P : Option ℕ → Type 0 = λ o. BestSoFar p w xs (i + 1) o most in
-    let Q : ℕ → Type 0 = λ m. BestSoFar p w xs (i + 1) best' m in
-    subst Q (sym most_is) (subst P (sym best_is) new)
-
-pub step_skips : {X : Type 0} (p : X → Bool) (w : X → ℕ) (xs : List X) (i : ℕ) (best best' : Option ℕ) (most most' : ℕ) (b : Bool) (d : X) → i < length xs → BestSoFar p w xs i best most → b ≡ p (get_or xs i d) → b ≡ false → best' ≡ best → most' ≡ most → BestSoFar p w xs (i + 1) best' most'
-step_skips {X} p w xs i best best' most most' b d within so_far test fails best_is most_is =
-    let x : X = get_or xs i d in
-    let new : BestSoFar p w xs (i + 1) best most = best_skips p w xs i best most x within (get_or_default xs i d x within) so_far (sym test ∙ fails) in
-    let P : Option ℕ → Type 0 = λ o. BestSoFar p w xs (i + 1) o most in
-    let Q : ℕ → Type 0 = λ m. BestSoFar p w xs (i + 1) best' m in
-    subst Q (sym most_is) (subst P (sym best_is) new)
-
-pub none_from_test : (best : Option ℕ) (b : Bool) → is_some best ≡ not b → b ≡ true → is_none best ≡ true
-none_from_test None b h holds = refl
-none_from_test (Some place) b h holds = absurd (both_ways true (h ∙ not_from_true b holds) refl)
-
-pub best_within : {X : Type 0} (p : X → Bool) (w : X → ℕ) (xs : List X) (i : ℕ) (best : Option ℕ) (most : ℕ) → i ≤ length xs → BestSoFar p w xs i best most → IfSome best (λ place. place < length xs)
-unfolding BestSoFar
-best_within p w xs i None most within so_far = tt
-best_within p w xs i (Some best) most within so_far = let b = so_far.0.before in omega arith
+pub pairs_cons : {X : Type 0} (R : X → X → Type 0) (x : X) (xs : List X) → All (R x) xs → AllPairs R xs → AllPairs R (x ∷ xs)
+pairs_cons R x xs above pairs = pairs_at R x xs above pairs

@@ -152,13 +152,13 @@ is_counted Ruling.Counted = true
 is_counted Ruling.Repeat = false
 is_counted (Ruling.Conflict x) = false
 
-bill_of_open : (won : Bool) (end : Option End) → ruling NoticeKind.Bill won end ≡ Ruling.Counted → end ≡ None
+pub bill_of_open : (won : Bool) (end : Option End) → ruling NoticeKind.Bill won end ≡ Ruling.Counted → end ≡ None
 bill_of_open won None e = refl
 bill_of_open won (Some End.Billed) e = absurd (subst (λ r. T (not (is_counted r))) e tt)
 bill_of_open won (Some End.Lost) e = absurd (subst (λ r. T (not (is_counted r))) e tt)
 bill_of_open won (Some End.Expired) e = absurd (subst (λ r. T (not (is_counted r))) e tt)
 
-loss_of_open : (won : Bool) (end : Option End) → ruling NoticeKind.Loss won end ≡ Ruling.Counted → end ≡ None
+pub loss_of_open : (won : Bool) (end : Option End) → ruling NoticeKind.Loss won end ≡ Ruling.Counted → end ≡ None
 loss_of_open won None e = refl
 loss_of_open won (Some End.Billed) e = absurd (subst (λ r. T (not (is_counted r))) e tt)
 loss_of_open won (Some End.Lost) e = absurd (subst (λ r. T (not (is_counted r))) e tt)
@@ -169,7 +169,7 @@ notice_one NoticeKind.Win n k w h = win_at w w.won (eqb k n) w.end
 notice_one NoticeKind.Bill n k w h = end_at w w.won (eqb k n) w.end End.Billed (λ t. bill_of_open w.won w.end (h t))
 notice_one NoticeKind.Loss n k w h = end_at w w.won (eqb k n) w.end End.Lost (λ t. loss_of_open w.won w.end (h t))
 
-makes_none : (kind : NoticeKind) (n : ℕ) → asked (entry_of_notice kind n) ≡ None
+pub makes_none : (kind : NoticeKind) (n : ℕ) → asked (entry_of_notice kind n) ≡ None
 makes_none NoticeKind.Win n = refl
 makes_none NoticeKind.Bill n = refl
 makes_none NoticeKind.Loss n = refl
