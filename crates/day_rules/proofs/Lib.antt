@@ -8,3 +8,7 @@ pub mod Money
 pub mod Room
 pub mod Settling
 pub mod Within
+pub mod Counting
+pub mod Noticing
+pub mod Following
+pub mod Selling

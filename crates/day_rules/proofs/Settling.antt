@@ -133,6 +133,15 @@ refusal_other r (inr (inr (inr (inr (inl e))))) h = omega arith
 refusal_other r (inr (inr (inr (inr (inr (inl e)))))) h = omega arith
 refusal_other r (inr (inr (inr (inr (inr (inr e)))))) h = omega arith
 
+pub refusal_not_awarded : (r : ℕ) → IsRefusal r → r ≢ AWARDED
+refusal_not_awarded r (inl e) h = omega arith
+refusal_not_awarded r (inr (inl e)) h = omega arith
+refusal_not_awarded r (inr (inr (inl e))) h = omega arith
+refusal_not_awarded r (inr (inr (inr (inl e)))) h = omega arith
+refusal_not_awarded r (inr (inr (inr (inr (inl e))))) h = omega arith
+refusal_not_awarded r (inr (inr (inr (inr (inr (inl e)))))) h = omega arith
+refusal_not_awarded r (inr (inr (inr (inr (inr (inr e)))))) h = omega arith
+
 offer_settled : (campaigns imps : ℕ) (budgets : List Units) (before : Standing) (offers : List Offer) (place : ℕ) (o : Offer) → IsUndecidedReason o.reason → IsOffer campaigns imps o → IsOffer campaigns imps (with_reason o (reason_at budgets before offers place o))
 offer_settled campaigns imps budgets before offers place o h (inl w) =
     let admitted : o.reason ≡ ADMITTED = admitted_only o.reason h w.reason in

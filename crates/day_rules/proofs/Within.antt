@@ -1,7 +1,7 @@
 -- What every legal history keeps: budgets, limits, moments, few awards and few entries.
-use Rattle.std.proofs.Common.{◌≡◌, ℕ, zero, suc, ◌+◌, ◌*◌, ◌^◌, ◌<◌, ◌≤◌, max, List, [], ◌∷◌, ◌++◌, map, length, take, get_or, Bool, true, false, cond, ◌&&◌, eqb, ltb, refl, sym, ap, ◌∙◌, subst, inl, inr, arith, length-append, Option, Some, None}
+use Rattle.std.proofs.Common.{◌≡◌, ℕ, zero, suc, ◌+◌, ◌*◌, ◌^◌, ◌<◌, ◌≤◌, max, List, [], ◌∷◌, ◌++◌, map, length, take, get_or, Bool, true, false, cond, ◌&&◌, eqb, ltb, refl, sym, ap, ◌∙◌, subst, inl, inr, arith, length-append, Option, Some, None, is_some}
 use Rattle.std.proofs.lemmas.List.{length-map}
-use Rattle.std.proofs.lemmas.Bool.{cases_eq, cond-true, cond-false, cond_both, eq-eqb, ne_eqb}
+use Rattle.std.proofs.lemmas.Bool.{cond_both}
 use Rattle.std.specs.List.{sum_by, count_by, range_with_len, slice_get, enumerate_from, filter}
 use Rattle.std.specs.Option.{option_map_or}
 use Rattle.std.proofs.lemmas.List.Sums.{sum_by_push, sum_by-cons, sum_by-append, length-filter, sum_by-le-sum_by}
@@ -26,7 +26,8 @@ use Rattle.day_rules.specs.Terms.{Terms, budgets_after}
 use Rattle.day_rules.specs.Legal.{MayFollow, IsLegal}
 use Rattle.day_rules.proofs.Choosing.{StandsWithin, standing_within, charge_for, taken_at, awarded_money, standing_sum}
 use Rattle.day_rules.proofs.Histories.{legal_induction}
-use Rattle.day_rules.proofs.Lists.{sum_by-always, sum_by-both, sum_by-none, sum_by-map, sum_by-flat_map}
+use Rattle.day_rules.proofs.Lists.{sum_by-always, sum_by-both, sum_by-map, sum_by-flat_map}
+use Rattle.day_rules.proofs.Settling.{is_undecided}
 use Rattle.day_rules.proofs.Pushing.{awards_notice, awards_moment, made_push, bill_of_open, loss_of_open}
 use Rattle.day_rules.proofs.Asking.{awards_ask, awards_length}
 use Rattle.day_rules.proofs.Money.{own_charge, charge_passes, charge_fails, changed_sum}
@@ -138,3 +139,115 @@ committed_settled terms history a campaign legal undecided =
     let money = ask_money s campaign in
     let sum = standing_sum budgets (committed history) a.offers (length a.imps) campaign in
     omega arith
+
+within_ask : (terms : Terms) (history : List Entry) (a : Ask) → IsLegal terms history → settled terms history (undecided a) ≡ a → StandsWithin (budgets_after terms history) (committed history) → StandsWithin (budgets_after terms history) (committed (history ++ Entry.Ask a ∷ []))
+within_ask terms history a legal is_settled within campaign =
+    let u : Ask = undecided a in
+    let budgets : List Units = budgets_after terms history in
+    let stands = standing_within budgets (committed history) u.offers (length u.imps) within campaign in
+    let money = committed_settled terms history u campaign legal (is_undecided a) in
+    let P : Ask → Type 0 = λ s. committed (history ++ Entry.Ask s ∷ []) campaign ≤ budget_at budgets campaign in
+    subst P is_settled (omega arith)
+
+within_push : (terms : Terms) (history : List Entry) (e : Entry) → IsLegal terms history → MayFollow terms history e → StandsWithin (budgets_after terms history) (committed history) → StandsWithin (budgets_after terms history) (committed (history ++ e ∷ []))
+within_push terms history (Entry.Ask a) legal follows within campaign =
+    within_ask terms history a legal follows.is_settled within campaign
+within_push terms history (Entry.Win n) legal follows within campaign =
+    let w = within campaign in let less = committed_notice history NoticeKind.Win n campaign follows in omega arith
+within_push terms history (Entry.Bill n) legal follows within campaign =
+    let w = within campaign in let less = committed_notice history NoticeKind.Bill n campaign follows in omega arith
+within_push terms history (Entry.Loss n) legal follows within campaign =
+    let w = within campaign in let less = committed_notice history NoticeKind.Loss n campaign follows in omega arith
+within_push terms history (Entry.Expire now) legal follows within campaign =
+    let w = within campaign in let less = committed_moment history now campaign in omega arith
+
+none_held : (campaign : ℕ) → committed [] campaign ≡ 0
+unfolding awards_of
+none_held campaign = refl
+
+-- in every legal history each campaign's committed money is at most its budget
+pub within_budget : (terms : Terms) (history : List Entry) → IsLegal terms history → (campaign : ℕ) → committed history campaign ≤ budget_at (budgets_after terms history) campaign
+within_budget terms history legal =
+    legal_induction terms (λ h. StandsWithin (budgets_after terms h) (committed h))
+    (λ campaign. let e = none_held campaign in omega arith)
+    (λ h e legal_before follows within. within_push terms h e legal_before follows within)
+    history legal
+
+pub latest_push : (history : List Entry) (e : Entry) → latest (history ++ e ∷ []) ≡ max (latest history) (moment_of e)
+latest_push history e = max_push latest moment_of refl (λ _ _. refl) history e
+
+small_push : (terms : Terms) (history : List Entry) (e : Entry) → MayFollow terms history e → moment_of e < 2 ^ 63
+small_push terms history (Entry.Ask a) follows = let m = follows.well_formed.now in omega arith
+small_push terms history (Entry.Win n) follows = omega arith
+small_push terms history (Entry.Bill n) follows = omega arith
+small_push terms history (Entry.Loss n) follows = omega arith
+small_push terms history (Entry.Expire now) follows = let m = follows.small in omega arith
+
+pub latest_small : (terms : Terms) (history : List Entry) → IsLegal terms history → latest history < 2 ^ 63
+latest_small terms history legal =
+    legal_induction terms (λ h. latest h < 2 ^ 63) (omega arith)
+    (λ h e _ follows small. let m = small_push terms h e follows in let p = latest_push h e in omega arith)
+    history legal
+
+-- the limits' totals, entry by entry
+abbrev pub ask_of_entry : Entry → ℕ
+ask_of_entry e = cond (is_some (asked e)) 1 0
+
+abbrev pub bids_of_entry : Entry → ℕ
+bids_of_entry e = option_map_or (λ a. length a.offers) (asked e) 0
+
+abbrev pub text_of_entry : Entry → ℕ
+text_of_entry e = option_map_or kept_size (asked e) 0
+
+pub asks_push : (history : List Entry) (e : Entry) → ask_count (history ++ e ∷ []) ≡ ask_count history + ask_of_entry e
+asks_push history e = sum_by_push ask_of_entry history e
+
+pub bids_push : (history : List Entry) (e : Entry) → bid_count (history ++ e ∷ []) ≡ bid_count history + bids_of_entry e
+bids_push history e = sum_by_push bids_of_entry history e
+
+pub text_push : (history : List Entry) (e : Entry) → text_count (history ++ e ∷ []) ≡ text_count history + text_of_entry e
+text_push history e = sum_by_push text_of_entry history e
+
+pub record AreWithinLimits (terms : Terms) (history : List Entry) : Type 0 where
+  pub asks : ask_count history ≤ terms.limits.auctions
+  pub bids : bid_count history ≤ terms.limits.bids
+  pub text : text_count history ≤ terms.limits.text
+
+limits_push : (terms : Terms) (history : List Entry) (e : Entry) → MayFollow terms history e → AreWithinLimits terms history → AreWithinLimits terms (history ++ e ∷ [])
+limits_push terms history (Entry.Ask a) follows few =
+    let asks = follows.auctions in
+    let bids = follows.bids in
+    let text = follows.text in
+    record {
+      asks = omega (arith, asks_push history (Entry.Ask a));
+      bids = omega (arith, bids_push history (Entry.Ask a));
+      text = omega (arith, text_push history (Entry.Ask a));
+    }
+limits_push terms history (Entry.Win n) follows few = record {
+  asks = omega (arith, asks_push history (Entry.Win n), few.asks);
+  bids = omega (arith, bids_push history (Entry.Win n), few.bids);
+  text = omega (arith, text_push history (Entry.Win n), few.text);
+}
+limits_push terms history (Entry.Bill n) follows few = record {
+  asks = omega (arith, asks_push history (Entry.Bill n), few.asks);
+  bids = omega (arith, bids_push history (Entry.Bill n), few.bids);
+  text = omega (arith, text_push history (Entry.Bill n), few.text);
+}
+limits_push terms history (Entry.Loss n) follows few = record {
+  asks = omega (arith, asks_push history (Entry.Loss n), few.asks);
+  bids = omega (arith, bids_push history (Entry.Loss n), few.bids);
+  text = omega (arith, text_push history (Entry.Loss n), few.text);
+}
+limits_push terms history (Entry.Expire now) follows few = record {
+  asks = omega (arith, asks_push history (Entry.Expire now), few.asks);
+  bids = omega (arith, bids_push history (Entry.Expire now), few.bids);
+  text = omega (arith, text_push history (Entry.Expire now), few.text);
+}
+
+-- no legal history passes a limit
+pub within_limits : (terms : Terms) (history : List Entry) → IsLegal terms history → AreWithinLimits terms history
+within_limits terms history legal =
+    legal_induction terms (AreWithinLimits terms)
+    (record { asks = omega arith; bids = omega arith; text = omega arith })
+    (λ h e _ follows few. limits_push terms h e follows few)
+    history legal
