@@ -12,3 +12,4 @@ pub mod Counting
 pub mod Noticing
 pub mod Following
 pub mod Selling
+pub mod Asked

@@ -62,7 +62,7 @@ held_ended campaign w v none where_is charge_is =
     ap (λ k. cond (eqb k campaign) v.charge.0 0) where_is ∙ ap (λ (u : Units). cond (eqb w.campaign campaign) u.0 0) charge_is in
     omega (arith, held_own campaign v, held_open campaign w none)
 
-end_is_none : (o : Option End) → is_open o ≡ true → o ≡ None
+pub end_is_none : (o : Option End) → is_open o ≡ true → o ≡ None
 end_is_none None h = refl
 end_is_none (Some x) h = cc
 
