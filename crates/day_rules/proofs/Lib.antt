@@ -13,3 +13,4 @@ pub mod Noticing
 pub mod Following
 pub mod Selling
 pub mod Asked
+pub mod Numbers

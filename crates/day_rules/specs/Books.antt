@@ -111,6 +111,11 @@ account_in awards p = record { budget = p.1.0; reserved = reserved_in awards p.0
 abbrev pub accounts_in : List Units → List Award → List Account
 accounts_in budgets awards = map (account_in awards) (enumerate_from 0 budgets)
 
+-- the numbers of the awards whose end passes a test, in order
+abbrev pub numbers_where : (Option End → Bool) → List Award → List ℕ
+numbers_where test awards =
+    map (λ (p : ℕ × Award). p.0) (filter (λ (p : ℕ × Award). test p.1.end) (enumerate_from 0 awards))
+
 -- how many entries notices and moments may still add: one that ends each open award, and one win of each that may be won
 abbrev pub entries_to_come : List Award → ℕ
 entries_to_come awards = count_by may_end awards + count_by may_win awards
