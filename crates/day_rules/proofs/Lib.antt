@@ -14,3 +14,4 @@ pub mod Following
 pub mod Selling
 pub mod Asked
 pub mod Numbers
+pub mod Agreeing
