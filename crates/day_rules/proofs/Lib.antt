@@ -15,3 +15,5 @@ pub mod Selling
 pub mod Asked
 pub mod Numbers
 pub mod Agreeing
+pub mod Replying
+pub mod Running

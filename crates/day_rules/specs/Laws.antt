@@ -4,10 +4,10 @@ use Rattle.std.specs.List.{list_any}
 use Rattle.notice_book.specs.declared.kind.NoticeKind.{NoticeKind}
 use Rattle.allocator_core.specs.Choice.{budget_at}
 use Rattle.notice_book.specs.declared.award.Award.{Award}
-use Rattle.notice_book.specs.Rules.{is_open}
+use Rattle.notice_book.specs.Rules.{is_open, is_billed}
 use Rattle.day_rules.specs.declared.entry.Entry.{Entry}
 use Rattle.day_rules.specs.Entries.{notice_of, is_same_notice}
-use Rattle.day_rules.specs.Books.{awards_of, reserved, billed, committed}
+use Rattle.day_rules.specs.Books.{awards_of, numbers_where, reserved, billed, committed}
 use Rattle.day_rules.specs.Terms.{Terms, budgets_after}
 use Rattle.day_rules.specs.Legal.{IsLegal}
 use Rattle.day_rules.specs.Replies.{Reply, notice_reply, reply, with_entry}
@@ -26,15 +26,18 @@ RunsStayLegal =
     (terms : Terms) (history : List Entry) (turns : List Turn) → IsLegal terms history
     → AreTurns (length terms.budgets) turns → IsLegal terms (run terms history turns)
 
--- the books after a run are the plain books of its calls taken once
-pub record AreOfCallsTakenOnce (terms : Terms) (history : List Entry) (turns : List Turn) (campaign : ℕ) : Type 0 where
-  pub reserved : reserved (run terms history turns) campaign ≡ plain_reserved (plain_books (no_books terms.budgets) (once terms history turns)) campaign
-  pub billed : billed (run terms history turns) campaign ≡ plain_billed (plain_books (no_books terms.budgets) (once terms history turns)) campaign
+-- the books after a run are the plain books of its calls taken once: the same numbers are open and were billed,
+-- and each campaign has the same money
+pub record AreOfCallsTakenOnce (terms : Terms) (history : List Entry) (turns : List Turn) : Type 0 where
+  pub open_numbers : (plain_books (no_books terms.budgets) (once terms history turns)).open_numbers ≡ numbers_where is_open (awards_of (run terms history turns))
+  pub billed_numbers : IsPermutation (plain_books (no_books terms.budgets) (once terms history turns)).billed_numbers (numbers_where is_billed (awards_of (run terms history turns)))
+  pub reserved : (campaign : ℕ) → reserved (run terms history turns) campaign ≡ plain_reserved (plain_books (no_books terms.budgets) (once terms history turns)) campaign
+  pub billed : (campaign : ℕ) → billed (run terms history turns) campaign ≡ plain_billed (plain_books (no_books terms.budgets) (once terms history turns)) campaign
 
 abbrev pub BooksAreOfCallsTakenOnce : Type 0
 BooksAreOfCallsTakenOnce =
     (terms : Terms) (history : List Entry) (turns : List Turn) → IsLegal terms history
-    → AreTurns (length terms.budgets) turns → (campaign : ℕ) → AreOfCallsTakenOnce terms history turns campaign
+    → AreTurns (length terms.budgets) turns → AreOfCallsTakenOnce terms history turns
 
 -- an effective turn answers Repeat exactly where the calls taken once leave it out: they stay as they are
 -- with a repeat, and else end in its call
