@@ -7,6 +7,7 @@ use Rattle.std.proofs.lemmas.List.Elements.{All-head, All-tail}
 use Rattle.std.proofs.lemmas.List.FromFn.{length-enumerate_from, get_or-enumerate_from}
 use Rattle.std.proofs.lemmas.Bool.{and_parts}
 use Rattle.std.proofs.lemmas.List.Quantifiers.{position-Some}
+use Rattle.std.proofs.lemmas.List.{get_or_append_left}
 
 pub sum_by-same : {X : Type 0} (f g : X → ℕ) (xs : List X) → All (λ x. f x ≡ g x) xs → sum_by f xs ≡ sum_by g xs
 sum_by-same f g [] h = refl
@@ -162,3 +163,8 @@ pairs_at R x xs above pairs (suc i) (suc j) d before below = pairs i j d (omega 
 
 pub pairs_cons : {X : Type 0} (R : X → X → Type 0) (x : X) (xs : List X) → All (R x) xs → AllPairs R xs → AllPairs R (x ∷ xs)
 pairs_cons R x xs above pairs = pairs_at R x xs above pairs
+
+-- what holds of all items holds of those in front
+pub all_front : {X : Type 0} (P : X → Type 0) (xs ys : List X) → All P (xs ++ ys) → All P xs
+all_front P xs ys all k d below =
+    subst P (get_or_append_left xs ys d k below) (all k d (omega (arith, length-append xs ys)))
