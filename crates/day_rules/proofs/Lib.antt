@@ -17,3 +17,4 @@ pub mod Numbers
 pub mod Agreeing
 pub mod Replying
 pub mod Running
+pub mod Ordering

@@ -67,7 +67,7 @@ map_numbered f g n [] each = refl
 map_numbered {X} {Y} f g n (x ∷ xs) each =
     ap (λ (y : Y). y ∷ map f (enumerate_from (n + 1) xs)) (each n x) ∙ ap (λ (t : List Y). g (n, x) ∷ t) (map_numbered f g (n + 1) xs each)
 
-numbered_twice : {X Y Z : Type 0} (f : ℕ × X → Y) (g : ℕ × Y → Z) (n : ℕ) (xs : List X) → map g (enumerate_from n (map f (enumerate_from n xs))) ≡ map (λ p. g (p.0, f p)) (enumerate_from n xs)
+pub numbered_twice : {X Y Z : Type 0} (f : ℕ × X → Y) (g : ℕ × Y → Z) (n : ℕ) (xs : List X) → map g (enumerate_from n (map f (enumerate_from n xs))) ≡ map (λ p. g (p.0, f p)) (enumerate_from n xs)
 numbered_twice f g n [] = refl
 numbered_twice {X} {Y} {Z} f g n (x ∷ xs) = ap (λ (t : List Z). g (n, f (n, x)) ∷ t) (numbered_twice f g (n + 1) xs)
 

@@ -116,7 +116,7 @@ moment_all now n (w ∷ ws) =
 pub awards_moment : (history : List Entry) (now : ℕ) → awards_of (history ++ Entry.Expire now ∷ []) ≡ expired_by now (awards_of history)
 awards_moment history now = awards_push history (Entry.Expire now) refl ∙ moment_all now 0 (awards_of history)
 
-map_same : {X Y : Type 0} (f g : ℕ × X → Y) (n : ℕ) (xs : List X) → ((k : ℕ) (x : X) → slice_get xs k ≡ Some x → f (n + k, x) ≡ g (n + k, x)) → map f (enumerate_from n xs) ≡ map g (enumerate_from n xs)
+pub map_same : {X Y : Type 0} (f g : ℕ × X → Y) (n : ℕ) (xs : List X) → ((k : ℕ) (x : X) → slice_get xs k ≡ Some x → f (n + k, x) ≡ g (n + k, x)) → map f (enumerate_from n xs) ≡ map g (enumerate_from n xs)
 map_same f g n [] h = refl
 map_same {X} {Y} f g n (x ∷ xs) h =
     let first : f (n, x) ≡ g (n, x) = subst (λ k. f (k, x) ≡ g (k, x)) (omega arith) (h 0 x refl) in
@@ -147,7 +147,7 @@ end_at w false false None x h = refl
 end_at w true false (Some y) x h = refl
 end_at w false false (Some y) x h = refl
 
-abbrev is_counted : Ruling → Bool
+abbrev pub is_counted : Ruling → Bool
 is_counted Ruling.Counted = true
 is_counted Ruling.Repeat = false
 is_counted (Ruling.Conflict x) = false

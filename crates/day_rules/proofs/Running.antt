@@ -26,7 +26,7 @@ use Rattle.day_rules.proofs.Replying.{entry_of_call, stands_in, Does, IsRefused,
 use Rattle.day_rules.proofs.Lists.{all_front}
 
 -- a run stays legal
-added_legal : (terms : Terms) (history : List Entry) (o : Option Entry) → IsLegal terms history → IfSome o (MayFollow terms history) → IsLegal terms (with_entry history o)
+pub added_legal : (terms : Terms) (history : List Entry) (o : Option Entry) → IsLegal terms history → IfSome o (MayFollow terms history) → IsLegal terms (with_entry history o)
 added_legal terms history None legal follows = legal
 added_legal terms history (Some e) legal follows = legal_push terms history e legal follows
 
