@@ -18,3 +18,4 @@ pub mod Agreeing
 pub mod Replying
 pub mod Running
 pub mod Ordering
+pub mod Orders
