@@ -20,7 +20,8 @@ use Rattle.day_rules.specs.Terms.{Terms, AreTerms}
 use Rattle.day_rules.specs.Legal.{MayFollow, IsLegal}
 use Rattle.day_rules.specs.DayState.{IsDay}
 use Rattle.day_rules.proofs.Histories.{legal_induction}
-use Rattle.day_rules.proofs.Lists.{sum_by-always, sum_by-both, sum_by-none}
+use Rattle.allocator_core.proofs.Lists.{sum_by-none}
+use Rattle.day_rules.proofs.Lists.{sum_by-always, sum_by-both}
 use Rattle.day_rules.proofs.Pushing.{awards_notice, awards_moment, made_push}
 use Rattle.day_rules.proofs.Asking.{awards_ask, awards_length}
 use Rattle.day_rules.proofs.Room.{to_come_ask, to_come_notice, to_come_moment}

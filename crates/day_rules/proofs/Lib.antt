@@ -3,7 +3,6 @@ pub mod Histories
 pub mod Pushing
 pub mod Asking
 pub mod Keeping
-pub mod Choosing
 pub mod Money
 pub mod Room
 pub mod Settling

@@ -9,20 +9,9 @@ use Rattle.std.proofs.lemmas.Bool.{and_parts}
 use Rattle.std.proofs.lemmas.List.Quantifiers.{position-Some}
 use Rattle.std.proofs.lemmas.List.{get_or_append_left}
 
-pub sum_by-same : {X : Type 0} (f g : X → ℕ) (xs : List X) → All (λ x. f x ≡ g x) xs → sum_by f xs ≡ sum_by g xs
-sum_by-same f g [] h = refl
-sum_by-same {X} f g (x ∷ xs) h =
-    let e : f x ≡ g x = All-head (λ (y : X). f y ≡ g y) x xs h in
-    let r : sum_by f xs ≡ sum_by g xs = sum_by-same f g xs (All-tail (λ (y : X). f y ≡ g y) x xs h) in
-    omega (arith, sum_by-cons f x xs, sum_by-cons g x xs)
-
 pub sum_by-always : {X : Type 0} (f g : X → ℕ) (xs : List X) → ((x : X) → f x ≡ g x) → sum_by f xs ≡ sum_by g xs
 sum_by-always f g [] h = refl
 sum_by-always f g (x ∷ xs) h = omega (arith, sum_by-cons f x xs, sum_by-cons g x xs, h x, sum_by-always f g xs h)
-
-pub sum_by-none : {X : Type 0} (f : X → ℕ) (xs : List X) → ((x : X) → f x ≡ 0) → sum_by f xs ≡ 0
-sum_by-none f [] h = refl
-sum_by-none f (x ∷ xs) h = omega (arith, sum_by-cons f x xs, h x, sum_by-none f xs h)
 
 pub sum_by-both : {X : Type 0} (f g : X → ℕ) (xs : List X) → sum_by (λ x. f x + g x) xs ≡ sum_by f xs + sum_by g xs
 sum_by-both f g [] = refl
@@ -30,66 +19,16 @@ sum_by-both {X} f g (x ∷ xs) =
     let h = λ (y : X). f y + g y in
     omega (arith, sum_by-cons f x xs, sum_by-cons g x xs, sum_by-cons h x xs, sum_by-both f g xs)
 
-pub sum_by-map : {X Y : Type 0} (f : Y → ℕ) (h : X → Y) (xs : List X) → sum_by f (map h xs) ≡ sum_by (λ x. f (h x)) xs
-sum_by-map f h [] = refl
-sum_by-map {X} f h (x ∷ xs) =
-    let g = λ (y : X). f (h y) in
-    omega (arith, sum_by-cons f (h x) (map h xs), sum_by-cons g x xs, sum_by-map f h xs)
-
-sum_by-kept : {X : Type 0} (f : X → ℕ) (b : Bool) (x : X) (ys : List X) → sum_by f (cond b (x ∷ ys) ys) ≡ cond b (f x) 0 + sum_by f ys
-sum_by-kept f true x ys = sum_by-cons f x ys
-sum_by-kept f false x ys = omega arith
-
-pub sum_by-filter : {X : Type 0} (f : X → ℕ) (p : X → Bool) (xs : List X) → sum_by f (filter p xs) ≡ sum_by (λ x. cond (p x) (f x) 0) xs
-sum_by-filter f p [] = refl
-sum_by-filter {X} f p (x ∷ xs) =
-    let g = λ (y : X). cond (p y) (f y) 0 in
-    let kept : sum_by f (filter p (x ∷ xs)) ≡ cond (p x) (f x) 0 + sum_by f (filter p xs) = sum_by-kept f (p x) x (filter p xs) in
-    let all : sum_by g (x ∷ xs) ≡ g x + sum_by g xs = sum_by-cons g x xs in
-    let rest : sum_by f (filter p xs) ≡ sum_by g xs = sum_by-filter f p xs in
-    kept ∙ (ap (λ n. cond (p x) (f x) 0 + n) rest ∙ sym all)
-
 pub sum_by-flat_map : {X Y : Type 0} (f : Y → ℕ) (h : X → List Y) (xs : List X) → sum_by f (flat_map h xs) ≡ sum_by (λ x. sum_by f (h x)) xs
 sum_by-flat_map f h [] = refl
 sum_by-flat_map {X} f h (x ∷ xs) =
     let g = λ (y : X). sum_by f (h y) in
     omega (arith, sum_by-append f (h x) (flat_map h xs), sum_by-cons g x xs, sum_by-flat_map f h xs)
 
-pub sum_by-enumerate : {X : Type 0} (f g : ℕ × X → ℕ) (n : ℕ) (xs : List X) → ((k : ℕ) (d : X) → k < length xs → f (n + k, get_or xs k d) ≡ g (n + k, get_or xs k d)) → sum_by f (enumerate_from n xs) ≡ sum_by g (enumerate_from n xs)
-sum_by-enumerate {X} f g n xs h =
-    sum_by-same f g (enumerate_from n xs) (λ k d below.
-    let within : k < length xs = omega (arith, length-enumerate_from n xs) in
-    let e : get_or (enumerate_from n xs) k d ≡ (n + k, get_or xs k d.1) = get_or-enumerate_from n xs k d within in
-    rw e (h k d.1 within))
-
 pub enumerate-append : {X : Type 0} (n : ℕ) (xs ys : List X) → enumerate_from n (xs ++ ys) ≡ enumerate_from n xs ++ enumerate_from (n + length xs) ys
 enumerate-append n [] ys = ap (λ k. enumerate_from k ys) (omega arith)
 enumerate-append n (x ∷ xs) ys =
     ap (λ t. (n, x) ∷ t) (enumerate-append (n + 1) xs ys ∙ ap (λ k. enumerate_from (n + 1) xs ++ enumerate_from k ys) (omega arith))
-
--- a sum that only one element adds to
-pub sum_by-one : {X : Type 0} (f : ℕ × X → ℕ) (n : ℕ) (xs : List X) (place : ℕ) (d : X) → place < length xs → ((k : ℕ) (e : X) → k < length xs → k ≢ place → f (n + k, get_or xs k e) ≡ 0) → sum_by f (enumerate_from n xs) ≡ f (n + place, get_or xs place d)
-sum_by-one f n [] place d within others = absurd (omega arith)
-sum_by-one {X} f n (x ∷ xs) zero d within others =
-    let zero_of : ℕ × X → ℕ = λ p. 0 in
-    let rest : sum_by f (enumerate_from (n + 1) xs) ≡ sum_by zero_of (enumerate_from (n + 1) xs) =
-    sum_by-enumerate f zero_of (n + 1) xs (λ k e below.
-    let h : f (n + suc k, get_or xs k e) ≡ 0 = others (suc k) e (omega arith) (omega arith) in
-    let same : n + suc k ≡ n + 1 + k = omega arith in
-    subst (λ (j : ℕ). f (j, get_or xs k e) ≡ 0) same h) in
-    let first : f (n, x) ≡ f (n + 0, x) = ap (λ (j : ℕ). f (j, x)) (omega arith) in
-    omega (arith, sum_by-cons f (n, x) (enumerate_from (n + 1) xs), sum_by-none zero_of (enumerate_from (n + 1) xs) (λ _. refl))
-sum_by-one {X} f n (x ∷ xs) (suc place) d within others =
-    let first : f (n + 0, x) ≡ 0 = others 0 x (omega arith) (omega arith) in
-    let start : f (n, x) ≡ f (n + 0, x) = ap (λ (j : ℕ). f (j, x)) (omega arith) in
-    let rest : sum_by f (enumerate_from (n + 1) xs) ≡ f (n + 1 + place, get_or xs place d) =
-    sum_by-one f (n + 1) xs place d (omega arith) (λ k e below apart.
-    let h : f (n + suc k, get_or xs k e) ≡ 0 = others (suc k) e (omega arith) (omega arith) in
-    let same : n + suc k ≡ n + 1 + k = omega arith in
-    subst (λ (j : ℕ). f (j, get_or xs k e) ≡ 0) same h) in
-    let end : f (n + 1 + place, get_or xs place d) ≡ f (n + suc place, get_or xs place d) =
-    ap (λ (j : ℕ). f (j, get_or xs place d)) (omega arith) in
-    omega (arith, sum_by-cons f (n, x) (enumerate_from (n + 1) xs))
 
 -- a list that ends in e, cut at an element: that element is e, or stands before it
 pub cut_of_push : {X : Type 0} (xs before after : List X) (e x : X) → xs ++ e ∷ [] ≡ before ++ x ∷ after → ((xs ≡ before) × (e ≡ x)) ⊎ ((rest : List X) × (xs ≡ before ++ x ∷ rest))
@@ -124,16 +63,6 @@ get_enumerated {X} {Y} f n (x ∷ xs) (suc k) =
 pub get_numbered : {X Y : Type 0} (f : ℕ × X → Y) (xs : List X) (k : ℕ) → slice_get (map f (enumerate_from 0 xs)) k ≡ option_map (λ x. f (k, x)) (slice_get xs k)
 get_numbered {X} {Y} f xs k =
     get_enumerated f 0 xs k ∙ ap (λ j. option_map (λ (x : X). f (j, x)) (slice_get xs k)) (omega arith)
-
--- what competes and weighs no less than what competes
-abbrev pub greatest : {X : Type 0} → (X → Bool) → (X → ℕ) → List X → X → Bool
-greatest p w xs x = p x && list_all (λ y. not (p y) || leb (w y) (w x)) xs
-
--- what stands at the place that is found
-pub greatest_found : {X : Type 0} (p : X → Bool) (w : X → ℕ) (xs : List X) (best : ℕ) (d : X) → position (greatest p w xs) xs ≡ Some best → (best < length xs) × (p (get_or xs best d) ≡ true)
-greatest_found p w xs best d h =
-    let found = position-Some (greatest p w xs) xs best d h in
-    (found.0, (and_parts (p (get_or xs best d)) _ found.1).0)
 
 -- what holds of one of the items, or of each two of them, item by item
 pub any_here : {X : Type 0} (P : X → Type 0) (x : X) (xs : List X) → P x → Any P (x ∷ xs)

@@ -18,7 +18,8 @@ use Rattle.day_rules.specs.Terms.{Terms}
 use Rattle.day_rules.specs.Legal.{IsLegal}
 use Rattle.day_rules.specs.Replies.{is_of_auction}
 use Rattle.day_rules.specs.Laws.{Arrival, after_arrival, after_arrivals, has_arrival, AgreeOnEnds, AreSameBooks}
-use Rattle.day_rules.proofs.Lists.{get_numbered, sum_by-map}
+use Rattle.allocator_core.proofs.Lists.{sum_by-map}
+use Rattle.day_rules.proofs.Lists.{get_numbered}
 use Rattle.day_rules.proofs.Money.{numbered_twice}
 use Rattle.day_rules.proofs.Pushing.{map_same, is_counted}
 use Rattle.day_rules.proofs.Selling.{award_placed}

@@ -9,7 +9,8 @@ use Rattle.notice_book.specs.declared.ruling.Ruling.{Ruling}
 use Rattle.notice_book.specs.AwardList.{Counts, noticed, due_count, expired_by}
 use Rattle.notice_book.specs.Rules.{is_open, is_billed, may_end, may_win, is_due, ruling, ruling_of, noticed_award, expired_award}
 use Rattle.day_rules.specs.Books.{Sale, award_of, entries_to_come}
-use Rattle.day_rules.proofs.Lists.{sum_by-both, sum_by-map, sum_by-always}
+use Rattle.allocator_core.proofs.Lists.{sum_by-map}
+use Rattle.day_rules.proofs.Lists.{sum_by-both, sum_by-always}
 use Rattle.day_rules.proofs.Money.{changed_sum}
 
 -- how many entries an award may still bring, by its win and its end

@@ -19,26 +19,9 @@ use Rattle.day_rules.specs.Asks.{IsOfAdmitted, IsRefusal, IsOffer, IsWellFormed,
 use Rattle.day_rules.specs.Terms.{Terms, budgets_after}
 use Rattle.day_rules.specs.Replies.{ask_of, asks_with, bids_with, text_with}
 use Rattle.day_rules.specs.Legal.{AskMayFollow}
-use Rattle.day_rules.proofs.Choosing.{IsUndecidedReason, reason_of_admitted, reason_of_refused}
+use Rattle.allocator_core.proofs.Settled.{with_reason, length-settled, settled_at}
+use Rattle.allocator_core.proofs.Choosing.{IsUndecidedReason, reason_of_admitted, reason_of_refused}
 use Rattle.day_rules.proofs.Keeping.{kept_again, stays_ordered, stays_all, stays_any}
-
-abbrev pub with_reason : Offer → ℕ → Offer
-with_reason o r = record o { reason = r }
-
-pub length-settled : (budgets : List Units) (before : Standing) (offers : List Offer) → length (settled_offers budgets before offers) ≡ length offers
-unfolding settled_offers
-length-settled budgets before offers =
-    length-map (enumerate_from 0 offers) (λ (p : ℕ × Offer). record p.1 { reason = reason_at budgets before offers p.0 p.1 })
-    ∙ length-enumerate_from 0 offers
-
-pub settled_at : (budgets : List Units) (before : Standing) (offers : List Offer) (k : ℕ) (d : Offer) → k < length offers → get_or (settled_offers budgets before offers) k d ≡ with_reason (get_or offers k d) (reason_at budgets before offers k (get_or offers k d))
-unfolding settled_offers
-settled_at budgets before offers k d within =
-    let h : ℕ × Offer → Offer = λ p. record p.1 { reason = reason_at budgets before offers p.0 p.1 } in
-    let inside : k < length (enumerate_from 0 offers) = omega (arith, length-enumerate_from 0 offers) in
-    let start : 0 + k ≡ k = omega arith in
-    get_or-map h (enumerate_from 0 offers) k (0, d) d inside
-    ∙ (ap h (get_or-enumerate_from 0 offers k (0, d) within) ∙ ap (λ (j : ℕ). h (j, get_or offers k d)) start)
 
 -- what a decided offer was
 admitted_decided : (o : Offer) (chosen does_fit : Bool) → admitted_again (with_reason o (decided chosen does_fit)) ≡ with_reason o ADMITTED

@@ -24,9 +24,10 @@ use Rattle.day_rules.specs.Books.{Sale, sale_of, sales_of, award_of, awarded_off
 use Rattle.day_rules.specs.Asks.{IsUndecided, settled, undecided}
 use Rattle.day_rules.specs.Terms.{Terms, budgets_after}
 use Rattle.day_rules.specs.Legal.{MayFollow, IsLegal}
-use Rattle.day_rules.proofs.Choosing.{StandsWithin, standing_within, charge_for, taken_at, awarded_money, standing_sum}
+use Rattle.allocator_core.proofs.Choosing.{StandsWithin, standing_within, charge_for, taken_at, awarded_money, standing_sum}
 use Rattle.day_rules.proofs.Histories.{legal_induction}
-use Rattle.day_rules.proofs.Lists.{sum_by-always, sum_by-both, sum_by-map, sum_by-flat_map}
+use Rattle.allocator_core.proofs.Lists.{sum_by-map}
+use Rattle.day_rules.proofs.Lists.{sum_by-always, sum_by-both, sum_by-flat_map}
 use Rattle.day_rules.proofs.Settling.{is_undecided}
 use Rattle.day_rules.proofs.Pushing.{awards_notice, awards_moment, made_push, bill_of_open, loss_of_open}
 use Rattle.day_rules.proofs.Asking.{awards_ask, awards_length}
