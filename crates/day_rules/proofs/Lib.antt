@@ -18,3 +18,4 @@ pub mod Replying
 pub mod Running
 pub mod Ordering
 pub mod Orders
+mod Examples
