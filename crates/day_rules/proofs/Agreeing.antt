@@ -1,6 +1,6 @@
 -- Plain books that agree with a history, and the step of each kind of call.
-use Rattle.std.proofs.Common.{◌≡◌, ℕ, zero, suc, ◌+◌, ◌<◌, ◌≤◌, max, List, [], ◌∷◌, ◌++◌, map, length, filter, get_or, Bool, true, false, cond, not, ltb, eqb, refl, sym, ap, ◌∙◌, subst, inl, inr, arith, Option, Some, None}
-use Rattle.std.specs.List.{sum_by, enumerate_from, range_with_len, list_any, slice_get}
+use Rattle.std.proofs.Common.{◌≡◌, ℕ, ◌+◌, ◌≤◌, max, List, [], ◌∷◌, ◌++◌, map, length, filter, Bool, true, false, cond, not, ltb, eqb, refl, sym, ap, ◌∙◌, subst, arith, Option, Some}
+use Rattle.std.specs.List.{sum_by, range_with_len, list_any, slice_get}
 use Rattle.std.specs.Prelude.{IsPermutation}
 use Rattle.std.specs.Option.{option_map}
 use Rattle.std.proofs.lemmas.List.{map-append, length-map, append-nil}
@@ -25,7 +25,6 @@ use Rattle.day_rules.specs.Legal.{IsLegal}
 use Rattle.day_rules.specs.PlainBooks.{PlainBooks, no_books, no_sale, sale_at, charged, plain_reserved, plain_billed, plainly_settled, with_ask, without, with_notice, is_late, with_moment}
 use Rattle.day_rules.proofs.Pushing.{awards_notice, awards_moment, bill_of_open, loss_of_open}
 use Rattle.day_rules.proofs.Asking.{awards_ask}
-use Rattle.day_rules.proofs.Money.{own_charge}
 use Rattle.day_rules.proofs.Within.{sale_charge, latest_push}
 use Rattle.day_rules.proofs.Selling.{expired_none}
 use Rattle.day_rules.proofs.Numbers.{numbers_from, numbers_is, numbers_append, open_sold, billed_sold, changed_from, open_closed, numbers_same, billed_more, open_expired, billed_expired, any_late, charges_of_numbers}
@@ -66,7 +65,7 @@ charges : (terms : Terms) (history : List Entry) (books : PlainBooks) (test : Op
 charges terms history books test campaign h =
     ap (charged books.sales campaign) (numbers_is test (awards_of history))
     ∙ charges_of_numbers (λ n. sale_charge campaign (sale_at books.sales n)) test campaign 0 (awards_of history)
-      (λ k w at. ap (sale_charge campaign) (sale_of_number terms history books h k w at))
+    (λ k w at. ap (sale_charge campaign) (sale_of_number terms history books h k w at))
 
 pub agree_reserved : (terms : Terms) (history : List Entry) (books : PlainBooks) (campaign : ℕ) → Agree terms history books → plain_reserved books campaign ≡ reserved history campaign
 agree_reserved terms history books campaign h =

@@ -1,5 +1,5 @@
 -- The asks of a history: where they stand, and which auctions are known.
-use Rattle.std.proofs.Common.{◌≡◌, ℕ, zero, suc, ◌+◌, ◌-◌, ◌<◌, ◌≤◌, List, [], ◌∷◌, ◌++◌, map, length, Bool, true, false, cond, refl, sym, ap, ◌∙◌, subst, inl, inr, arith, Option, Some, None, is_some}
+use Rattle.std.proofs.Common.{◌≡◌, ℕ, zero, suc, ◌+◌, ◌-◌, List, [], ◌∷◌, ◌++◌, length, Bool, true, cond, refl, sym, ap, ◌∙◌, subst, inl, inr, arith, Option, Some, None, is_some}
 use Rattle.std.specs.List.{filter_map, cons_option, enumerate_from, slice_get, find}
 use Rattle.std.specs.Option.{option_map, option_or}
 use Rattle.std.specs.Str.{bytes_eq}

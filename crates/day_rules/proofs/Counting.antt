@@ -16,10 +16,10 @@ use Rattle.day_rules.specs.declared.entry.Entry.{Entry}
 use Rattle.day_rules.specs.Entries.{asked, entry_of_notice}
 use Rattle.day_rules.specs.Books.{Sale, sale_of, sales_of, award_of, awarded_offers, made, made_by, awards_of, ask_count, bid_count, text_count, entries_to_come}
 use Rattle.day_rules.specs.declared.limits.TheConstants.{MAX_AUCTIONS, MAX_BIDS, MAX_TEXT}
-use Rattle.day_rules.specs.Terms.{Terms, AreTerms}
+use Rattle.day_rules.specs.Terms.{Terms}
 use Rattle.day_rules.specs.Legal.{MayFollow, IsLegal}
-use Rattle.day_rules.specs.DayState.{IsDay}
-use Rattle.day_rules.proofs.Histories.{legal_induction}
+use Rattle.day_rules.specs.DayState.{IsDay, entries_of}
+use Rattle.day_rules.proofs.Histories.{legal_induction, legal_push}
 use Rattle.allocator_core.proofs.Lists.{sum_by-none}
 use Rattle.day_rules.proofs.Lists.{sum_by-always, sum_by-both}
 use Rattle.day_rules.proofs.Pushing.{awards_notice, awards_moment, made_push}
@@ -109,17 +109,17 @@ count_push history e =
     ∙ (length-append (made history) (made_by (length history) e)
     ∙ ap (λ n. n + length (made_by (length history) e)) (sym (awards_length history))))
 
-notice_few : (history : List Entry) (kind : NoticeKind) (n : ℕ) → Counts kind n (awards_of history) → entries_to_come (awards_of (history ++ entry_of_notice kind n ∷ [])) + 1 ≤ entries_to_come (awards_of history)
+pub notice_few : (history : List Entry) (kind : NoticeKind) (n : ℕ) → Counts kind n (awards_of history) → entries_to_come (awards_of (history ++ entry_of_notice kind n ∷ [])) + 1 ≤ entries_to_come (awards_of history)
 notice_few history kind n c =
     let is : entries_to_come (awards_of (history ++ entry_of_notice kind n ∷ [])) ≡ entries_to_come (noticed kind n (awards_of history)) = ap entries_to_come (awards_notice history kind n c) in
     omega (arith, to_come_notice kind n (awards_of history) c)
 
-moment_few : (history : List Entry) (now : ℕ) → 1 ≤ due_count now (awards_of history) → entries_to_come (awards_of (history ++ Entry.Expire now ∷ [])) + 1 ≤ entries_to_come (awards_of history)
+pub moment_few : (history : List Entry) (now : ℕ) → 1 ≤ due_count now (awards_of history) → entries_to_come (awards_of (history ++ Entry.Expire now ∷ [])) + 1 ≤ entries_to_come (awards_of history)
 moment_few history now some =
     let is : entries_to_come (awards_of (history ++ Entry.Expire now ∷ [])) ≡ entries_to_come (expired_by now (awards_of history)) = ap entries_to_come (awards_moment history now) in
     omega (arith, to_come_moment now (awards_of history))
 
-ask_few : (terms : Terms) (history : List Entry) (a : Ask) → IsLegal terms history → entries_to_come (awards_of (history ++ Entry.Ask a ∷ [])) ≡ entries_to_come (awards_of history) + 2 * length (sales_of a)
+pub ask_few : (terms : Terms) (history : List Entry) (a : Ask) → IsLegal terms history → entries_to_come (awards_of (history ++ Entry.Ask a ∷ [])) ≡ entries_to_come (awards_of history) + 2 * length (sales_of a)
 ask_few terms history a legal =
     ap entries_to_come (awards_ask terms history a legal) ∙ to_come_ask (length history) (awards_of history) (sales_of a)
 
@@ -168,3 +168,23 @@ day_text terms history day =
 pub day_entries : (terms : Terms) (history : List Entry) → IsDay terms history → length history < 2 ^ 32
 day_entries terms history day =
     omega (arith, few_entries terms history day.legal, day_awards terms history day, day_asks terms history day)
+
+-- a day with an entry that may follow is a day
+pub day_push : (terms : Terms) (history : List Entry) (e : Entry) → IsDay terms history → MayFollow terms history e → IsDay terms (history ++ e ∷ [])
+day_push terms history e day follows = record { terms_ok = day.terms_ok; legal = legal_push terms history e day.legal follows }
+
+-- how many entries there has to be memory for
+abbrev pub entries_needed : List Entry → Entry → ℕ
+entries_needed history (Entry.Ask a) = entries_of a + entries_to_come (awards_of history)
+entries_needed history (Entry.Win n) = 1
+entries_needed history (Entry.Bill n) = 1
+entries_needed history (Entry.Loss n) = 1
+entries_needed history (Entry.Expire now) = 1
+
+-- what an entry that there is room for leaves of the room is enough for those to come
+pub to_come_push : (terms : Terms) (history : List Entry) (e : Entry) (spare left : ℕ) → IsLegal terms history → MayFollow terms history e → entries_to_come (awards_of history) ≤ spare → entries_needed history e ≤ spare → spare ≤ left + 1 → entries_to_come (awards_of (history ++ e ∷ [])) ≤ left
+to_come_push terms history (Entry.Ask a) spare left legal follows to_come needed one = omega (arith, ask_few terms history a legal)
+to_come_push terms history (Entry.Win n) spare left legal follows to_come needed one = omega (arith, notice_few history NoticeKind.Win n follows)
+to_come_push terms history (Entry.Bill n) spare left legal follows to_come needed one = omega (arith, notice_few history NoticeKind.Bill n follows)
+to_come_push terms history (Entry.Loss n) spare left legal follows to_come needed one = omega (arith, notice_few history NoticeKind.Loss n follows)
+to_come_push terms history (Entry.Expire now) spare left legal follows to_come needed one = omega (arith, moment_few history now follows.ends)

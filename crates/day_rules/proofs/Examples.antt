@@ -43,7 +43,13 @@ texts place lurl = record { bid = place; seat = 115 ∷ []; bidid = []; adid = [
 -- an ask with a name and a digest of one byte each
 abbrev asks : ℕ → ℕ → ℕ → List (List ℕ) → List Offer → List Kept → Call
 asks name digest now imps offers kept = ask (record {
-  auction = name ∷ []; digest = digest ∷ []; now = now; first = 0; imps = imps; offers = offers; kept = kept;
+  auction = name ∷ [];
+  digest = digest ∷ [];
+  now = now;
+  first = 0;
+  imps = imps;
+  offers = offers;
+  kept = kept;
 })
 
 abbrev one_imp : List (List ℕ)
@@ -118,7 +124,12 @@ told terms calls = told_from terms [] (turns calls) (answers terms [] calls)
 -- the plain books say the same
 abbrev comes_to : List Answer → List (List ℕ) → List ℕ → List ℕ → Told
 comes_to answers reasons reserved billed = record {
-  answers = answers; reasons = reasons; reserved = reserved; billed = billed; plain_reserved = reserved; plain_billed = billed;
+  answers = answers;
+  reasons = reasons;
+  reserved = reserved;
+  billed = billed;
+  plain_reserved = reserved;
+  plain_billed = billed;
 }
 
 first_award : told one (asks_one 49 2500000 ∷ []) ≡ comes_to (Answer.Awarded 0 ∷ []) ((0 ∷ []) ∷ []) (2500000 ∷ []) (0 ∷ [])

@@ -1,5 +1,5 @@
 -- The entry of a reply may follow the history.
-use Rattle.std.proofs.Common.{◌≡◌, ℕ, ◌+◌, ◌<◌, ◌≤◌, ◌^◌, max, List, [], ◌∷◌, ◌++◌, length, Bool, true, false, cond, ltb, eqb, refl, sym, ap, ◌∙◌, subst, inl, inr, arith, Option, Some, None, IfSome}
+use Rattle.std.proofs.Common.{◌≡◌, ℕ, ◌<◌, ◌≤◌, ◌^◌, max, List, length, Bool, true, false, cond, ltb, eqb, refl, arith, Option, Some, None, IfSome}
 use Rattle.std.specs.List.{slice_get}
 use Rattle.std.specs.Str.{bytes_eq}
 use Rattle.std.proofs.lemmas.Bool.{cond_both, ltb-false, eqb-false}
@@ -11,12 +11,11 @@ use Rattle.notice_book.specs.Rules.{ruling_of}
 use Rattle.day_rules.specs.declared.answer.Seen.{Seen}
 use Rattle.day_rules.specs.declared.ask.Ask.{Ask}
 use Rattle.day_rules.specs.declared.entry.Entry.{Entry}
-use Rattle.day_rules.specs.declared.limits.DayLimits.{DayLimits}
 use Rattle.day_rules.specs.Entries.{entry_of_notice}
 use Rattle.day_rules.specs.Books.{awards_of, latest}
 use Rattle.day_rules.specs.Asks.{IsWellFormed, IsUndecided, settled}
 use Rattle.day_rules.specs.Terms.{Terms}
-use Rattle.day_rules.specs.Replies.{Reply, Call, ask, notice, tick, ask_of, seen_as, seen_in, ask_reply, ask_reply_by, settled_reply, asks_with, bids_with, text_with, is_of_auction, ruled_reply, known_reply, notice_reply, ticked, tick_reply, reply}
+use Rattle.day_rules.specs.Replies.{Reply, Call, ask, notice, tick, ask_of, seen_as, seen_in, ask_reply, ask_reply_by, settled_reply, asks_with, bids_with, text_with, is_of_auction, ruled_reply, known_reply, notice_reply, tick_reply, reply}
 use Rattle.day_rules.specs.Legal.{MayFollow, IsLegal}
 use Rattle.day_rules.specs.Runs.{IsCall}
 use Rattle.day_rules.proofs.Settling.{settled_follows}

@@ -19,3 +19,4 @@ pub mod Running
 pub mod Ordering
 pub mod Orders
 mod Examples
+pub mod Choices

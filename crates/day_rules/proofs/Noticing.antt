@@ -1,5 +1,5 @@
 -- Which notices stand in a history: those that its awards remember.
-use Rattle.std.proofs.Common.{◌≡◌, ℕ, zero, suc, ◌+◌, ◌-◌, ◌<◌, ◌≤◌, List, [], ◌∷◌, ◌++◌, map, length, Bool, true, false, cond, not, ◌&&◌, ◌||◌, eqb, ltb, refl, sym, ap, ◌∙◌, subst, inl, inr, arith, Option, Some, None}
+use Rattle.std.proofs.Common.{◌≡◌, ℕ, zero, suc, ◌+◌, ◌-◌, ◌<◌, List, [], ◌∷◌, ◌++◌, map, length, Bool, true, false, cond, not, ◌&&◌, ◌||◌, eqb, ltb, refl, sym, ap, ◌∙◌, subst, inl, inr, arith, Option, Some, None}
 use Rattle.std.specs.List.{list_any, slice_get, position_or_len}
 use Rattle.std.specs.Option.{option_map, option_map_or}
 use Rattle.std.proofs.lemmas.List.Folds.{list_any-append, position_or_len_push}
@@ -11,9 +11,8 @@ use Rattle.notice_book.specs.declared.kind.NoticeKind.{NoticeKind}
 use Rattle.notice_book.specs.declared.ruling.Ruling.{Ruling}
 use Rattle.notice_book.specs.AwardList.{Counts, noticed, expired_by}
 use Rattle.notice_book.specs.Rules.{is_open, is_billed, is_lost, is_due, ruling, ruling_of, noticed_award, expired_award}
-use Rattle.day_rules.specs.declared.ask.Ask.{Ask}
 use Rattle.day_rules.specs.declared.entry.Entry.{Entry}
-use Rattle.day_rules.specs.Entries.{Notice, notice_of, counts, entry_of_notice, same_kind, is_same_notice}
+use Rattle.day_rules.specs.Entries.{Notice, notice_of, counts, entry_of_notice, same_kind}
 use Rattle.day_rules.specs.Books.{Sale, award_of, awards_of, sales_of}
 use Rattle.day_rules.specs.Terms.{Terms}
 use Rattle.day_rules.specs.Legal.{MayFollow, IsLegal}

@@ -1,24 +1,22 @@
 -- The order of notices: what an arrival does to the awards, and that two arrivals of different awards commute.
-use Rattle.std.proofs.Common.{◌≡◌, ◌≢◌, ℕ, zero, suc, ◌+◌, ◌<◌, ◌≤◌, List, [], ◌∷◌, ◌++◌, map, length, Bool, true, false, cond, ◌&&◌, ◌||◌, eqb, refl, sym, ap, ◌∙◌, subst, inl, inr, arith, Option, Some, None}
+use Rattle.std.proofs.Common.{◌≡◌, ◌≢◌, ℕ, ◌+◌, ◌<◌, List, [], ◌∷◌, map, length, Bool, true, false, cond, ◌&&◌, eqb, refl, sym, ap, ◌∙◌, subst, inl, inr, arith, Option, Some, None}
 use Rattle.std.specs.List.{enumerate_from, list_any, slice_get}
 use Rattle.std.specs.Option.{option_map, option_map_or, option_and_then}
 use Rattle.std.proofs.lemmas.Option.{none-some, same_Some}
-use Rattle.std.proofs.lemmas.Bool.{cases_eq, cases_Bool, cond-true, cond-false, cond_both, eqb-true, ne_eqb, and_left, and_right}
+use Rattle.std.proofs.lemmas.Bool.{cases_Bool, cond-true, cond-false, cond_both, eqb-true, ne_eqb, and_left, and_right}
 use Rattle.std.specs.Str.{bytes_eq}
 use Rattle.notice_book.specs.declared.award.Award.{Award}
-use Rattle.notice_book.specs.declared.award.End.{End}
 use Rattle.notice_book.specs.declared.kind.NoticeKind.{NoticeKind}
 use Rattle.notice_book.specs.declared.ruling.Ruling.{Ruling}
-use Rattle.notice_book.specs.AwardList.{Counts, noticed}
+use Rattle.notice_book.specs.AwardList.{noticed}
 use Rattle.notice_book.specs.Rules.{ruling_of, noticed_award}
 use Rattle.day_rules.specs.declared.answer.Answer.{Answer}
-use Rattle.day_rules.specs.declared.ask.Ask.{Ask}
 use Rattle.day_rules.specs.declared.entry.Entry.{Entry}
 use Rattle.day_rules.specs.Entries.{notice_of, counts, asked}
-use Rattle.day_rules.specs.Books.{awards_of, ask_at}
+use Rattle.day_rules.specs.Books.{awards_of}
 use Rattle.day_rules.specs.Terms.{Terms}
 use Rattle.day_rules.specs.Legal.{IsLegal}
-use Rattle.day_rules.specs.Replies.{Reply, with_entry, is_of_auction, notice_place, ruled_reply, known_reply, notice_reply}
+use Rattle.day_rules.specs.Replies.{Reply, with_entry, is_of_auction, notice_place, ruled_reply, known_reply}
 use Rattle.day_rules.specs.Laws.{Arrival, arrival_reply, after_arrival, after_arrivals, Commute}
 use Rattle.day_rules.proofs.Lists.{get_numbered, get-append_left}
 use Rattle.day_rules.proofs.Pushing.{map_same, is_counted, awards_notice}
@@ -150,7 +148,7 @@ known_alike terms history e x (Some w) legal at =
     auction_with history e x.auction w (award_placed history x.award w at) in
     ap (λ (b : Bool). answer b (ruled_reply next x.kind x.award (ruling_of x.kind w))) of
     ∙ answer_alike (is_of_auction history x.auction w) (ruled_reply next x.kind x.award (ruling_of x.kind w)) (ruled_reply history x.kind x.award (ruling_of x.kind w)) (record { answer = Answer.Unknown; entry = None })
-      (ruled_alike terms history e x.kind x.award w (ruling_of x.kind w) legal at refl)
+    (ruled_alike terms history e x.kind x.award w (ruling_of x.kind w) legal at refl)
 
 pub answer_kept : (terms : Terms) (history : List Entry) (x y : Arrival) → IsLegal terms history → (x.award ≡ y.award → ⊥) → (arrival_reply (after_arrival history y) x).answer ≡ (arrival_reply history x).answer
 answer_kept terms history x y legal apart =
@@ -190,6 +188,6 @@ commute terms history x y legal apart = record {
   second = answer_kept terms history y x legal (λ same. apart (sym same));
   awards = awards_twice history x y
       ∙ (map_same (λ (p : ℕ × Award). arrived (after_arrival history x) y (p.0, arrived history x p)) (λ (p : ℕ × Award). arrived (after_arrival history y) x (p.0, arrived history y p)) 0 (awards_of history)
-        (λ k w at. two_arrived history x y (0 + k) w apart (award_placed history k w at))
+      (λ k w at. two_arrived history x y (0 + k) w apart (award_placed history k w at))
       ∙ sym (awards_twice history y x));
 }

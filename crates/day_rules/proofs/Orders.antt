@@ -1,5 +1,5 @@
 -- Every order of notices gives the same ends and the same money, where no open award gets both a bill and a loss.
-use Rattle.std.proofs.Common.{◌≡◌, ◌≢◌, ℕ, zero, suc, ◌+◌, ◌<◌, ◌≤◌, List, [], ◌∷◌, ◌++◌, map, length, Bool, true, false, cond, ◌&&◌, ◌||◌, eqb, refl, sym, ap, ◌∙◌, subst, inl, inr, arith, Option, Some, None}
+use Rattle.std.proofs.Common.{◌≡◌, ℕ, ◌+◌, ◌<◌, List, [], ◌∷◌, map, length, Bool, true, false, cond, ◌&&◌, ◌||◌, eqb, refl, sym, ap, ◌∙◌, subst, inl, inr, arith, Option, Some, None}
 use Rattle.std.specs.List.{enumerate_from, list_any, slice_get, sum_by}
 use Rattle.std.specs.Prelude.{IsPermutation}
 use Rattle.std.specs.Option.{option_map, option_map_or, option_or}
@@ -109,7 +109,7 @@ known_same history x kind n w xs within =
     let counted : Bool = eqb n x.award && (is_of_auction history x.auction w && is_counted (ruling_of x.kind w)) in
     list_any_same (is_known (after_arrival history x) kind n v) (is_known history kind n w) xs (λ y.
     ap (λ (b : Bool). is_same_notice (notice_of kind n) (notice_of y.kind y.award) && b)
-      (auction_of_ask (after_arrival history x) y.auction v w (ask_same counted x.kind w) ∙ auction_kept history x y.auction w within))
+    (auction_of_ask (after_arrival history x) y.auction v w (ask_same counted x.kind w) ∙ auction_kept history x y.auction w within))
 
 -- a known notice is one of the award
 known_arrives : (history : List Entry) (kind : NoticeKind) (n : ℕ) (w : Award) (xs : List Arrival) → has_known history kind n w xs ≡ true → has_arrival kind n xs
@@ -192,7 +192,7 @@ ends_after terms history (x ∷ xs) legal agree =
     ∙ (ap (λ (vs : List Award). map (ended next xs) (enumerate_from 0 vs)) (arrival_awards history x)
     ∙ (numbered_twice (arrived history x) (ended next xs) 0 ws
     ∙ map_same (λ (p : ℕ × Award). ended next xs (p.0, arrived history x p)) (ended history (x ∷ xs)) 0 ws
-      (λ k w at. ended_step history x xs (0 + k) w agree (ap (slice_get ws) (omega arith) ∙ at))))
+    (λ k w at. ended_step history x xs (0 + k) w agree (ap (slice_get ws) (omega arith) ∙ at))))
 
 -- every order of them
 agree_ordered : (history : List Entry) (xs ys : List Arrival) → IsPermutation xs ys → AgreeOnEnds history xs → AgreeOnEnds history ys

@@ -1,23 +1,23 @@
 -- What a reply does: it refuses, says that the call stands already, adds the call's entry, or is a tick that ends nothing.
-use Rattle.std.proofs.Common.{◌≡◌, ◌⊎◌, ℕ, zero, suc, ◌+◌, ◌≤◌, max, List, [], ◌∷◌, ◌++◌, length, Bool, true, false, cond, ◌||◌, eqb, ltb, refl, sym, ap, ◌∙◌, subst, inl, inr, arith, Option, Some, None, is_some, IfSome}
-use Rattle.std.specs.List.{list_any, slice_get, enumerate_from, filter_map, find, cons_option}
+use Rattle.std.proofs.Common.{◌≡◌, ◌⊎◌, ℕ, ◌+◌, ◌≤◌, max, List, [], ◌∷◌, ◌++◌, length, Bool, true, false, cond, ◌||◌, eqb, ltb, refl, sym, ap, ◌∙◌, inl, inr, arith, Option, Some, None, is_some}
+use Rattle.std.specs.List.{list_any, slice_get, enumerate_from, filter_map, find}
 use Rattle.std.specs.Str.{bytes_eq}
 use Rattle.std.proofs.lemmas.List.Folds.{list_any-append}
-use Rattle.std.proofs.lemmas.Bool.{cond_both, eqb-true, eqb-false}
+use Rattle.std.proofs.lemmas.Bool.{cond_both, eqb-true}
 use Rattle.notice_book.specs.declared.award.Award.{Award}
 use Rattle.notice_book.specs.declared.kind.NoticeKind.{NoticeKind}
 use Rattle.notice_book.specs.declared.ruling.Ruling.{Ruling}
-use Rattle.notice_book.specs.AwardList.{Counts, due_count}
+use Rattle.notice_book.specs.AwardList.{due_count}
 use Rattle.notice_book.specs.Rules.{ruling_of}
 use Rattle.day_rules.specs.declared.answer.Answer.{Answer}
 use Rattle.day_rules.specs.declared.answer.Seen.{Seen}
 use Rattle.day_rules.specs.declared.ask.Ask.{Ask}
 use Rattle.day_rules.specs.declared.entry.Entry.{Entry}
-use Rattle.day_rules.specs.Entries.{Notice, notice_of, entry_of_notice, counts}
-use Rattle.day_rules.specs.Books.{awards_of, latest, asks_of, placed_ask}
+use Rattle.day_rules.specs.Entries.{notice_of, entry_of_notice, counts}
+use Rattle.day_rules.specs.Books.{awards_of, latest, placed_ask}
 use Rattle.day_rules.specs.Asks.{settled, undecided}
 use Rattle.day_rules.specs.Terms.{Terms}
-use Rattle.day_rules.specs.Replies.{Reply, Call, ask, notice, tick, ask_of, seen_as, is_awarded, asks_with, bids_with, text_with, settled_reply, ask_reply_by, is_of_auction, ruled_reply, known_reply, ticked, reply}
+use Rattle.day_rules.specs.Replies.{Reply, Call, ask, notice, tick, ask_of, seen_as, is_awarded, asks_with, bids_with, text_with, settled_reply, ask_reply_by, is_of_auction, ruled_reply, known_reply, reply}
 use Rattle.day_rules.specs.Legal.{MayFollow, IsLegal}
 use Rattle.day_rules.specs.Runs.{is_taken, is_repeat, is_again, call_of_entry}
 use Rattle.day_rules.proofs.Noticing.{stands, repeat_stands, counted_fresh}

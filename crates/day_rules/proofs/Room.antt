@@ -1,6 +1,6 @@
 -- How many entries notices and moments may still add, after each kind of entry.
-use Rattle.std.proofs.Common.{◌≡◌, ℕ, ◌+◌, ◌*◌, ◌<◌, ◌≤◌, List, [], ◌∷◌, ◌++◌, map, length, Bool, true, false, cond, not, ◌&&◌, ◌||◌, ltb, refl, sym, ap, ◌∙◌, arith, Option, Some, None}
-use Rattle.std.specs.List.{sum_by, count_by, slice_get}
+use Rattle.std.proofs.Common.{◌≡◌, ℕ, ◌+◌, ◌*◌, ◌≤◌, List, [], ◌∷◌, ◌++◌, map, length, Bool, true, false, cond, not, ◌&&◌, ◌||◌, ltb, refl, sym, arith, Option, Some, None}
+use Rattle.std.specs.List.{sum_by}
 use Rattle.std.proofs.lemmas.List.Sums.{sum_by-cons, sum_by-append, sum_by-le-sum_by}
 use Rattle.notice_book.specs.declared.award.Award.{Award}
 use Rattle.notice_book.specs.declared.award.End.{End}
@@ -10,7 +10,7 @@ use Rattle.notice_book.specs.AwardList.{Counts, noticed, due_count, expired_by}
 use Rattle.notice_book.specs.Rules.{is_open, is_billed, may_end, may_win, is_due, ruling, ruling_of, noticed_award, expired_award}
 use Rattle.day_rules.specs.Books.{Sale, award_of, entries_to_come}
 use Rattle.allocator_core.proofs.Lists.{sum_by-map}
-use Rattle.day_rules.proofs.Lists.{sum_by-both, sum_by-always}
+use Rattle.day_rules.proofs.Lists.{sum_by-both}
 use Rattle.day_rules.proofs.Money.{changed_sum}
 
 -- how many entries an award may still bring, by its win and its end

@@ -1,28 +1,26 @@
 -- A run, turn by turn: it stays legal, and the plain books of its calls taken once agree with it.
-use Rattle.std.proofs.Common.{◌≡◌, ◌⊎◌, ℕ, ◌≤◌, max, List, [], ◌∷◌, ◌++◌, map, length, Bool, true, false, cond, ◌&&◌, ◌||◌, refl, sym, ap, ◌∙◌, subst, inl, inr, arith, Option, Some, None, IfSome}
+use Rattle.std.proofs.Common.{◌≡◌, ℕ, ◌≤◌, max, List, [], ◌∷◌, ◌++◌, map, length, Bool, true, false, cond, ◌||◌, refl, sym, ap, ◌∙◌, subst, inl, inr, arith, Option, Some, None, IfSome}
 use Rattle.std.specs.List.{list_any}
 use Rattle.std.proofs.lemmas.List.{append_assoc, append-nil}
 use Rattle.std.proofs.lemmas.List.Folds.{list_any-append}
 use Rattle.std.proofs.lemmas.List.Elements.{All-head, All-tail}
 use Rattle.std.proofs.lemmas.Bool.{cond-true, cond-false, both_ways, and_parts}
-use Rattle.adx_units.specs.declared.units.Units.{Units}
 use Rattle.notice_book.specs.declared.kind.NoticeKind.{NoticeKind}
 use Rattle.notice_book.specs.AwardList.{Counts, due_count}
-use Rattle.day_rules.specs.declared.ask.Ask.{Ask}
 use Rattle.day_rules.specs.declared.entry.Entry.{Entry}
 use Rattle.day_rules.specs.Entries.{entry_of_notice}
-use Rattle.day_rules.specs.Books.{awards_of, reserved, billed, latest}
+use Rattle.day_rules.specs.Books.{awards_of, latest}
 use Rattle.day_rules.specs.Asks.{settled}
 use Rattle.day_rules.specs.Terms.{Terms}
 use Rattle.day_rules.specs.Replies.{Reply, Call, ask, notice, tick, reply, with_entry}
 use Rattle.day_rules.specs.Legal.{MayFollow, IsLegal}
 use Rattle.day_rules.specs.Runs.{Turn, Outcome, done, faulted, IsCall, AreTurns, after_turn, run, is_taken, is_repeat, is_done, is_effective, effective_calls, call_of_entry, is_again, once_after, once}
-use Rattle.day_rules.specs.PlainBooks.{PlainBooks, no_books, plain_reserved, plain_billed, plainly_settled, with_call, with_moment, plain_books}
+use Rattle.day_rules.specs.PlainBooks.{PlainBooks, no_books, plainly_settled, with_call, with_moment, plain_books}
 use Rattle.day_rules.specs.Laws.{AreOfCallsTakenOnce}
 use Rattle.day_rules.proofs.Histories.{legal_none, legal_push, legal_last}
 use Rattle.day_rules.proofs.Agreeing.{Agree, agree_none, agree_reserved, agree_billed, settled_alike, agree_ask, agree_notice, agree_moment, agree_idle}
 use Rattle.day_rules.proofs.Following.{call_follows}
-use Rattle.day_rules.proofs.Replying.{entry_of_call, stands_in, Does, IsRefused, IsKnown, IsAdded, IsIdle, does, read_back, entry_fresh, stands_after, tick_again, never_again}
+use Rattle.day_rules.proofs.Replying.{entry_of_call, stands_in, Does, does, read_back, entry_fresh, stands_after, tick_again, never_again}
 use Rattle.day_rules.proofs.Lists.{all_front}
 
 -- a run stays legal

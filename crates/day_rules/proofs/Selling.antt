@@ -1,11 +1,10 @@
 -- What the code of a day reads of its awards and its asks.
-use Rattle.std.proofs.Common.{◌≡◌, ◌≢◌, ◌⊎◌, ℕ, zero, suc, ◌+◌, ◌<◌, ◌≤◌, ◌^◌, List, [], ◌∷◌, ◌++◌, map, length, get_or, take, Bool, true, false, cond, ◌&&◌, eqb, ltb, refl, sym, ap, ◌∙◌, subst, inl, inr, arith, Option, Some, None}
-use Rattle.std.specs.List.{All, slice_get, enumerate_from, flat_map, filter, range_with_len, position, sum_by}
-use Rattle.std.specs.Option.{option_map, option_map_or}
-use Rattle.std.proofs.lemmas.Bool.{cases_eq, cases_lt, cond-true, cond-false, cond_both, eq-eqb, ne_eqb, eqb-true, and_parts, le-leb}
-use Rattle.std.proofs.lemmas.List.{get_or-map, length-map, get_or_past}
-use Rattle.std.proofs.lemmas.List.FromFn.{length-enumerate_from, get_or-enumerate_from}
-use Rattle.std.proofs.lemmas.List.Elements.{All-append, All-cons, All-head, All-tail, All-nil, All-filter}
+use Rattle.std.proofs.Common.{◌≡◌, ◌⊎◌, ℕ, suc, ◌+◌, ◌<◌, ◌≤◌, List, [], ◌∷◌, ◌++◌, map, length, get_or, Bool, true, false, cond, ◌&&◌, eqb, ltb, refl, sym, ap, ◌∙◌, subst, inl, inr, arith, Option, Some, None}
+use Rattle.std.specs.List.{All, slice_get, enumerate_from, flat_map, range_with_len, position, sum_by}
+use Rattle.std.specs.Option.{option_map}
+use Rattle.std.proofs.lemmas.Bool.{cases_lt, cond-true, cond-false, eqb-true, and_parts, le-leb}
+use Rattle.std.proofs.lemmas.List.{get_or_past}
+use Rattle.std.proofs.lemmas.List.Elements.{All-append, All-cons, All-head, All-tail, All-nil}
 use Rattle.std.proofs.lemmas.Option.{slice_get_within, get_or_from_slice_get, slice_get-get_or, same_Some, none-some}
 use Rattle.std.proofs.lemmas.List.Sums.{sum_by-append, sum_by-cons}
 use Rattle.std.proofs.lemmas.List.Quantifiers.{position-Some}
@@ -14,24 +13,21 @@ use Rattle.adx_units.specs.Money.{units}
 use Rattle.adx_units.specs.declared.units.Units.{Units}
 use Rattle.adx_units.specs.declared.offer.Offer.{Offer}
 use Rattle.adx_units.specs.declared.offer.TheConstants.{ADMITTED}
-use Rattle.allocator_core.specs.Choice.{Standing, budget_at}
+use Rattle.allocator_core.specs.Choice.{budget_at}
 use Rattle.allocator_core.specs.Settling.{AreOffers, IsPriced, IsUnsettled, budgets_in, standing_in}
-use Rattle.allocator_core.specs.declared.reason.TheConstants.{AWARDED, LOST_TO_HIGHER, OVER_BUDGET}
+use Rattle.allocator_core.specs.declared.reason.TheConstants.{AWARDED}
 use Rattle.campaign_book.specs.Accounts.{Account, account_at, opened, has_room, committed as committed_of}
 use Rattle.notice_book.specs.declared.award.Award.{Award}
-use Rattle.notice_book.specs.declared.kind.NoticeKind.{NoticeKind}
 use Rattle.notice_book.specs.AwardList.{due_count, expired_by}
-use Rattle.notice_book.specs.Rules.{is_open, is_due, expired_award, noticed_award}
+use Rattle.notice_book.specs.Rules.{is_open, is_due, expired_award}
 use Rattle.day_rules.specs.declared.ask.Ask.{Ask}
 use Rattle.day_rules.specs.declared.entry.Entry.{Entry}
-use Rattle.day_rules.specs.Entries.{asked, entry_of_notice}
 use Rattle.day_rules.specs.Books.{Sale, sale_of, sales_of, award_of, awarded_offers, made, made_by, awards_of, left_by, accounts_in, account_in, reserved_in, billed_in, committed}
 use Rattle.day_rules.specs.Asks.{IsWellFormed, IsUndecided, IsOffer, IsAdmittedOffer, IsRefusal}
 use Rattle.day_rules.specs.Terms.{Terms, budgets_after}
 use Rattle.day_rules.specs.Legal.{MayFollow, IsLegal}
 use Rattle.day_rules.proofs.Histories.{legal_induction}
 use Rattle.day_rules.proofs.Pushing.{made_before, made_push}
-use Rattle.day_rules.proofs.Asking.{awards_ask, awards_length}
 use Rattle.day_rules.proofs.Settling.{refusal_other, refusal_not_awarded}
 use Rattle.day_rules.proofs.Money.{accounts_length, account_here, changed_sum, own_here}
 use Rattle.day_rules.proofs.Within.{within_budget, held, held_open, held_sum, end_is_none}

@@ -1,9 +1,8 @@
 -- A settled ask: what it keeps, that settling it again gives it back, and that it may follow.
-use Rattle.std.proofs.Common.{◌≡◌, ◌≢◌, ℕ, ◌+◌, ◌^◌, ◌<◌, ◌≤◌, max, List, map, length, get_or, Bool, true, false, cond, ◌||◌, eqb, refl, sym, ap, ◌∙◌, subst, inl, inr, arith, None}
-use Rattle.std.specs.List.{All, enumerate_from, slice_get}
+use Rattle.std.proofs.Common.{◌≡◌, ◌≢◌, ℕ, ◌^◌, ◌<◌, ◌≤◌, max, List, map, length, get_or, Bool, true, false, cond, ◌||◌, eqb, refl, sym, ap, ◌∙◌, subst, inl, inr, arith, None}
+use Rattle.std.specs.List.{All}
 use Rattle.std.proofs.lemmas.List.{get_or-map, length-map, same_lists}
 use Rattle.std.proofs.lemmas.List.Elements.{All-weaker}
-use Rattle.std.proofs.lemmas.List.FromFn.{length-enumerate_from, get_or-enumerate_from}
 use Rattle.std.proofs.lemmas.Option.{get_or_from_slice_get, slice_get_within, slice_get-get_or}
 use Rattle.std.proofs.lemmas.Bool.{cases_eq, cond-false, or_from, or_parts, both_ways, eq-eqb, ne_eqb}
 use Rattle.adx_units.specs.declared.units.Units.{Units}
@@ -81,8 +80,7 @@ undecided_reason : (o : Offer) (b : Bool) → is_decided o.reason ≡ b → IsUn
 undecided_reason o true h = (omega arith, omega arith, omega arith)
 undecided_reason o false h =
     let outer = or_parts (eqb o.reason AWARDED) (eqb o.reason LOST_TO_HIGHER || eqb o.reason OVER_BUDGET) h in
-    let inner = or_parts (eqb o.reason LOST_TO_HIGHER) (eqb o.reason OVER_BUDGET) outer.1 in
-    (
+    let inner = or_parts (eqb o.reason LOST_TO_HIGHER) (eqb o.reason OVER_BUDGET) outer.1 in (
       λ same. both_ways (eqb o.reason AWARDED) outer.0 (eq-eqb o.reason AWARDED same),
       λ same. both_ways (eqb o.reason LOST_TO_HIGHER) inner.0 (eq-eqb o.reason LOST_TO_HIGHER same),
       λ same. both_ways (eqb o.reason OVER_BUDGET) inner.1 (eq-eqb o.reason OVER_BUDGET same),
@@ -147,11 +145,13 @@ needs_by : (budgets : List Units) (before : Standing) (offers : List Offer) (pla
 needs_by budgets before offers place o h needs = elim (cases_eq o.reason ADMITTED) [
   | inl admitted ↦
       let standing : Standing = standing_at budgets before offers o.imp in
-      let is = reason_of_admitted budgets before offers place o admitted in
-      (admitted, elim needs [
-        | inl awarded ↦ awarded
-        | inr mark ↦ absurd (no_mark (is_place (chosen_at budgets standing offers o.imp) place) (fits budgets standing o) (sym is ∙ mark))
-      ])
+      let is = reason_of_admitted budgets before offers place o admitted in (
+        admitted,
+        elim needs [
+          | inl awarded ↦ awarded
+          | inr mark ↦ absurd (no_mark (is_place (chosen_at budgets standing offers o.imp) place) (fits budgets standing o) (sym is ∙ mark))
+        ],
+      )
   | inr refused ↦
       let is = reason_of_refused budgets before offers place o refused in
       elim needs [ inl awarded ↦ absurd (h.0 (sym is ∙ awarded)) | inr mark ↦ absurd (refused (sym is ∙ mark)) ]

@@ -1,26 +1,22 @@
 -- What every legal history keeps: budgets, limits, moments, few awards and few entries.
-use Rattle.std.proofs.Common.{◌≡◌, ℕ, zero, suc, ◌+◌, ◌*◌, ◌^◌, ◌<◌, ◌≤◌, max, List, [], ◌∷◌, ◌++◌, map, length, take, get_or, Bool, true, false, cond, ◌&&◌, eqb, ltb, refl, sym, ap, ◌∙◌, subst, inl, inr, arith, length-append, Option, Some, None, is_some}
-use Rattle.std.proofs.lemmas.List.{length-map}
+use Rattle.std.proofs.Common.{◌≡◌, ℕ, ◌+◌, ◌^◌, ◌<◌, ◌≤◌, max, List, [], ◌∷◌, ◌++◌, map, length, Bool, true, false, cond, ◌&&◌, eqb, ltb, refl, sym, ap, ◌∙◌, subst, arith, Option, Some, None, is_some}
 use Rattle.std.proofs.lemmas.Bool.{cond_both}
-use Rattle.std.specs.List.{sum_by, count_by, range_with_len, slice_get, enumerate_from, filter}
+use Rattle.std.specs.List.{sum_by, range_with_len}
 use Rattle.std.specs.Option.{option_map_or}
-use Rattle.std.proofs.lemmas.List.Sums.{sum_by_push, sum_by-cons, sum_by-append, length-filter, sum_by-le-sum_by}
-use Rattle.std.proofs.lemmas.List.Concat.{length-flat_map}
+use Rattle.std.proofs.lemmas.List.Sums.{sum_by_push, sum_by-append, sum_by-le-sum_by}
 use Rattle.std.proofs.lemmas.List.Recursion.{max_push}
 use Rattle.adx_units.specs.declared.units.Units.{Units}
-use Rattle.adx_units.specs.declared.offer.Offer.{Offer}
-use Rattle.allocator_core.specs.Choice.{budget_at, standing_at, settled_offers}
-use Rattle.allocator_core.specs.declared.reason.TheConstants.{AWARDED}
+use Rattle.allocator_core.specs.Choice.{budget_at, standing_at}
 use Rattle.notice_book.specs.declared.award.Award.{Award}
 use Rattle.notice_book.specs.declared.award.End.{End}
 use Rattle.notice_book.specs.declared.kind.NoticeKind.{NoticeKind}
 use Rattle.notice_book.specs.declared.ruling.Ruling.{Ruling}
-use Rattle.notice_book.specs.AwardList.{Counts, noticed, expired_by}
+use Rattle.notice_book.specs.AwardList.{Counts, noticed}
 use Rattle.notice_book.specs.Rules.{is_open, is_billed, is_due, ruling_of, noticed_award, expired_award}
 use Rattle.day_rules.specs.declared.ask.Ask.{Ask}
 use Rattle.day_rules.specs.declared.entry.Entry.{Entry}
 use Rattle.day_rules.specs.Entries.{asked, entry_of_notice}
-use Rattle.day_rules.specs.Books.{Sale, sale_of, sales_of, award_of, awarded_offers, made, made_by, awards_of, charge_where, reserved_in, billed_in, committed, moment_of, latest, ask_count, bid_count, text_count, kept_size, entries_to_come}
+use Rattle.day_rules.specs.Books.{Sale, sale_of, sales_of, award_of, awarded_offers, awards_of, charge_where, reserved_in, billed_in, committed, moment_of, latest, ask_count, bid_count, text_count, kept_size}
 use Rattle.day_rules.specs.Asks.{IsUndecided, settled, undecided}
 use Rattle.day_rules.specs.Terms.{Terms, budgets_after}
 use Rattle.day_rules.specs.Legal.{MayFollow, IsLegal}
@@ -29,10 +25,9 @@ use Rattle.day_rules.proofs.Histories.{legal_induction}
 use Rattle.allocator_core.proofs.Lists.{sum_by-map}
 use Rattle.day_rules.proofs.Lists.{sum_by-always, sum_by-both, sum_by-flat_map}
 use Rattle.day_rules.proofs.Settling.{is_undecided}
-use Rattle.day_rules.proofs.Pushing.{awards_notice, awards_moment, made_push, bill_of_open, loss_of_open}
-use Rattle.day_rules.proofs.Asking.{awards_ask, awards_length}
+use Rattle.day_rules.proofs.Pushing.{awards_notice, awards_moment, bill_of_open, loss_of_open}
+use Rattle.day_rules.proofs.Asking.{awards_ask}
 use Rattle.day_rules.proofs.Money.{own_charge, charge_passes, charge_fails, changed_sum}
-use Rattle.day_rules.proofs.Room.{to_come_ask, to_come_notice, to_come_moment}
 
 -- what an award takes of a campaign's budget, open or billed
 abbrev pub held : ℕ → Award → ℕ

@@ -1,13 +1,17 @@
 -- The laws of the definitions, as statements. This project's own.
-use Rattle.std.specs.Prelude.{◌≡◌, ◌≢◌, ℕ, ◌≤◌, List, [], ◌∷◌, ◌++◌, map, length, true, if◌then◌else◌, IsPermutation, IsTrue, Some, slice_get}
+use Rattle.std.specs.Prelude.{◌≡◌, ◌≢◌, ◌↔◌, ℕ, ◌≤◌, List, [], ◌∷◌, ◌++◌, map, length, true, if◌then◌else◌, IsPermutation, IsTrue, Some, slice_get}
 use Rattle.std.specs.List.{list_any}
 use Rattle.notice_book.specs.declared.kind.NoticeKind.{NoticeKind}
-use Rattle.allocator_core.specs.Choice.{budget_at}
+use Rattle.adx_units.specs.declared.offer.Offer.{Offer}
+use Rattle.allocator_core.specs.Choice.{budget_at, chosen_at, settled_offers, standing_at}
+use Rattle.allocator_core.specs.declared.reason.TheConstants.{AWARDED}
 use Rattle.notice_book.specs.declared.award.Award.{Award}
 use Rattle.notice_book.specs.Rules.{is_open, is_billed}
+use Rattle.day_rules.specs.declared.ask.Ask.{Ask}
 use Rattle.day_rules.specs.declared.entry.Entry.{Entry}
 use Rattle.day_rules.specs.Entries.{notice_of, is_same_notice}
 use Rattle.day_rules.specs.Books.{awards_of, numbers_where, reserved, billed, committed}
+use Rattle.day_rules.specs.Asks.{undecided}
 use Rattle.day_rules.specs.Terms.{Terms, budgets_after}
 use Rattle.day_rules.specs.Legal.{IsLegal}
 use Rattle.day_rules.specs.Replies.{Reply, notice_reply, reply, with_entry}
@@ -25,6 +29,18 @@ abbrev pub RunsStayLegal : Type 0
 RunsStayLegal =
     (terms : Terms) (history : List Entry) (turns : List Turn) → IsLegal terms history
     → AreTurns (length terms.budgets) turns → IsLegal terms (run terms history turns)
+
+-- an ask as it stands behind some entries: each of its offers has the reason that it gets there, read as admitted where
+-- it is decided, and an offer is awarded exactly where it is the first of the greatest of its impression at its turn
+pub record StandsSettled (terms : Terms) (before : List Entry) (a : Ask) : Type 0 where
+  pub offers : a.offers ≡ settled_offers (budgets_after terms before) (committed before) (undecided a).offers
+  pub awarded : (place : ℕ) (o : Offer) → slice_get a.offers place ≡ Some o → (o.reason ≡ AWARDED) ↔ (chosen_at (budgets_after terms before) (standing_at (budgets_after terms before) (committed before) (undecided a).offers o.imp) (undecided a).offers o.imp ≡ Some place)
+
+-- each ask of a legal history stands settled behind the entries before it
+abbrev pub FirstGreatestChoice : Type 0
+FirstGreatestChoice =
+    (terms : Terms) (before : List Entry) (a : Ask) (after : List Entry) → IsLegal terms (before ++ Entry.Ask a ∷ after)
+    → StandsSettled terms before a
 
 -- the books after a run are the plain books of its calls taken once: the same numbers are open and were billed,
 -- and each campaign has the same money

@@ -9,11 +9,16 @@
 mod answer;
 mod ask;
 mod entry;
+mod laws;
 mod limits;
 
 pub use answer::{Answer, Seen, Which};
 pub use ask::{Ask, Kept};
 pub use entry::Entry;
+pub use laws::{
+    calls_taken_once, first_greatest_choice, notices_commute, order_is_free, repeats_are_left_out,
+    runs_stay_legal, within_budget,
+};
 pub use limits::{
     DayLimits, KEPT_OVERHEAD, MAX_AUCTIONS, MAX_BIDS, MAX_IMPS, MAX_KEPT, MAX_LIFE, MAX_OFFERS,
     MAX_TEXT, NO_IMP,
