@@ -69,10 +69,6 @@ ask_of_push auction history e =
     let p : ℕ × Ask → Bool = λ p. bytes_eq p.1.auction auction in
     ap (find p) (asks_after history e) ∙ find-append p (asks_of history) (cons_option (placed_ask (length history, e)) [])
 
-or_none : (o : Option (ℕ × Ask)) → option_or o None ≡ o
-or_none None = refl
-or_none (Some p) = refl
-
 pub same_bytes : (xs : List ℕ) → bytes_eq xs xs ≡ true
 same_bytes xs = (bytes_eq-Decides xs xs).1 refl
 

@@ -1,5 +1,6 @@
 -- The awards behind an ask: the old ones, and its own.
-use Rattle.std.proofs.Common.{◌≡◌, ℕ, zero, suc, ◌+◌, ◌<◌, ◌≤◌, List, [], ◌∷◌, ◌++◌, map, length, drop, Bool, true, false, ◌||◌, refl, ap, ◌∙◌, arith, Option, Some, None, length-append}
+use Rattle.std.proofs.Common.{◌≡◌, ℕ, zero, suc, ◌+◌, ◌<◌, ◌≤◌, List, [], ◌∷◌, ◌++◌, map, length, drop, Bool, false, ◌||◌, refl, ap, ◌∙◌, arith, Option, None, length-append}
+use Rattle.std.proofs.Math.Bool.{or-false}
 use Rattle.std.specs.List.{enumerate_from, filter_map, slice_get}
 use Rattle.std.specs.Option.{option_or}
 use Rattle.std.proofs.lemmas.List.{map-append}
@@ -15,7 +16,7 @@ use Rattle.day_rules.specs.Entries.{notice_of, counts}
 use Rattle.day_rules.specs.Books.{made, made_by, award_of, sales_of, Sale, end_by, end_of, is_won, left_by, awards_of}
 use Rattle.day_rules.specs.Legal.{MayFollow, IsLegal}
 use Rattle.day_rules.specs.Terms.{Terms}
-use Rattle.day_rules.proofs.Lists.{enumerate-append}
+use Rattle.day_rules.proofs.Lists.{enumerate-append, or_none}
 use Rattle.day_rules.proofs.Histories.{legal_induction}
 use Rattle.day_rules.proofs.Pushing.{after_entry, made_before, made_push, won_push, left_all}
 
@@ -44,19 +45,10 @@ unknown_not_won terms history legal =
     let old : is_won n h ≡ false = before n (omega arith) in
     won_push n h e ∙ (ap (λ (b : Bool). b || counts (notice_of NoticeKind.Win n) e) old ∙ not_counted terms h e n follows (omega arith))) history legal
 
--- an ask ends and wins none of the awards before it
-or_false : (b : Bool) → (b || false) ≡ b
-or_false true = refl
-or_false false = refl
-
-or_none : (o : Option End) → option_or o None ≡ o
-or_none None = refl
-or_none (Some x) = refl
-
 untouched : (a : Ask) (n : ℕ) (ws : List Award) → map (after_entry (Entry.Ask a)) (enumerate_from n ws) ≡ ws
 untouched a n [] = refl
 untouched a n (w ∷ ws) =
-    ap (λ (b : Bool). record w { won = b; end = option_or w.end None } ∷ map (after_entry (Entry.Ask a)) (enumerate_from (n + 1) ws)) (or_false w.won)
+    ap (λ (b : Bool). record w { won = b; end = option_or w.end None } ∷ map (after_entry (Entry.Ask a)) (enumerate_from (n + 1) ws)) (or-false w.won)
     ∙ (ap (λ (o : Option End). record w { end = o } ∷ map (after_entry (Entry.Ask a)) (enumerate_from (n + 1) ws)) (or_none w.end)
     ∙ ap (λ (t : List Award). w ∷ t) (untouched a (n + 1) ws))
 
@@ -83,7 +75,7 @@ unfolding awards_of
 awards_ask terms history a legal =
     let h : List Entry = history ++ Entry.Ask a ∷ [] in
     let own : List Award = map (award_of (length history)) (sales_of a) in
-    let won : (m : ℕ) → 0 + length (made history) ≤ m → is_won m h ≡ false = λ m past. won_push m history (Entry.Ask a) ∙ (or_false (is_won m history) ∙ unknown_not_won terms history legal m (omega arith)) in
+    let won : (m : ℕ) → 0 + length (made history) ≤ m → is_won m h ≡ false = λ m past. won_push m history (Entry.Ask a) ∙ (or-false (is_won m history) ∙ unknown_not_won terms history legal m (omega arith)) in
     ap (λ (ws : List Award). map (left_by h) (enumerate_from 0 ws)) (made_push history (Entry.Ask a))
     ∙ (ap (map (left_by h)) (enumerate-append 0 (made history) own)
     ∙ (map-append (left_by h) (enumerate_from 0 (made history)) (enumerate_from (0 + length (made history)) own)

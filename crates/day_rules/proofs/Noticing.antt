@@ -1,5 +1,6 @@
 -- Which notices stand in a history: those that its awards remember.
 use Rattle.std.proofs.Common.{◌≡◌, ℕ, zero, suc, ◌+◌, ◌-◌, ◌<◌, List, [], ◌∷◌, ◌++◌, map, length, Bool, true, false, cond, not, ◌&&◌, ◌||◌, eqb, ltb, refl, sym, ap, ◌∙◌, subst, inl, inr, arith, Option, Some, None}
+use Rattle.std.proofs.Math.Bool.{or-false}
 use Rattle.std.specs.List.{list_any, slice_get, position_or_len}
 use Rattle.std.specs.Option.{option_map, option_map_or}
 use Rattle.std.proofs.lemmas.List.Folds.{list_any-append, position_or_len_push}
@@ -35,13 +36,9 @@ had_notice kind o = option_map_or (has_notice kind) o false
 abbrev pub stands : List Entry → Notice → Bool
 stands history x = list_any (counts x) history
 
-or_false : (b : Bool) → (b || false) ≡ b
-or_false true = refl
-or_false false = refl
-
 pub stands_push : (history : List Entry) (e : Entry) (x : Notice) → stands (history ++ e ∷ []) x ≡ (stands history x || counts x e)
 stands_push history e x =
-    list_any-append (counts x) history (e ∷ []) ∙ ap (λ (b : Bool). stands history x || b) (or_false (counts x e))
+    list_any-append (counts x) history (e ∷ []) ∙ ap (λ (b : Bool). stands history x || b) (or-false (counts x e))
 
 -- the awards of an ask had no notice
 fresh_one : (kind : NoticeKind) (place : ℕ) (s : Sale) → has_notice kind (award_of place s) ≡ false
@@ -77,15 +74,15 @@ and_false false false = refl
 
 had_by : (kind other : NoticeKind) (w : Award) → ruling_of other w ≡ Ruling.Counted → has_notice kind (noticed_award other w) ≡ (has_notice kind w || (same_kind kind other && true))
 had_by NoticeKind.Win NoticeKind.Win w counted = or_true w.won
-had_by NoticeKind.Win NoticeKind.Bill w counted = sym (or_false w.won)
-had_by NoticeKind.Win NoticeKind.Loss w counted = sym (or_false w.won)
-had_by NoticeKind.Bill NoticeKind.Win w counted = sym (or_false (is_billed w.end))
+had_by NoticeKind.Win NoticeKind.Bill w counted = sym (or-false w.won)
+had_by NoticeKind.Win NoticeKind.Loss w counted = sym (or-false w.won)
+had_by NoticeKind.Bill NoticeKind.Win w counted = sym (or-false (is_billed w.end))
 had_by NoticeKind.Bill NoticeKind.Bill w counted = or_true (is_billed w.end)
 had_by NoticeKind.Bill NoticeKind.Loss w counted =
-    sym (or_false (is_billed w.end) ∙ ap is_billed (loss_of_open w.won w.end counted))
-had_by NoticeKind.Loss NoticeKind.Win w counted = sym (or_false (is_lost w.end))
+    sym (or-false (is_billed w.end) ∙ ap is_billed (loss_of_open w.won w.end counted))
+had_by NoticeKind.Loss NoticeKind.Win w counted = sym (or-false (is_lost w.end))
 had_by NoticeKind.Loss NoticeKind.Bill w counted =
-    sym (or_false (is_lost w.end) ∙ ap is_lost (bill_of_open w.won w.end counted))
+    sym (or-false (is_lost w.end) ∙ ap is_lost (bill_of_open w.won w.end counted))
 had_by NoticeKind.Loss NoticeKind.Loss w counted = or_true (is_lost w.end)
 
 record IsCounted (kind : NoticeKind) (o : Option Award) : Type 0 where
@@ -149,7 +146,7 @@ remembered_notice history other m c before kind n =
 remembered_push : (terms : Terms) (history : List Entry) (e : Entry) → IsLegal terms history → MayFollow terms history e → AreRemembered history → AreRemembered (history ++ e ∷ [])
 remembered_push terms history (Entry.Ask a) legal follows before kind n =
     stands_push history (Entry.Ask a) (notice_of kind n)
-    ∙ (or_false (stands history (notice_of kind n))
+    ∙ (or-false (stands history (notice_of kind n))
     ∙ (before kind n
     ∙ (sym (had_ask kind n (length history) (awards_of history) (sales_of a))
     ∙ sym (ap (λ (vs : List Award). had_notice kind (slice_get vs n)) (awards_ask terms history a legal)))))
@@ -158,7 +155,7 @@ remembered_push terms history (Entry.Bill m) legal follows before kind n = remem
 remembered_push terms history (Entry.Loss m) legal follows before kind n = remembered_notice history NoticeKind.Loss m follows before kind n
 remembered_push terms history (Entry.Expire now) legal follows before kind n =
     stands_push history (Entry.Expire now) (notice_of kind n)
-    ∙ (or_false (stands history (notice_of kind n))
+    ∙ (or-false (stands history (notice_of kind n))
     ∙ (before kind n
     ∙ (sym (had_moment kind now n (awards_of history))
     ∙ sym (ap (λ (vs : List Award). had_notice kind (slice_get vs n)) (awards_moment history now)))))

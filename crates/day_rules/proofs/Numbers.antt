@@ -1,5 +1,6 @@
 -- The numbers of the open and of the billed awards, after each kind of entry.
 use Rattle.std.proofs.Common.{◌≡◌, ℕ, zero, suc, ◌+◌, ◌<◌, List, [], ◌∷◌, ◌++◌, map, length, filter, Bool, true, false, cond, not, ◌&&◌, eqb, ltb, refl, sym, ap, ◌∙◌, subst, arith, Option, Some, None}
+use Rattle.day_rules.proofs.Room.{expired_one}
 use Rattle.std.specs.List.{sum_by, enumerate_from, range_with_len, list_any, slice_get}
 use Rattle.std.specs.Prelude.{IsPermutation}
 use Rattle.std.proofs.lemmas.List.Sums.{sum_by-cons}
@@ -9,7 +10,7 @@ use Rattle.std.proofs.lemmas.Bool.{cond-true, cond-false, eq-eqb, ne_eqb, eqb-tr
 use Rattle.notice_book.specs.declared.award.Award.{Award}
 use Rattle.notice_book.specs.declared.award.End.{End}
 use Rattle.notice_book.specs.AwardList.{due_count, expired_by}
-use Rattle.notice_book.specs.Rules.{is_open, is_billed, is_due, expired_award}
+use Rattle.notice_book.specs.Rules.{is_open, is_billed, is_due}
 use Rattle.day_rules.specs.Books.{Sale, award_of, charge_where, numbers_where}
 use Rattle.day_rules.proofs.Money.{own_charge}
 
@@ -130,9 +131,6 @@ open_expired_one : (w : Award) (late : Bool) (end : Option End) → is_open (con
 open_expired_one w true None = refl
 open_expired_one w false None = refl
 open_expired_one w late (Some x) = refl
-
-abbrev expired_one : ℕ → Award → Award
-expired_one now w = cond (is_due now w) (expired_award w) w
 
 pub open_expired : (d : ℕ → ℕ) (now n : ℕ) (ws : List Award) → ((k : ℕ) (w : Award) → slice_get ws k ≡ Some w → d (n + k) ≡ w.deadline) → numbers_from is_open n (expired_by now ws) ≡ filter (λ k. not (ltb (d k) now)) (numbers_from is_open n ws)
 open_expired d now n [] at = refl

@@ -19,7 +19,7 @@ use Rattle.day_rules.specs.Legal.{IsLegal}
 use Rattle.day_rules.specs.Replies.{is_of_auction}
 use Rattle.day_rules.specs.Laws.{Arrival, after_arrival, after_arrivals, has_arrival, AgreeOnEnds, AreSameBooks}
 use Rattle.allocator_core.proofs.Lists.{sum_by-map}
-use Rattle.day_rules.proofs.Lists.{get_numbered}
+use Rattle.day_rules.proofs.Lists.{get_numbered, or_none}
 use Rattle.day_rules.proofs.Money.{numbered_twice}
 use Rattle.day_rules.proofs.Pushing.{map_same, is_counted}
 use Rattle.day_rules.proofs.Selling.{award_placed}
@@ -172,10 +172,6 @@ ended_step history x xs n w agree at =
     rest_same counted x.kind w (end_after next xs n v v.end)
     ∙ ap (λ (end : Option End). record w { won = false; end = end }) (one ∙ two)
 
-or_none : (o : Option End) → o ≡ option_or o None
-or_none None = refl
-or_none (Some x) = refl
-
 unwon_by : {X Y : Type 0} (f : X → Y) (n : ℕ) (xs : List X) → map f xs ≡ map (λ (p : ℕ × X). f p.1) (enumerate_from n xs)
 unwon_by f n [] = refl
 unwon_by {X} {Y} f n (x ∷ xs) = ap (λ (t : List Y). f x ∷ t) (unwon_by f (n + 1) xs)
@@ -184,7 +180,7 @@ unwon_by {X} {Y} f n (x ∷ xs) = ap (λ (t : List Y). f x ∷ t) (unwon_by f (n
 pub ends_after : (terms : Terms) (history : List Entry) (xs : List Arrival) → IsLegal terms history → AgreeOnEnds history xs → map unwon (awards_of (after_arrivals history xs)) ≡ map (ended history xs) (enumerate_from 0 (awards_of history))
 ends_after terms history [] legal agree =
     unwon_by unwon 0 (awards_of history)
-    ∙ map_same (λ (p : ℕ × Award). unwon p.1) (ended history []) 0 (awards_of history) (λ k w at. ap (λ (o : Option End). record w { won = false; end = o }) (or_none w.end))
+    ∙ map_same (λ (p : ℕ × Award). unwon p.1) (ended history []) 0 (awards_of history) (λ k w at. ap (λ (o : Option End). record w { won = false; end = o }) (sym (or_none w.end)))
 ends_after terms history (x ∷ xs) legal agree =
     let next : List Entry = after_arrival history x in
     let ws : List Award = awards_of history in

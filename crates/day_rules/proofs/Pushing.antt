@@ -1,5 +1,6 @@
 -- What an entry does to the awards of a history.
 use Rattle.std.proofs.Common.{◌≡◌, ℕ, suc, ◌+◌, ◌<◌, ◌≤◌, List, [], ◌∷◌, ◌++◌, map, length, drop, Bool, true, false, cond, not, ◌&&◌, ◌||◌, eqb, ltb, refl, sym, ap, ◌∙◌, subst, arith, Option, Some, None, T, is_some, unwrap_or}
+use Rattle.std.proofs.Math.Bool.{or-false}
 use Rattle.std.specs.List.{All, enumerate_from, flat_map, filter_map, slice_get}
 use Rattle.std.specs.Option.{option_or, option_map_or}
 use Rattle.std.proofs.lemmas.List.{append-nil, drop-append-le}
@@ -44,14 +45,10 @@ end_push n w history e within =
     ∙ (first_of_two (filter_map (end_by n w) (drop (w.ask + 1) history)) (filter_map (end_by n w) (e ∷ []))
     ∙ ap (option_or (end_of n w history)) (only_end n w e (end_by n w e) refl)))
 
-or_nothing : (b : Bool) → (b || false) ≡ b
-or_nothing true = refl
-or_nothing false = refl
-
 pub won_push : (n : ℕ) (history : List Entry) (e : Entry) → is_won n (history ++ e ∷ []) ≡ (is_won n history || counts (notice_of NoticeKind.Win n) e)
 won_push n history e =
     let p : Entry → Bool = counts (notice_of NoticeKind.Win n) in
-    list_any-append p history (e ∷ []) ∙ ap (λ (b : Bool). is_won n history || b) (or_nothing (p e))
+    list_any-append p history (e ∷ []) ∙ ap (λ (b : Bool). is_won n history || b) (or-false (p e))
 
 -- every award's ask stands in the history
 placed : (place bound : ℕ) (sales : List Sale) → place < bound → All (λ w. w.ask < bound) (map (award_of place) sales)

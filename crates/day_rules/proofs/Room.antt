@@ -67,7 +67,8 @@ moment_takes false due (Some End.Billed) = omega arith
 moment_takes false due (Some End.Lost) = omega arith
 moment_takes false due (Some End.Expired) = omega arith
 
-abbrev expired_one : ℕ → Award → Award
+-- the award after a moment
+abbrev pub expired_one : ℕ → Award → Award
 expired_one now w = cond (is_due now w) (expired_award w) w
 
 expired_weight : (due : Bool) (w : Award) → to_come_by (cond due (expired_award w) w) ≡ cond due (to_come_of w.won (Some End.Expired)) (to_come_of w.won w.end)

@@ -1,5 +1,6 @@
 -- A run, turn by turn: it stays legal, and the plain books of its calls taken once agree with it.
 use Rattle.std.proofs.Common.{◌≡◌, ℕ, ◌≤◌, max, List, [], ◌∷◌, ◌++◌, map, length, Bool, true, false, cond, ◌||◌, refl, sym, ap, ◌∙◌, subst, inl, inr, arith, Option, Some, None, IfSome}
+use Rattle.std.proofs.Math.Bool.{or-false}
 use Rattle.std.specs.List.{list_any}
 use Rattle.std.proofs.lemmas.List.{append_assoc, append-nil}
 use Rattle.std.proofs.lemmas.List.Folds.{list_any-append}
@@ -99,10 +100,6 @@ stands_push terms history taken c h follows =
           ∙ (ap (λ (b : Bool). b || (is_again d c || false)) (h.same d) ∙ sym (stands_after terms history c d));
     }
 
-or_false : (b : Bool) → (b || false) ≡ b
-or_false true = refl
-or_false false = refl
-
 -- a tick that ends nothing is taken, and changes nothing
 stands_idle : (terms : Terms) (history : List Entry) (taken : List Call) (now : ℕ) → Stands terms history taken → due_count (max now (latest history)) (awards_of history) ≡ 0 → Stands terms history (taken ++ tick now ∷ [])
 stands_idle terms history taken now h none =
@@ -115,7 +112,7 @@ stands_idle terms history taken now h none =
       agree = subst P (sym (plain_push start taken (tick now))) (subst Q (sym h.agree.moment) (agree_idle terms history books (max now (latest history)) none h.agree));
       same = λ d. list_any-append (is_again d) taken (tick now ∷ [])
           ∙ (ap (λ (b : Bool). is_among taken d || (b || false)) (tick_again now d)
-          ∙ (or_false (is_among taken d) ∙ h.same d));
+          ∙ (or-false (is_among taken d) ∙ h.same d));
     }
 
 -- a turn: what is taken after it, whatever comes then

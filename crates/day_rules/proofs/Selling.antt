@@ -1,5 +1,6 @@
 -- What the code of a day reads of its awards and its asks.
 use Rattle.std.proofs.Common.{◌≡◌, ◌⊎◌, ℕ, suc, ◌+◌, ◌<◌, ◌≤◌, List, [], ◌∷◌, ◌++◌, map, length, get_or, Bool, true, false, cond, ◌&&◌, eqb, ltb, refl, sym, ap, ◌∙◌, subst, inl, inr, arith, Option, Some, None}
+use Rattle.day_rules.proofs.Room.{expired_one}
 use Rattle.std.specs.List.{All, slice_get, enumerate_from, flat_map, range_with_len, position, sum_by}
 use Rattle.std.specs.Option.{option_map}
 use Rattle.std.proofs.lemmas.Bool.{cases_lt, cond-true, cond-false, eqb-true, and_parts, le-leb}
@@ -198,9 +199,6 @@ first_due_is now n ws d found =
     let at = position-Some (is_due now) ws n d found in
     let w : Award = get_or ws n d in
     record { award = w; at = slice_get-get_or ws n d at.0; none = due_is_open now w at.1; due = at.1 }
-
-abbrev expired_one : ℕ → Award → Award
-expired_one now w = cond (is_due now w) (expired_award w) w
 
 expired_once : (now : ℕ) (w : Award) → is_due now w ≡ true → expired_one now (expired_award w) ≡ expired_one now w
 expired_once now w due = sym (cond-true (is_due now w) (expired_award w) w due)

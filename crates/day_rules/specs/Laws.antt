@@ -1,5 +1,5 @@
 -- The laws of the definitions, as statements. This project's own.
-use Rattle.std.specs.Prelude.{◌≡◌, ◌≢◌, ◌↔◌, ℕ, ◌≤◌, List, [], ◌∷◌, ◌++◌, map, length, true, if◌then◌else◌, IsPermutation, IsTrue, Some, slice_get}
+use Rattle.std.specs.Prelude.{◌≡◌, ◌≢◌, ◌↔◌, ℕ, ◌≤◌, List, [], ◌∷◌, ◌++◌, map, length, true, if◌then◌else◌, IsPermutation, IsTrue, Option, Some, slice_get}
 use Rattle.std.specs.List.{list_any}
 use Rattle.notice_book.specs.declared.kind.NoticeKind.{NoticeKind}
 use Rattle.adx_units.specs.declared.offer.Offer.{Offer}
@@ -16,7 +16,7 @@ use Rattle.day_rules.specs.Terms.{Terms, budgets_after}
 use Rattle.day_rules.specs.Legal.{IsLegal}
 use Rattle.day_rules.specs.Replies.{Reply, notice_reply, reply, with_entry}
 use Rattle.day_rules.specs.Runs.{Turn, AreTurns, run, once, is_effective, is_repeat}
-use Rattle.day_rules.specs.PlainBooks.{no_books, plain_books, plain_reserved, plain_billed}
+use Rattle.day_rules.specs.PlainBooks.{PlainBooks, no_books, plain_books, plain_reserved, plain_billed}
 
 -- in every legal history the committed money of each campaign is within its budget there
 abbrev pub StaysWithinBudget : Type 0
@@ -30,11 +30,20 @@ RunsStayLegal =
     (terms : Terms) (history : List Entry) (turns : List Turn) → IsLegal terms history
     → AreTurns (length terms.budgets) turns → IsLegal terms (run terms history turns)
 
+-- the choice for an impression of an ask behind some entries, at its turn: by what its campaigns stand at after the
+-- choices for the impressions before it
+abbrev pub choice_for : Terms → List Entry → Ask → ℕ → Option ℕ
+choice_for terms before a imp =
+    let budgets = budgets_after terms before in
+    let offers = (undecided a).offers in
+    chosen_at budgets (standing_at budgets (committed before) offers imp) offers imp
+
 -- an ask as it stands behind some entries: each of its offers has the reason that it gets there, read as admitted where
--- it is decided, and an offer is awarded exactly where it is the first of the greatest of its impression at its turn
+-- it is decided, and an offer is awarded exactly where it is the choice for its impression
 pub record StandsSettled (terms : Terms) (before : List Entry) (a : Ask) : Type 0 where
   pub offers : a.offers ≡ settled_offers (budgets_after terms before) (committed before) (undecided a).offers
-  pub awarded : (place : ℕ) (o : Offer) → slice_get a.offers place ≡ Some o → (o.reason ≡ AWARDED) ↔ (chosen_at (budgets_after terms before) (standing_at (budgets_after terms before) (committed before) (undecided a).offers o.imp) (undecided a).offers o.imp ≡ Some place)
+  pub awarded : (place : ℕ) (o : Offer) → slice_get a.offers place ≡ Some o
+      → (o.reason ≡ AWARDED) ↔ (choice_for terms before a o.imp ≡ Some place)
 
 -- each ask of a legal history stands settled behind the entries before it
 abbrev pub FirstGreatestChoice : Type 0
@@ -42,13 +51,21 @@ FirstGreatestChoice =
     (terms : Terms) (before : List Entry) (a : Ask) (after : List Entry) → IsLegal terms (before ++ Entry.Ask a ∷ after)
     → StandsSettled terms before a
 
+-- the plain books of the calls of a run taken once
+abbrev pub books_once : Terms → List Entry → List Turn → PlainBooks
+books_once terms history turns = plain_books (no_books terms.budgets) (once terms history turns)
+
 -- the books after a run are the plain books of its calls taken once: the same numbers are open and were billed,
 -- and each campaign has the same money
 pub record AreOfCallsTakenOnce (terms : Terms) (history : List Entry) (turns : List Turn) : Type 0 where
-  pub open_numbers : (plain_books (no_books terms.budgets) (once terms history turns)).open_numbers ≡ numbers_where is_open (awards_of (run terms history turns))
-  pub billed_numbers : IsPermutation (plain_books (no_books terms.budgets) (once terms history turns)).billed_numbers (numbers_where is_billed (awards_of (run terms history turns)))
-  pub reserved : (campaign : ℕ) → reserved (run terms history turns) campaign ≡ plain_reserved (plain_books (no_books terms.budgets) (once terms history turns)) campaign
-  pub billed : (campaign : ℕ) → billed (run terms history turns) campaign ≡ plain_billed (plain_books (no_books terms.budgets) (once terms history turns)) campaign
+  pub open_numbers : (books_once terms history turns).open_numbers
+      ≡ numbers_where is_open (awards_of (run terms history turns))
+  pub billed_numbers : IsPermutation (books_once terms history turns).billed_numbers
+      (numbers_where is_billed (awards_of (run terms history turns)))
+  pub reserved : (campaign : ℕ) → reserved (run terms history turns) campaign
+      ≡ plain_reserved (books_once terms history turns) campaign
+  pub billed : (campaign : ℕ) → billed (run terms history turns) campaign
+      ≡ plain_billed (books_once terms history turns) campaign
 
 abbrev pub BooksAreOfCallsTakenOnce : Type 0
 BooksAreOfCallsTakenOnce =

@@ -3,8 +3,11 @@ use notice_book::End;
 /// A limit of the day.
 #[derive(Clone, Copy, Debug, PartialEq, Eq)]
 pub enum Which {
+    /// Asks.
     Auctions,
+    /// Recorded bids, refused ones among them.
     Bids,
+    /// Bytes of kept text.
     Text,
 }
 
@@ -35,7 +38,7 @@ pub enum Answer {
     Ticked {
         ended: u32,
     },
-    /// The auction's id stands with another request.
+    /// The auction's id stands with another request: the digests of the one kept and of the one given.
     Reused {
         kept_digest: [u8; 32],
         given: [u8; 32],

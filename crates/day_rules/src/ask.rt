@@ -5,12 +5,19 @@ use adx_units::{Id, Offer, Sequence, Text};
 pub struct Kept {
     /// The place of the bid in the offers of its ask.
     pub bid: u32,
+    /// The buyer's seat (OpenRTB 2.6, SeatBid, seat).
     pub seat: Text,
+    /// The answer's own id (OpenRTB 2.6, BidResponse, bidid); may be empty.
     pub bidid: Text,
+    /// The ad's id (OpenRTB 2.6, Bid, adid); may be empty.
     pub adid: Text,
+    /// Where its win is told (OpenRTB 2.6, Bid, nurl); may be empty.
     pub nurl: Text,
+    /// Where its bill is told (OpenRTB 2.6, Bid, burl); may be empty.
     pub burl: Text,
+    /// Where its loss is told (OpenRTB 2.6, Bid, lurl); may be empty.
     pub lurl: Text,
+    /// The members of the bid that are passed on, as compact JSON.
     pub body: Text,
 }
 
