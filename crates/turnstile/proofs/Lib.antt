@@ -1,0 +1,11 @@
+pub mod Views
+pub mod PlaceLemmas
+pub mod Parts
+pub mod Drawing
+pub mod Looking
+pub mod Holding
+pub mod Passing
+pub mod Joining
+pub mod Closing
+pub mod Turning
+pub mod Resting

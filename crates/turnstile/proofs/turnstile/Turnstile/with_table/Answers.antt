@@ -1,0 +1,11 @@
+use Rattle.std.proofs.Common.{◌≡◌, ◌<◌, ◌≤◌, ◌⊎◌, ap, refl, sym, ◌∙◌, arith, ◌+◌, ◌-◌, ◌%◌, ◌^◌, [], ◌∷◌, ◌++◌, List, ℕ, length, subst, Option, Some, None, length-append, append-nil, ⊎_elim, inl, inr}
+use Rattle.atomic_table.specs.Table.{opening}
+use Rattle.turnstile.specs.Rule.{Kept, first_view}
+use Rattle.turnstile.proofs.Closing.{opens}
+use Rattle.turnstile.proofs.turnstile.Turnstile.with_table.Goals as goal
+
+pub new-requires : goal.new-requires
+new-requires g c =
+    let w = c.requires.words in
+    subst (λ (z : List ℕ × List (Option g.row.T.Denot)). Kept {N = g.row.T-Turn.Denot} g.T.Counted.items g.T.Counted.fault_count g.T.Counted.fixed (opening z.0 z.1 (first_view g.T.Counted.items g.T.Counted.fault_count g.T.Counted.fixed c.args.about.now.value)))
+    (λ i. (sym w.2 i, sym c.requires.slots i)) (opens g.T.Counted.items g.T.Counted.fault_count g.T.Counted.fixed c.args.about.now.value w.0 w.1 w.3 w.4)
