@@ -21,6 +21,7 @@ use Rattle.turnstile.specs.Places.{total, times, within}
 use Rattle.turnstile.specs.declared.limits.TheConstants.{MOST_OUT}
 use Rattle.turnstile.proofs.Views.{total_one, total_two, total_alone}
 use Rattle.turnstile.proofs.PlaceLemmas.{prefix_refl, prefix_length, prefix_whole, within_in, within_out}
+use Rattle.turnstile.specs.Rule.{Shows}
 use Rattle.turnstile.specs.Steps.{out_of}
 use Rattle.turnstile.specs.Hand.{IsAllOf, IsLastSeat}
 use Rattle.turnstile.proofs.Parts.{rank, role_rank, lives, apart, stage_at, home_cases, pass_or_not}
@@ -69,13 +70,12 @@ module _ {T I F N : Type 0} (items : T → List I) (count_faults : T → ℕ) (f
   alone v Rattle.std.proofs.Common.zero u e = (refl, some-injective v u e)
   alone v (Rattle.std.proofs.Common.suc j) u e = absurd (some-ne-none u (sym e))
 
-  pub opens : (x : T) (count faults : ℕ) → count ≡ length (items x) → faults ≡ count_faults x
-      → Rule (opening (0 ∷ 0 ∷ count ∷ faults ∷ []) (Some x ∷ []) (first_view items count_faults fixed_of x))
-  opens x count faults is_count is_faults =
+  pub opens : (x : T) (ws : List ℕ) → Shows ws 0 0 (length (items x)) (count_faults x) → Rule (opening ws (Some x ∷ []) (first_view items count_faults fixed_of x))
+  opens x ws shows =
       let v : SeatView I F N = first_view items count_faults fixed_of x in
       let whole : Whole T I F = record { history = items x; opening = length (items x); fixed = fixed_of x; faults = count_faults x; served = 0; drawn = 0; owner = λ _. 0; first = 0; out = 0; home = some x } in record {
         whole = whole;
-        words = λ i. 0 ∷ 0 ∷ is_count i ∷ is_faults i ∷ [];
+        words = shows;
         homes = refl;
         tickets = record { each = λ j u e. subst (λ (z : SeatView I F N). IsTicket 0 0 (λ _. 0) j z.stage) (alone v j u e).1 tt; all = refl };
         desk = record {

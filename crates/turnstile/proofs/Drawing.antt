@@ -13,6 +13,8 @@ use Rattle.turnstile.specs.declared.view.SeatView.{SeatView}
 use Rattle.turnstile.specs.Rule.{has_ticket, is_pass, Whole, Each, IsTicket, slot_of, Tickets, IsHolder, Desk, Passes, Knows, Histories, Faults, Own, Kept}
 use Rattle.turnstile.specs.Places.{total, times, within}
 use Rattle.turnstile.specs.Steps.{drew}
+use Rattle.turnstile.specs.declared.words.TheConstants.{TICKETS}
+use Rattle.turnstile.proofs.WordLemmas.{shows_ticket}
 use Rattle.turnstile.proofs.Views.{each_set, total_set, put, put_here, put_else}
 use Rattle.turnstile.proofs.Parts.{rank, lives, same_passes, same_histories, same_faults, same_own, apart}
 
@@ -26,7 +28,7 @@ module _ {T I F N : Type 0} (items : T → List I) (count_faults : T → ℕ) (f
   Rule = Kept items count_faults fixed_of
 
   pub draws : (slots id : ℕ) (me : Me (Option T) (SeatView I F N)) → me.0.stage ≡ Idle → is_pass me.0.role ≡ 1
-      → Allows Rule slots id me 0 (λ n. (n + 1) % 2 ^ 64) (drew (step slots 0 1 0 none) me)
+      → Allows Rule slots id me TICKETS (λ n. (n + 1) % 2 ^ 64) (drew (step slots TICKETS 1 0 none) me)
   draws slots id me idle pass s r deep at fits =
       let w : Whole T I F = r.whole in let t : ℕ = w.drawn in let owner : ℕ → ℕ = put w.owner t id in
       let v : SeatView I F N = me.0 in let v' : SeatView I F N = record v { stage = Waits t } in
@@ -39,8 +41,7 @@ module _ {T I F N : Type 0} (items : T → List I) (count_faults : T → ℕ) (f
         tt,
         record {
           whole = record w { drawn = t + 1; owner = owner };
-          words = ap (λ (l : List ℕ). set l 0 ((get_or l 0 0 + 1) % 2 ^ 64)) r.words
-              ∙ ap (λ (n : ℕ). n ∷ w.served % 2 ^ 64 ∷ length w.history ∷ w.faults ∷ []) (let g : (t % 2 ^ 64 + 1) % 2 ^ 64 ≡ (t + 1) % 2 ^ 64 = omega arith in g);
+          words = shows_ticket s.words t w.served (length w.history) w.faults (t + 1) ((get_or s.words TICKETS 0 + 1) % 2 ^ 64) r.words (let n = r.words.next in omega arith);
           homes = r.homes;
           tickets = record {
             each = each_set (λ j u. IsTicket w.served t w.owner j u.stage) (λ j u. IsTicket w.served (t + 1) owner j u.stage) s.views id v' r.tickets.each
@@ -68,5 +69,5 @@ module _ {T I F N : Type 0} (items : T → List I) (count_faults : T → ℕ) (f
           faults = same_faults w.faults s.views id v v' at refl r.faults;
           own = same_own w.opening (length w.history) s.views id v v' at refl r.own;
         },
-        (t, ap (λ (l : List ℕ). get_or l 0 0) r.words, refl),
+        (t, r.words.next, refl),
       )

@@ -18,6 +18,8 @@ use Rattle.turnstile.specs.Rule.{has_ticket, is_pass, Whole, Each, IsTicket, slo
 use Rattle.turnstile.specs.Places.{total, times, within}
 use Rattle.turnstile.specs.declared.limits.TheConstants.{MOST_OUT}
 use Rattle.turnstile.specs.Steps.{raised, counted, served, places, ticket_of, carried_items}
+use Rattle.turnstile.specs.declared.words.TheConstants.{SERVED, FRONT, FAULTS}
+use Rattle.turnstile.proofs.WordLemmas.{shows_turn, shows_front, shows_faults}
 use Rattle.turnstile.proofs.Views.{each_set, total_set, total_same, set_at}
 use Rattle.turnstile.proofs.PlaceLemmas.{prefix_refl, prefix_length, prefix_on, times_append, times_places, within_on, within_out}
 use Rattle.turnstile.proofs.Parts.{rank, lives, same_passes, same_histories, same_faults, same_own, apart}
@@ -76,7 +78,7 @@ module _ {T I F N : Type 0} (items : T → List I) (count_faults : T → ℕ) (f
 
   pub raises : (slots id : ℕ) (me : Me (Option T) (SeatView I F N)) (t n : ℕ) (x : T) (new : List I) → me.0.stage ≡ Holds t → is_pass me.0.role ≡ 1 → me.1 ≡ (0, Some x) ∷ []
       → items x ≡ me.0.seen ++ new → length new ≡ n → length (items x) < 2 ^ 64
-      → Allows Rule slots id me 2 (λ m. (m + n) % 2 ^ 64) (raised items (step slots 2 n 0 none) me)
+      → Allows Rule slots id me FRONT (λ m. (m + n) % 2 ^ 64) (raised items (step slots FRONT n 0 none) me)
   raises slots id me t n x new stage pass carried grown count fits s r deep at _ =
       let w : Whole T I F = r.whole in let v : SeatView I F N = me.0 in
       let k : Knows w.history w.opening w.fixed w.faults v = lives w.history w.opening w.fixed w.faults v pass (r.histories id v at) in
@@ -92,8 +94,7 @@ module _ {T I F N : Type 0} (items : T → List I) (count_faults : T → ℕ) (f
         tt,
         record {
           whole = record w { history = list };
-          words = ap (λ (l : List ℕ). set l 2 ((get_or l 2 0 + n) % 2 ^ 64)) r.words
-              ∙ ap (λ (m : ℕ). w.drawn % 2 ^ 64 ∷ w.served % 2 ^ 64 ∷ m ∷ w.faults ∷ []) (let g : (length w.history + n) % 2 ^ 64 ≡ length list = omega arith in g);
+          words = shows_front s.words w.drawn w.served (length w.history) w.faults (length list) ((get_or s.words FRONT 0 + n) % 2 ^ 64) r.words (let f = r.words.front_is in omega arith);
           homes = r.homes;
           tickets = record {
             each = each_set (λ j u. IsTicket w.served w.drawn w.owner j u.stage) (λ j u. IsTicket w.served w.drawn w.owner j u.stage) s.views id v' r.tickets.each (λ j u ne a z. z) (r.tickets.each id v at);
@@ -127,7 +128,7 @@ module _ {T I F N : Type 0} (items : T → List I) (count_faults : T → ℕ) (f
       )
 
   pub counts : (slots id : ℕ) (me : Me (Option T) (SeatView I F N)) (t n : ℕ) → me.0.stage ≡ Holds t → is_pass me.0.role ≡ 1 → me.0.faults + n < 2 ^ 64
-      → Allows Rule slots id me 3 (λ m. (m + n) % 2 ^ 64) (counted (step slots 3 n 0 none) me)
+      → Allows Rule slots id me FAULTS (λ m. (m + n) % 2 ^ 64) (counted (step slots FAULTS n 0 none) me)
   counts slots id me t n stage pass fits s r deep at _ =
       let w : Whole T I F = r.whole in let v : SeatView I F N = me.0 in let v' : SeatView I F N = record v { faults = v.faults + n; raised = v.raised + n } in
       let k : Knows w.history w.opening w.fixed w.faults v = lives w.history w.opening w.fixed w.faults v pass (r.histories id v at) in
@@ -138,8 +139,7 @@ module _ {T I F N : Type 0} (items : T → List I) (count_faults : T → ℕ) (f
         tt,
         record {
           whole = record w { faults = w.faults + n };
-          words = ap (λ (l : List ℕ). set l 3 ((get_or l 3 0 + n) % 2 ^ 64)) r.words
-              ∙ ap (λ (m : ℕ). w.drawn % 2 ^ 64 ∷ w.served % 2 ^ 64 ∷ length w.history ∷ m ∷ []) (let g : (w.faults + n) % 2 ^ 64 ≡ w.faults + n = omega arith in g);
+          words = shows_faults s.words w.drawn w.served (length w.history) w.faults (w.faults + n) ((get_or s.words FAULTS 0 + n) % 2 ^ 64) r.words (let f = r.words.faults_are in omega arith);
           homes = r.homes;
           tickets = record {
             each = each_set (λ j u. IsTicket w.served w.drawn w.owner j u.stage) (λ j u. IsTicket w.served w.drawn w.owner j u.stage) s.views id v' r.tickets.each (λ j u ne a z. z) (r.tickets.each id v at);
@@ -171,18 +171,16 @@ module _ {T I F N : Type 0} (items : T → List I) (count_faults : T → ℕ) (f
 
   pub serves : (turns : List (Noted N)) (slots id : ℕ) (me : Me (Option T) (SeatView I F N)) (t : ℕ) (x : T) → me.0.stage ≡ Holds t → is_pass me.0.role ≡ 1 → me.1 ≡ (0, Some x) ∷ []
       → items x ≡ me.0.seen → count_faults x ≡ me.0.faults → me.0.fixed ≡ Some (fixed_of x)
-      → Allows Rule slots id me 1 (λ m. (m + 1) % 2 ^ 64) (served turns (step slots 1 1 0 none) me)
+      → Allows Rule slots id me SERVED (λ m. (m + 1) % 2 ^ 64) (served turns (step slots SERVED 1 0 none) me)
   serves turns slots id me t x stage pass carried whole_list whole_faults whole_fixed s r deep at _ =
       let w : Whole T I F = r.whole in let v : SeatView I F N = me.0 in let v' : SeatView I F N = record v { stage = Idle; turns = v.turns ++ turns } in
       let k : Knows w.history w.opening w.fixed w.faults v = lives w.history w.opening w.fixed w.faults v pass (r.histories id v at) in
       let h = holds s r id t v at stage in let mine = h.0 in let know = h.1 in
       let own_ticket : w.owner w.served ≡ id = ap w.owner mine.0 ∙ mine.2 in
       let weigh = total_set (λ (u : SeatView I F N). has_ticket u.stage) s.views id v v' at in let one = ap has_ticket stage in let sum = r.tickets.all in
-      let words' : List ℕ = set s.words 1 ((get_or s.words 1 0 + 1) % 2 ^ 64) in
-      let back : Rule (stepped s 1 ((get_or s.words 1 0 + 1) % 2 ^ 64) id ((0, Some x) ∷ []) v' gives) = record {
+      let back : Rule (stepped s SERVED ((get_or s.words SERVED 0 + 1) % 2 ^ 64) id ((0, Some x) ∷ []) v' gives) = record {
         whole = record w { served = w.served + 1; home = some x };
-        words = ap (λ (l : List ℕ). set l 1 ((get_or l 1 0 + 1) % 2 ^ 64)) r.words
-            ∙ ap (λ (m : ℕ). w.drawn % 2 ^ 64 ∷ m ∷ length w.history ∷ w.faults ∷ []) (let g : (w.served % 2 ^ 64 + 1) % 2 ^ 64 ≡ (w.served + 1) % 2 ^ 64 = omega arith in g);
+        words = shows_turn s.words w.drawn w.served (length w.history) w.faults (w.served + 1) ((get_or s.words SERVED 0 + 1) % 2 ^ 64) r.words (let f = r.words.turn in omega arith);
         homes = ap (λ (l : List (maybe.Option (Option T))). set l 0 (some (Some x))) r.homes;
         tickets = record {
           each = each_set (λ j u. IsTicket w.served w.drawn w.owner j u.stage) (λ j u. IsTicket (w.served + 1) w.drawn w.owner j u.stage) s.views id v' r.tickets.each
@@ -214,6 +212,6 @@ module _ {T I F N : Type 0} (items : T → List I) (count_faults : T → ℕ) (f
         v',
         gives,
         tt,
-        subst (λ (c : List (ℕ × Option T)). Rule (stepped s 1 ((get_or s.words 1 0 + 1) % 2 ^ 64) id c v' gives)) (sym carried) back,
+        subst (λ (c : List (ℕ × Option T)). Rule (stepped s SERVED ((get_or s.words SERVED 0 + 1) % 2 ^ 64) id c v' gives)) (sym carried) back,
         ap (λ (c : List (ℕ × Option T)). (v', Rattle.atomic_table.specs.Table.rest c)) carried,
       )

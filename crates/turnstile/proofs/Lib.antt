@@ -1,5 +1,6 @@
 pub mod Views
 pub mod PlaceLemmas
+pub mod WordLemmas
 pub mod Parts
 pub mod Drawing
 pub mod Looking

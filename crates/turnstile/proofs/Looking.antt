@@ -18,6 +18,11 @@ use Rattle.turnstile.specs.Rule.{has_ticket, is_pass, Whole, Each, IsTicket, slo
 use Rattle.turnstile.specs.Places.{total, times, within}
 use Rattle.turnstile.specs.declared.limits.TheConstants.{MOST_OUT}
 use Rattle.turnstile.specs.Steps.{looked, ticket_of, holding}
+use Rattle.atomic_table.specs.Table.{Step}
+use Rattle.turnstile.specs.declared.words.TheConstants.{SERVED, FAULTS}
+use Rattle.turnstile.specs.Rule.{Shows}
+use Rattle.turnstile.specs.Steps.{stayed}
+use Rattle.turnstile.proofs.WordLemmas.{set_read, shows_still}
 use Rattle.turnstile.proofs.Views.{each_set, total_set, total_same, total_le, total_one, set_at}
 use Rattle.turnstile.proofs.PlaceLemmas.{prefix_refl, prefix_length}
 use Rattle.turnstile.proofs.Parts.{rank, lives, same_passes, same_histories, same_faults, same_own, apart, home_cases, pass_or_not}
@@ -42,17 +47,34 @@ module _ {T I F N : Type 0} (items : T → List I) (count_faults : T → ℕ) (f
   abbrev Rule : State (Option T) (SeatView I F N) → Type 0
   Rule = Kept items count_faults fixed_of
 
-  -- nothing changes
-  pub unmoved : (s : State (Option T) (SeatView I F N)) (i id : ℕ) (v : SeatView I F N) → Rule s → get_elem? s.views id ≡ some v → set s.words i (get_or s.words i 0) ≡ s.words
+  -- a word that is read stays, and nothing changes
+  pub unmoved : (s : State (Option T) (SeatView I F N)) (i id : ℕ) (v : SeatView I F N) → Rule s → get_elem? s.views id ≡ some v
       → Rule record { words = set s.words i (get_or s.words i 0); homes = s.homes; views = set s.views id v }
-  unmoved s i id v r at same = subst Rule (λ k. record { words = sym same k; homes = s.homes; views = sym (set_again s.views id v at) k }) r
+  unmoved s i id v r at = subst Rule (λ k. record { words = sym (set_read s.words i) k; homes = s.homes; views = sym (set_again s.views id v at) k }) r
 
-  word_1 : (s : State (Option T) (SeatView I F N)) → Rule s → set s.words 1 (get_or s.words 1 0) ≡ s.words
-  word_1 s r = ap (λ (l : List ℕ). set l 1 (get_or l 1 0)) r.words ∙ sym r.words
+  -- a word of those who sleep may become anything
+  pub stirs : (slots id : ℕ) (me : Me (Option T) (SeatView I F N)) (i : ℕ) (f : ℕ → ℕ) (st : Step (Option T)) → FAULTS < i → Allows Rule slots id me i f (stayed st me)
+  stirs slots id me i f st past s r deep at fits = (
+    me.0,
+    keeps,
+    tt,
+    subst (λ (vs : List (SeatView I F N)). Rule record { words = set s.words i (f (get_or s.words i 0)); homes = s.homes; views = vs }) (sym (set_again s.views id me.0 at)) record {
+      whole = r.whole;
+      words = shows_still s.words r.whole.drawn r.whole.served (length r.whole.history) r.whole.faults i (f (get_or s.words i 0)) past r.words;
+      homes = r.homes;
+      tickets = r.tickets;
+      desk = r.desk;
+      passes = r.passes;
+      histories = r.histories;
+      faults = r.faults;
+      own = r.own;
+    },
+    refl,
+  )
 
   takes_it : (slots id : ℕ) (me : Me (Option T) (SeatView I F N)) (t : ℕ) (x : T) (s : State (Option T) (SeatView I F N)) (r : Rule s) → me.0.stage ≡ Waits t → is_pass me.0.role ≡ 1
       → get_elem? s.views id ≡ some me.0 → r.whole.served ≡ t → r.whole.home ≡ some x
-      → Rule (stepped s 1 (get_or s.words 1 0) id me.1 (holding t (items x) (count_faults x) me.0) (takes 0 (Some x)))
+      → Rule (stepped s SERVED (get_or s.words SERVED 0) id me.1 (holding t (items x) (count_faults x) me.0) (takes 0 (Some x)))
   takes_it slots id me t x s r waits pass at turn here =
       let w : Whole T I F = r.whole in let v : SeatView I F N = me.0 in let v' : SeatView I F N = holding t (items x) (count_faults x) v in
       let k : Knows w.history w.opening w.fixed w.faults v = lives w.history w.opening w.fixed w.faults v pass (r.histories id v at) in
@@ -61,7 +83,7 @@ module _ {T I F N : Type 0} (items : T → List I) (count_faults : T → ℕ) (f
       let all : length (items x) ≡ length w.history = ap length d.0 in let seen = prefix_length v.seen w.history k.seen in let opened = k.opened in
       record {
         whole = record w { home = none };
-        words = word_1 s r ∙ r.words;
+        words = subst (λ (l : List ℕ). Shows l w.drawn w.served (length w.history) w.faults) (sym (set_read s.words SERVED)) r.words;
         homes = ap (λ (l : List (maybe.Option (Option T))). set l 0 none) r.homes;
         tickets = record {
           each = each_set (λ j u. IsTicket w.served w.drawn w.owner j u.stage) (λ j u. IsTicket w.served w.drawn w.owner j u.stage) s.views id v' r.tickets.each (λ j u ne a h. h) (turn, mine.1, mine.2);
@@ -89,13 +111,13 @@ module _ {T I F N : Type 0} (items : T → List I) (count_faults : T → ℕ) (f
       }
 
   pub looks : (slots id : ℕ) (me : Me (Option T) (SeatView I F N)) (t : ℕ) → me.0.stage ≡ Waits t → is_pass me.0.role ≡ 1
-      → Allows Rule slots id me 1 (λ n. n) (looked items count_faults fixed_of (step slots 1 0 0 none) me)
+      → Allows Rule slots id me SERVED (λ n. n) (looked items count_faults fixed_of (step slots SERVED 0 0 none) me)
   looks slots id me t waits pass s r deep at fits =
       let w : Whole T I F = r.whole in let v : SeatView I F N = me.0 in let n : ℕ = ticket_of v.stage in let is : n ≡ t = ap ticket_of waits in
-      let found : get_or s.words 1 0 ≡ w.served % 2 ^ 64 = ap (λ (l : List ℕ). get_or l 1 0) r.words in
+      let found : get_or s.words SERVED 0 ≡ w.served % 2 ^ 64 = r.words.turn in
       let mine : IsTicket w.served w.drawn w.owner id (Waits t) = subst (IsTicket w.served w.drawn w.owner id) waits (r.tickets.each id v at) in
       let k : Knows w.history w.opening w.fixed w.faults v = lives w.history w.opening w.fixed w.faults v pass (r.histories id v at) in
-      dite (ℕ_discrete (get_or s.words 1 0) (n % 2 ^ 64))
+      dite (ℕ_discrete (get_or s.words SERVED 0) (n % 2 ^ 64))
       (λ hit. let few = few_tickets w.served w.drawn w.first w.out w.owner s.views r.tickets r.passes in let low = mine.0 in let high = mine.1 in
       let turn : w.served ≡ t = one_turn w.served t (2 ^ 64) low (omega arith) (sym found ∙ hit ∙ ap (λ (m : ℕ). m % 2 ^ 64) is) in
       ⊎_elim
@@ -113,4 +135,4 @@ module _ {T I F N : Type 0} (items : T → List I) (count_faults : T → ℕ) (f
         ),
       ))
       (home_cases w.home))
-      (λ miss. (v, keeps, tt, unmoved s 1 id v r at (word_1 s r), ((λ hit. absurd (miss hit)), λ _. refl)))
+      (λ miss. (v, keeps, tt, unmoved s SERVED id v r at, ((λ hit. absurd (miss hit)), λ _. refl)))

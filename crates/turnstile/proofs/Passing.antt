@@ -22,6 +22,9 @@ use Rattle.turnstile.specs.Places.{total, times, within}
 use Rattle.turnstile.specs.declared.limits.TheConstants.{MOST_OUT}
 use Rattle.turnstile.specs.Steps.{found_front, learned, with_out, lender, parted, brief, united, met, spent}
 use Rattle.turnstile.specs.Places.{longer, greater}
+use Rattle.turnstile.specs.declared.words.TheConstants.{FRONT}
+use Rattle.turnstile.specs.Rule.{Shows}
+use Rattle.turnstile.proofs.WordLemmas.{set_read}
 use Rattle.turnstile.proofs.Views.{each_set, each_snoc, total_set, total_same, total_snoc, total_two, total_one, set_at}
 use Rattle.turnstile.proofs.PlaceLemmas.{prefix_refl, prefix_length, prefix_of_prefix, times_append, longer_is, within_one}
 use Rattle.turnstile.proofs.Parts.{rank, role_rank, lives, same_passes, same_histories, same_faults, same_own, apart, stage_at}
@@ -42,7 +45,7 @@ module _ {T I F N : Type 0} (items : T → List I) (count_faults : T → ℕ) (f
       → Rule record { words = ws; homes = s.homes; views = set s.views id v' }
   quiet s r ws id v v' same at pass role stage own raise holder k = let w : Whole T I F = r.whole in record {
     whole = w;
-    words = same ∙ r.words;
+    words = subst (λ (l : List ℕ). Shows l w.drawn w.served (length w.history) w.faults) (sym same) r.words;
     homes = r.homes;
     tickets = record {
       each = each_set (λ j u. IsTicket w.served w.drawn w.owner j u.stage) (λ j u. IsTicket w.served w.drawn w.owner j u.stage) s.views id v' r.tickets.each (λ j u ne a z. z)
@@ -62,20 +65,17 @@ module _ {T I F N : Type 0} (items : T → List I) (count_faults : T → ℕ) (f
     own = same_own w.opening (length w.history) s.views id v v' at own r.own;
   }
 
-  word_2 : (s : State (Option T) (SeatView I F N)) → Rule s → set s.words 2 (get_or s.words 2 0) ≡ s.words
-  word_2 s r = ap (λ (l : List ℕ). set l 2 (get_or l 2 0)) r.words ∙ sym r.words
-
   live : (s : State (Option T) (SeatView I F N)) (r : Rule s) (id : ℕ) (v : SeatView I F N) → get_elem? s.views id ≡ some v → is_pass v.role ≡ 1 → KnowsAll r.whole v
   live s r id v at pass = lives r.whole.history r.whole.opening r.whole.fixed r.whole.faults v pass (r.histories id v at)
 
-  pub finds : (slots id : ℕ) (me : Me (Option T) (SeatView I F N)) → is_pass me.0.role ≡ 1 → Allows Rule slots id me 2 (λ m. m) (found_front (step slots 2 0 0 none) me)
+  pub finds : (slots id : ℕ) (me : Me (Option T) (SeatView I F N)) → is_pass me.0.role ≡ 1 → Allows Rule slots id me FRONT (λ m. m) (found_front (step slots FRONT 0 0 none) me)
   finds slots id me pass s r deep at _ =
-      let w : Whole T I F = r.whole in let v : SeatView I F N = me.0 in let v' : SeatView I F N = record v { known = get_or s.words 2 0 } in
-      let k : KnowsAll w v = live s r id v at pass in let front : get_or s.words 2 0 ≡ length w.history = ap (λ (l : List ℕ). get_or l 2 0) r.words in let old = k.known in (
+      let w : Whole T I F = r.whole in let v : SeatView I F N = me.0 in let v' : SeatView I F N = record v { known = get_or s.words FRONT 0 } in
+      let k : KnowsAll w v = live s r id v at pass in let front : get_or s.words FRONT 0 ≡ length w.history = r.words.front_is in let old = k.known in (
         v',
         keeps,
         tt,
-        quiet s r (set s.words 2 (get_or s.words 2 0)) id v v' (word_2 s r) at pass refl refl refl refl (r.desk.each id v at) record {
+        quiet s r (set s.words FRONT (get_or s.words FRONT 0)) id v v' (set_read s.words FRONT) at pass refl refl refl refl (r.desk.each id v at) record {
           fixed_is = k.fixed_is;
           opening_is = k.opening_is;
           seen = k.seen;
@@ -88,7 +88,7 @@ module _ {T I F N : Type 0} (items : T → List I) (count_faults : T → ℕ) (f
         (refl, omega arith),
       )
 
-  pub learns : (slots id : ℕ) (me : Me (Option T) (SeatView I F N)) → is_pass me.0.role ≡ 1 → me.0.stage ≡ Idle → Allows Rule slots id me 2 (λ m. m) (learned (step slots 2 0 0 none) me)
+  pub learns : (slots id : ℕ) (me : Me (Option T) (SeatView I F N)) → is_pass me.0.role ≡ 1 → me.0.stage ≡ Idle → Allows Rule slots id me FRONT (λ m. m) (learned (step slots FRONT 0 0 none) me)
   learns slots id me pass idle s r deep at _ =
       let w : Whole T I F = r.whole in let v : SeatView I F N = me.0 in let l : List I = longer v.seen v.told in let v' : SeatView I F N = record v { seen = l } in
       let k : KnowsAll w v = live s r id v at pass in let opened = k.opened in
@@ -101,7 +101,7 @@ module _ {T I F N : Type 0} (items : T → List I) (count_faults : T → ℕ) (f
         v',
         keeps,
         tt,
-        quiet s r (set s.words 2 (get_or s.words 2 0)) id v v' (word_2 s r) at pass refl refl refl refl (λ m e. absurd (let x = ap rank e in let y = ap rank idle in omega arith)) record {
+        quiet s r (set s.words FRONT (get_or s.words FRONT 0)) id v v' (set_read s.words FRONT) at pass refl refl refl refl (λ m e. absurd (let x = ap rank e in let y = ap rank idle in omega arith)) record {
           fixed_is = k.fixed_is;
           opening_is = k.opening_is;
           seen = both.2;

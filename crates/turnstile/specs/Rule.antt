@@ -1,9 +1,10 @@
 -- The rule of the table, one record for each part. Only private clauses cite this file.
-use Rattle.std.specs.Prelude.{◌≡◌, ◌⊎◌, ℕ, ◌+◌, ◌-◌, ◌*◌, ◌%◌, ◌^◌, ◌<◌, ◌≤◌, Bool, true, false, eqb, List, [], ◌∷◌, ◌++◌, length, Option, Some, None}
+use Rattle.std.specs.Prelude.{◌≡◌, ◌⊎◌, ℕ, ◌+◌, ◌-◌, ◌*◌, ◌%◌, ◌^◌, ◌<◌, ◌≤◌, Bool, true, false, eqb, List, [], ◌∷◌, ◌++◌, length, slice_index, Option, Some, None}
 use mathlib.Core.Option.{some, none}
 use mathlib.Core.Option as maybe
 use mathlib.Core.List.{IsPrefix}
 use lib.ListN.{get_elem?}
+use Rattle.turnstile.specs.declared.words.TheConstants.{TICKETS, SERVED, FRONT, FAULTS, WORDS}
 use Rattle.turnstile.specs.declared.limits.TheConstants.{MOST_OUT}
 use Rattle.turnstile.specs.Places.{total, times, within}
 use Rattle.atomic_table.specs.Table.{State}
@@ -24,6 +25,15 @@ is_pass (First n) = 1
 is_pass Parted = 1
 is_pass Brief = 0
 is_pass Spent = 0
+
+-- what the words show: the next ticket and the ticket that is served, modulo 2^64, the list's length and the faults.
+-- The words of those who sleep may be anything
+pub record Shows (words : List ℕ) (drawn served front faults : ℕ) : Type 0 where
+  pub many : length words ≡ WORDS
+  pub next : slice_index words TICKETS ≡ drawn % 2 ^ 64
+  pub turn : slice_index words SERVED ≡ served % 2 ^ 64
+  pub front_is : slice_index words FRONT ≡ front
+  pub faults_are : slice_index words FAULTS ≡ faults
 
 -- what only the rule knows: the whole list, the fixed part, the tickets served and drawn, whose ticket each is, and the value where it is at home
 pub record Whole (T I F : Type 0) : Type 0 where
@@ -102,7 +112,7 @@ Own opening front views = (p : ℕ) → total (λ v. times p v.own) views ≡ wi
 module _ {T I F N : Type 0} where
   pub record Kept (items : T → List I) (count_faults : T → ℕ) (fixed_of : T → F) (s : State (Option T) (SeatView I F N)) : Type 0 where
     pub whole : Whole T I F
-    pub words : s.words ≡ whole.drawn % 2 ^ 64 ∷ whole.served % 2 ^ 64 ∷ length whole.history ∷ whole.faults ∷ []
+    pub words : Shows s.words whole.drawn whole.served (length whole.history) whole.faults
     pub homes : s.homes ≡ slot_of whole.home ∷ []
     pub tickets : Tickets whole.served whole.drawn whole.owner s.views
     pub desk : Desk whole.history whole.faults whole.home items count_faults fixed_of whole.fixed s.views

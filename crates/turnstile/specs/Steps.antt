@@ -80,6 +80,10 @@ module _ {T I F N : Type 0} where
   abbrev pub found_front : At T → Sat T I F N → ℕ → Sat T I F N → Type 0
   found_front st m found m' = (m' ≡ (record m.0 { known = found }, m.1)) × (m.0.known ≤ found)
 
+  -- 6: nothing changed that a seat knows
+  abbrev pub stayed : At T → Sat T I F N → ℕ → Sat T I F N → Type 0
+  stayed st m found m' = m' ≡ m
+
   -- 7: what was seen and what was told begin one list, the longer of the two
   abbrev pub learned : At T → Sat T I F N → ℕ → Sat T I F N → Type 0
   learned st m found m' = (m' ≡ (record m.0 { seen = longer m.0.seen m.0.told }, m.1)) × AreOneList m.0.seen m.0.told × AreDifferent m.0.own

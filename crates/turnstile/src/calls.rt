@@ -10,6 +10,7 @@ use crate::job::Job;
 use crate::limits::MOST_OUT;
 use crate::pass::Pass;
 use crate::turnstile::Turnstile;
+use crate::words::{FAULTS, FRONT, WORDS};
 use adx_units::{Counted, OutOfMemory};
 use std::alloc::Global;
 use std::snapshot::Snapshot;
@@ -20,13 +21,15 @@ impl<T: Counted + Drop> Turnstile<T> {
     pub fn new(alloc: Global, value: T) -> Result<(Turnstile<T>, Pass<T>), OutOfMemory>
         ensures first { IfOk result (λ r. r.1 ≡ first_pass r.0 (T.items value) (T.fault_count value) (T.fixed value)) }
     {
-        let words = [0, 0, value.count(), value.faults()];
+        let mut words = [0; WORDS];
+        words[FRONT] = value.count();
+        words[FAULTS] = value.faults();
         let about = Snapshot::of(&value);
         let mut slots = Vec::new(alloc);
         if slots.push(Some(value)).is_err() {
             return Err(OutOfMemory);
         }
-        let (turnstile, seat) = Turnstile::with_table(alloc, slots, &about, words)?;
+        let (turnstile, seat) = Turnstile::with_table(alloc, slots, &about, &words)?;
         Ok((turnstile, Pass { seat, out: 0 }))
     }
 

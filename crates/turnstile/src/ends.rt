@@ -1,7 +1,7 @@
 //! How a table is made, and what it leaves.
 ghost use Rattle.std.specs.Prelude.{◌≡◌, ℕ, [], ◌∷◌, length, Some, IfOk};
 ghost use Rattle.turnstile.specs.declared.view.Role.TheVariants.{First};
-ghost use Rattle.turnstile.specs.Rule.{first_view};
+ghost use Rattle.turnstile.specs.Rule.{first_view, Shows};
 ghost use Rattle.turnstile.specs.Hand.{IsAllOf, IsLastSeat};
 
 use crate::pass::TableSeat;
@@ -17,14 +17,14 @@ impl<T: Counted + Drop> Turnstile<T> {
         alloc: Global,
         slots: Vec<Option<T>>,
         about: &Snapshot<T>,
-        words: [u64; 4],
+        words: &[u64],
     ) -> Result<(Turnstile<T>, TableSeat<T>), OutOfMemory>
         requires slots { slots.items ≡ Some about.now.value ∷ [] }
-        requires words { (count : ℕ) × (faults : ℕ) × (words ≡ 0 ∷ 0 ∷ count ∷ faults ∷ []) × (count ≡ length (T.items about.now.value)) × (faults ≡ T.fault_count about.now.value) }
+        requires words { Shows words.now 0 0 (length (T.items about.now.value)) (T.fault_count about.now.value) }
         ensures of { IfOk result (λ r. r.1.table_id ≡ r.0) }
         ensures first { IfOk result (λ r. r.1.me ≡ (first_view T.items T.fault_count T.fixed about.now.value, [])) }
     {
-        match Table::new(alloc, &words, slots, about) {
+        match Table::new(alloc, words, slots, about) {
             Ok((table, seat)) => Ok((Turnstile { table }, seat)),
             Err(Refused { slots: _ }) => Err(OutOfMemory),
         }

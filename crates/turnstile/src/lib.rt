@@ -19,6 +19,7 @@ mod seats;
 mod turnstile;
 mod view;
 mod waiting;
+mod words;
 
 pub use job::Job;
 pub use limits::{LAST_COUNT, MOST_ADDED, MOST_OUT};

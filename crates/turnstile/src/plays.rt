@@ -1,7 +1,7 @@
 //! What each step on the table tells the seat that makes it.
 ghost use Rattle.std.specs.Prelude.{List};
 ghost use Rattle.turnstile.specs.declared.noted.Noted.{Noted};
-ghost use Rattle.turnstile.specs.Steps.{drew, looked, raised, counted, served, found_front, learned, lender, parted, brief, united, met, spent};
+ghost use Rattle.turnstile.specs.Steps.{drew, looked, raised, counted, served, found_front, stayed, learned, lender, parted, brief, united, met, spent};
 
 use crate::view::SeatView;
 use adx_units::Counted;
@@ -65,6 +65,13 @@ pub(crate) struct ReadFront;
 
 impl<T, I, F, N> Play<Option<T>, SeatView<I, F, N>> for ReadFront {
     ghost then = { found_front };
+}
+
+/// Changes a word of those who sleep.
+pub(crate) struct Stir;
+
+impl<T, I, F, N> Play<Option<T>, SeatView<I, F, N>> for Stir {
+    ghost then = { stayed };
 }
 
 /// Finds that what was told and what was seen begin one list.

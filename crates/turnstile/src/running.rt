@@ -27,7 +27,8 @@ impl<T: Counted + Drop> Turnstile<T> {
         self.put_in(seat, value);
         self.raise_all(seat, &shown, added);
         self.count_all(seat, risen);
-        self.serve::<J, Brand>(seat, job, before);
+        let served = self.serve::<J, Brand>(seat, job, before);
+        self.wake_next(seat, served);
     }
 
     /// Takes the value out of the slot in hand.

@@ -13,25 +13,14 @@ ghost use Rattle.turnstile.specs.Hand.{InHand, with_new, with_rise};
 use crate::job::Job;
 use crate::order::Order;
 use crate::pass::TableSeat;
-use crate::plays::{Count, Draw, Learn, Look, Notes, Raise, ReadFront, Serve};
+use crate::plays::{Count, Draw, Learn, Look, Notes, Raise, ReadFront, Serve, Stir};
 use crate::view::SeatView;
+use crate::words::{FAULTS, FRONT, SERVED, TICKETS, WORDS};
 use adx_units::Counted;
 use atomic_table::Table;
 use std::alloc::Global;
 use std::marker::Model;
 use std::snapshot::Snapshot;
-
-/// The word of the next ticket.
-const TICKETS: usize = 0;
-
-/// The word of the ticket that is served.
-const SERVED: usize = 1;
-
-/// The word of the list's length.
-const FRONT: usize = 2;
-
-/// The word of the number of faults.
-const FAULTS: usize = 3;
 
 /// A value that many threads share, one turn at a time. A contract sees only which turnstile it is.
 /// It may be shared by reference, or lie in an `Arc`.
@@ -48,13 +37,14 @@ pub struct Turnstile<T: Counted + Drop> {
 
 impl<T: Counted + Drop> Model for Turnstile<T> {
     ghost use Rattle.std.specs.Prelude.{◌≡◌};
+    ghost use Rattle.turnstile.specs.declared.words.TheConstants.{WORDS};
     ghost use Rattle.turnstile.specs.Passes.{TurnstileId};
 
     ghost Value = { TurnstileId };
 
     ghost view = { λ t. t.table.shared.table_id };
 
-    ghost invariant = { λ t. (t.table.shared.table_id.words ≡ 4) × (t.table.shared.table_id.slots ≡ 1) };
+    ghost invariant = { λ t. (t.table.shared.table_id.words ≡ WORDS) × (t.table.shared.table_id.slots ≡ 1) };
 }
 
 impl<T: Counted + Drop> Turnstile<T> {
@@ -75,7 +65,7 @@ impl<T: Counted + Drop> Turnstile<T> {
         requires waits { (t : ℕ) × (seat.old.me.0.stage ≡ Waits t) }
         requires pass { is_pass seat.old.me.0.role ≡ 1 }
         ensures id { (seat.new.table_id ≡ seat.old.table_id) × (seat.new.id ≡ seat.old.id) }
-        ensures looked { looked T.items T.fault_count T.fixed (step self.now.slots 1 0 0 none) seat.old.me result seat.new.me }
+        ensures looked { looked T.items T.fault_count T.fixed (step self.now.slots SERVED 0 0 none) seat.old.me result seat.new.me }
     {
         self.table.shared.load::<Look<T>>(seat, SERVED)
     }
@@ -101,14 +91,15 @@ impl<T: Counted + Drop> Turnstile<T> {
     }
 
     /// Gives the value back and serves the next ticket. The pass keeps the turns of the job.
-    pub(crate) fn serve<J: Job<T>, K: Notes<T::Turn>>(&self, seat: &mut TableSeat<T>, _job: &J, _at: u64)
+    /// Answers which ticket was served.
+    pub(crate) fn serve<J: Job<T>, K: Notes<T::Turn>>(&self, seat: &mut TableSeat<T>, _job: &J, _at: u64) -> u64
         requires turns { K.turns ≡ placed T.adds _at (J.notes _job.now) }
         requires seat { seat.old.table_id ≡ self.now }
         requires hand { (x : T) × InHand T.items T.fault_count T.fixed seat.old.me x [] 0 }
         ensures id { (seat.new.table_id ≡ seat.old.table_id) × (seat.new.id ≡ seat.old.id) }
         ensures noted { seat.new.me ≡ (record seat.old.me.0 { stage = Idle; turns = seat.old.me.0.turns ++ placed T.adds _at (J.notes _job.now) }, []) }
     {
-        self.table.shared.fetch_add::<Serve<K>>(seat, SERVED, 1);
+        self.table.shared.fetch_add::<Serve<K>>(seat, SERVED, 1)
     }
 
     /// The length of the list.
@@ -133,5 +124,15 @@ impl<T: Counted + Drop> Turnstile<T> {
         ensures own { AreDifferent seat.old.me.0.own }
     {
         self.table.shared.load::<Learn>(seat, FRONT);
+    }
+
+    /// Adds n to a word that says nothing of the list, modulo 2^64.
+    pub(crate) fn stir(&self, seat: &mut TableSeat<T>, word: usize, n: u64)
+        requires seat { seat.old.table_id ≡ self.now }
+        requires word { (FAULTS < word) × (word < WORDS) }
+        ensures id { (seat.new.table_id ≡ seat.old.table_id) × (seat.new.id ≡ seat.old.id) }
+        ensures same { seat.new.me ≡ seat.old.me }
+    {
+        self.table.shared.fetch_add::<Stir>(seat, word, n);
     }
 }

@@ -1,4 +1,4 @@
-//! Waiting for one's turn.
+//! Waiting for one's turn, and waking who waits.
 ghost use Rattle.std.specs.Prelude.{◌≡◌, ◌%◌, ◌^◌, ℕ, [], true, false};
 ghost use Rattle.turnstile.specs.declared.view.Stage.TheVariants.{Idle, Waits};
 ghost use Rattle.turnstile.specs.Rule.{is_pass};
@@ -6,13 +6,16 @@ ghost use Rattle.turnstile.specs.Hand.{Took};
 
 use crate::pass::TableSeat;
 use crate::turnstile::Turnstile;
+use crate::words::{SERVED, SLEEPERS, bell_of};
 use adx_units::Counted;
 use std::hint::spin_loop;
 use std::sync::Wait;
-use std::thread::yield_now;
 
-/// How often a thread looks before it leaves the processor to others.
-const SPINS: u32 = 16;
+/// How often a thread looks before it sleeps.
+const SPINS: u32 = 100;
+
+/// The low bits of a bell, which a sleep compares.
+const LOW_BITS: u64 = 1 << 32;
 
 impl<T: Counted + Drop> Turnstile<T> {
     /// Draws a ticket and waits until it is served. The seat then has the value, and has seen all of it.
@@ -30,7 +33,7 @@ impl<T: Counted + Drop> Turnstile<T> {
             if self.has_come(seat, ticket) {
                 break;
             }
-            tries = back_off(tries);
+            tries = self.pause(rt, seat, ticket, tries);
         }
     }
 
@@ -46,15 +49,47 @@ impl<T: Counted + Drop> Turnstile<T> {
     {
         self.look(seat) == ticket
     }
-}
 
-/// Spins for a short time, and then gives way. Answers how often it spun.
-fn back_off(tries: u32) -> u32 {
-    if tries < SPINS {
-        spin_loop();
-        tries + 1
-    } else {
-        yield_now();
+    /// Spins at the first tries, and then sleeps. Answers the number of tries.
+    fn pause<R: Wait>(&self, rt: &R, seat: &mut TableSeat<T>, ticket: u64, tries: u32) -> u32
+        requires seat { seat.old.table_id ≡ self.now }
+        ensures id { (seat.new.table_id ≡ seat.old.table_id) × (seat.new.id ≡ seat.old.id) }
+        ensures same { seat.new.me ≡ seat.old.me }
+    {
+        if tries < SPINS {
+            spin_loop();
+            return tries + 1;
+        }
+        self.sleep(rt, seat, ticket);
         tries
+    }
+
+    /// Sleeps until the ticket's bell is rung, unless the ticket is served by then. It may wake for no reason.
+    fn sleep<R: Wait>(&self, rt: &R, seat: &mut TableSeat<T>, ticket: u64)
+        requires seat { seat.old.table_id ≡ self.now }
+        ensures id { (seat.new.table_id ≡ seat.old.table_id) × (seat.new.id ≡ seat.old.id) }
+        ensures same { seat.new.me ≡ seat.old.me }
+    {
+        // A server that finds no sleeper has served before this: then the look below finds the ticket served.
+        self.stir(seat, SLEEPERS, 1);
+        let bell = bell_of(ticket);
+        let rung = self.table.shared.peek(bell);
+        if self.table.shared.peek(SERVED) != ticket {
+            self.table.shared.park(rt, bell, (rung % LOW_BITS) as u32);
+        }
+        self.stir(seat, SLEEPERS, u64::MAX);
+    }
+
+    /// Rings the bell of the ticket after this one, where somebody sleeps.
+    pub(crate) fn wake_next(&self, seat: &mut TableSeat<T>, served: u64)
+        requires seat { seat.old.table_id ≡ self.now }
+        ensures id { (seat.new.table_id ≡ seat.old.table_id) × (seat.new.id ≡ seat.old.id) }
+        ensures same { seat.new.me ≡ seat.old.me }
+    {
+        if self.table.shared.peek(SLEEPERS) > 0 {
+            let bell = bell_of(served.wrapping_add(1));
+            self.stir(seat, bell, 1);
+            self.table.shared.wake_all(bell);
+        }
     }
 }

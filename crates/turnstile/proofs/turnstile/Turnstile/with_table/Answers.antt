@@ -6,6 +6,5 @@ use Rattle.turnstile.proofs.turnstile.Turnstile.with_table.Goals as goal
 
 pub new-requires : goal.new-requires
 new-requires g c =
-    let w = c.requires.words in
-    subst (λ (z : List ℕ × List (Option g.row.T.Denot)). Kept {N = g.row.T-Turn.Denot} g.T.Counted.items g.T.Counted.fault_count g.T.Counted.fixed (opening z.0 z.1 (first_view g.T.Counted.items g.T.Counted.fault_count g.T.Counted.fixed c.args.about.now.value)))
-    (λ i. (sym w.2 i, sym c.requires.slots i)) (opens g.T.Counted.items g.T.Counted.fault_count g.T.Counted.fixed c.args.about.now.value w.0 w.1 w.3 w.4)
+    subst (λ (l : List (Option g.row.T.Denot)). Kept {N = g.row.T-Turn.Denot} g.T.Counted.items g.T.Counted.fault_count g.T.Counted.fixed (opening c.args.words.now l (first_view g.T.Counted.items g.T.Counted.fault_count g.T.Counted.fixed c.args.about.now.value)))
+    (sym c.requires.slots) (opens g.T.Counted.items g.T.Counted.fault_count g.T.Counted.fixed c.args.about.now.value c.args.words.now c.requires.words)
