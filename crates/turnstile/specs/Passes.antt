@@ -56,6 +56,10 @@ module _ {I F N : Type 0} where
   abbrev pub joined : PassView I F N → PassView I F N → PassView I F N
   joined p q = record (told p q) { out = p.out - 1; turns = p.turns ++ q.turns }
 
+-- what stays of a pass over every call but split and join
+abbrev pub IsSamePass : {I F N : Type 0} → PassView I F N → PassView I F N → Type 0
+IsSamePass p q = (q.turnstile ≡ p.turnstile) × (q.is_first ≡ p.is_first) × (q.out ≡ p.out) × (q.fixed ≡ p.fixed) × (q.opening ≡ p.opening)
+
 -- One turn of a job, by which a pass p becomes q and the job j becomes k. The list at the turn begins with all that p
 -- had seen and is no shorter than p knew, and the job ran on it. What the job's turns add is the end of the list that
 -- q has seen, and they stand behind p's turns. The faults among them were counted, and all that q knows it has seen.
@@ -72,4 +76,4 @@ module _ {I F N J : Type 0} (adds : N → Option I) (is_fault : N → Bool) wher
     pub turns : q.turns ≡ p.turns ++ placed adds (length before) (notes k)
     pub no_fewer : p.faults ≤ q.faults
     pub counted : HasRisen (faults_in is_fault (notes k)) p.faults q.faults
-    pub same : (q.turnstile ≡ p.turnstile) × (q.is_first ≡ p.is_first) × (q.out ≡ p.out) × (q.fixed ≡ p.fixed) × (q.opening ≡ p.opening)
+    pub same : IsSamePass p q
