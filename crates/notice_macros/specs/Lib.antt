@@ -1,0 +1,4 @@
+pub mod Macros
+pub mod Escaped
+pub mod Expansion
+pub mod Laws
