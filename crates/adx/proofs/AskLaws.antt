@@ -13,8 +13,8 @@ use Rattle.adx_units.specs.declared.offer.Offer.{Offer}
 use Rattle.adx.specs.declared.ask_form.TheConstants.{LATEST_MOMENT}
 use Rattle.adx_json.specs.Tree.{Tree, text, number}
 use Rattle.adx_json.specs.Plain.{IsPlain}
-use Rattle.day_machine.specs.declared.ask.Ask.{Ask}
-use Rattle.day_machine.specs.Asks.{IsRefusal, IsOffer, IsWellFormed, IsUndecided}
+use Rattle.narrow_day.specs.declared.ask.Ask.{Ask}
+use Rattle.narrow_day.specs.Asks.{IsRefusal, IsOffer, IsWellFormed, IsUndecided}
 use Rattle.adx.specs.declared.roster.Campaign.{Campaign}
 use Rattle.adx.specs.Parts.{◌>>=◌, Fields, fields_in, end_in, next_in, next_text_in, next_number_in, next_only_in, next_items_in}
 use Rattle.adx.specs.RosterParts.{is_id}

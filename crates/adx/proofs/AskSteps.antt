@@ -6,8 +6,8 @@ use Rattle.adx_units.specs.Number.{is_whole_up_to, whole_up_to, digits_value}
 use Rattle.adx.specs.declared.ask_form.TheConstants.{LATEST_MOMENT}
 use Rattle.adx_units.specs.declared.offer.Offer.{Offer}
 use Rattle.adx_json.specs.Spelling.{spelling}
-use Rattle.day_machine.specs.declared.ask.Ask.{Ask}
-use Rattle.day_machine.specs.declared.ask.Kept.{Kept}
+use Rattle.narrow_day.specs.declared.ask.Ask.{Ask}
+use Rattle.narrow_day.specs.declared.ask.Kept.{Kept}
 use Rattle.adx.specs.declared.roster.Campaign.{Campaign}
 use Rattle.adx.specs.declared.ask_form.Head.{Head}
 use Rattle.adx.specs.AskHead.{ask_with}

@@ -3,14 +3,14 @@ use Rattle.std.proofs.Common.{◌≡◌, inl, inr, ℕ, ◌≤◌, List, [], ◌
 use Rattle.std.proofs.lemmas.List.{length-map}
 use Rattle.std.proofs.lemmas.List.Elements.{All-nil, All-cons}
 use Rattle.adx_units.specs.Number.{digits_value}
-use Rattle.day_machine.specs.declared.entry.Entry.{Entry}
-use Rattle.day_machine.specs.Asks.{IsWellFormed, IsUndecided}
-use Rattle.day_machine.specs.Legal.{IsLegal}
-use Rattle.day_machine.specs.Replies.{Terms, ask, bill}
-use Rattle.day_machine.specs.Runs.{Turn, IsAskedWell, AreAskedWell, after_turn, run}
-use Rattle.day_machine.proofs.Histories.{legal_none}
-use Rattle.day_machine.proofs.Running.{run_legal, plain_books_hold}
-use Rattle.day_machine.proofs.Within.{within_budget}
+use Rattle.narrow_day.specs.declared.entry.Entry.{Entry}
+use Rattle.narrow_day.specs.Asks.{IsWellFormed, IsUndecided}
+use Rattle.narrow_day.specs.Legal.{IsLegal}
+use Rattle.narrow_day.specs.Replies.{Terms, ask, bill}
+use Rattle.narrow_day.specs.Runs.{Turn, IsAskedWell, AreAskedWell, after_turn, run}
+use Rattle.narrow_day.proofs.Histories.{legal_none}
+use Rattle.narrow_day.proofs.Running.{run_legal, plain_books_hold}
+use Rattle.narrow_day.proofs.Within.{within_budget}
 use Rattle.adx.specs.declared.roster.Campaign.{Campaign}
 use Rattle.adx.specs.Calls.{done, Asks, AsksAll, HasBooks}
 use Rattle.adx.specs.Forms.{ask_of_form}

@@ -5,7 +5,7 @@ use Rattle.adx_json.specs.Tree.{Tree}
 use Rattle.adx_json.specs.Spelling.{spelling}
 use Rattle.adx_json.specs.Plain.{IsPlain}
 use Rattle.adx_json.proofs.Unique.{one_plain_tree}
-use Rattle.day_machine.specs.declared.ask.Ask.{Ask}
+use Rattle.narrow_day.specs.declared.ask.Ask.{Ask}
 use Rattle.adx.specs.declared.roster.Campaign.{Campaign}
 use Rattle.adx.specs.Lines.{line_limit}
 use Rattle.adx.specs.Forms.{ask_tree, bill_tree, roster_tree}

@@ -3,9 +3,9 @@ use Rattle.std.proofs.Common.{◌≡◌, inl, inr, ℕ, suc, ◌+◌, ◌≤◌,
 use Rattle.std.specs.List.{flat_map}
 use Rattle.std.proofs.lemmas.List.Elements.{All-head, All-tail}
 use Rattle.std.proofs.lemmas.Option.{same_Some}
-use Rattle.day_machine.specs.declared.entry.Entry.{Entry}
-use Rattle.day_machine.specs.declared.ask.Ask.{Ask}
-use Rattle.day_machine.specs.Replies.{ask_reply, bill_reply, with_entry}
+use Rattle.narrow_day.specs.declared.entry.Entry.{Entry}
+use Rattle.narrow_day.specs.declared.ask.Ask.{Ask}
+use Rattle.narrow_day.specs.Replies.{ask_reply, bill_reply, with_entry}
 use Rattle.adx.specs.declared.bill.Bill.{Bill}
 use Rattle.adx.specs.declared.roster.Campaign.{Campaign}
 use Rattle.adx.specs.AskParts.{ask_made, ask_in}

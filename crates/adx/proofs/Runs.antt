@@ -5,10 +5,10 @@ use Rattle.std.proofs.lemmas.List.{length-map}
 use Rattle.std.proofs.lemmas.List.Elements.{All-nil, All-cons, All-head, All-tail, All-push, All-append}
 use Rattle.std.proofs.lemmas.Grind.{flat_map-append}
 use Rattle.adx_io.specs.Streams.{Tape}
-use Rattle.day_machine.specs.declared.entry.Entry.{Entry}
-use Rattle.day_machine.specs.DayState.{AreTerms}
-use Rattle.day_machine.specs.Runs.{Turn, IsAskedWell, run as run_over}
-use Rattle.day_machine.specs.Standings.{IsBudget}
+use Rattle.narrow_day.specs.declared.entry.Entry.{Entry}
+use Rattle.narrow_day.specs.DayState.{AreTerms}
+use Rattle.narrow_day.specs.Runs.{Turn, IsAskedWell, run as run_over}
+use Rattle.narrow_day.specs.Standings.{IsBudget}
 use Rattle.adx.specs.declared.ending.Ending.{Ending}
 use Rattle.adx.specs.declared.reading.Next.{Next}
 use Rattle.adx.specs.declared.roster.Campaign.{Campaign}

@@ -2,7 +2,7 @@
 use Rattle.std.specs.Prelude.{◌≡◌, ℕ, List, [], ◌∷◌, true, false, Option, Some, None}
 use Rattle.adx_units.specs.Number.{digits_value}
 use Rattle.adx_units.specs.declared.offer.Offer.{Offer}
-use Rattle.day_machine.specs.declared.ask.Ask.{Ask}
+use Rattle.narrow_day.specs.declared.ask.Ask.{Ask}
 use Rattle.adx.specs.declared.ask_form.Head.{Head}
 use Rattle.adx.specs.Forms.{floor_units_of}
 use Rattle.adx.specs.AskParts.{AskOutline, is_outline}

@@ -8,7 +8,7 @@ use Rattle.adx_units.specs.Money.{floor_of}
 use Rattle.adx_json.specs.Tree.{Tree}
 use Rattle.adx_json.specs.Spelling.{spelling}
 use Rattle.adx_json.specs.View.{tree_of, trees_of}
-use Rattle.day_machine.specs.declared.ask.Ask.{Ask}
+use Rattle.narrow_day.specs.declared.ask.Ask.{Ask}
 use Rattle.adx.specs.declared.roster.Campaign.{Campaign}
 use Rattle.adx.specs.declared.ask_parts.AskParts.{AskParts}
 use Rattle.adx.specs.Parts.{◌>>=◌, Fields, fields_in, next_in, end_in, next_text_in, next_number_in, next_only_in, next_items_in}

@@ -2,10 +2,10 @@
 use Rattle.std.specs.Prelude.{◌≡◌, ◌⊎◌, ℕ, ◌≤◌, List, [], ◌∷◌, ◌++◌, true}
 use Rattle.adx_units.specs.Number.{digits_value}
 use Rattle.discount_table.specs.Choice.{budget_at}
-use Rattle.day_machine.specs.declared.entry.Entry.{Entry}
-use Rattle.day_machine.specs.Books.{reserved, billed_money, committed}
-use Rattle.day_machine.specs.Replies.{Terms, Call, ask, bill}
-use Rattle.day_machine.specs.Runs.{Turn, run, once, no_books, plain_books, plain_reserved, plain_billed}
+use Rattle.narrow_day.specs.declared.entry.Entry.{Entry}
+use Rattle.narrow_day.specs.Books.{reserved, billed_money, committed}
+use Rattle.narrow_day.specs.Replies.{Terms, Call, ask, bill}
+use Rattle.narrow_day.specs.Runs.{Turn, run, once, no_books, plain_books, plain_reserved, plain_billed}
 use Rattle.adx.specs.declared.roster.Campaign.{Campaign}
 use Rattle.adx.specs.Forms.{AskForm, BillForm, IsAskLine, IsBillLine, ask_of_form}
 

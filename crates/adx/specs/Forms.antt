@@ -13,7 +13,7 @@ use Rattle.adx_units.specs.declared.offer.TheConstants.{ADMITTED}
 use Rattle.adx_json.specs.Tree.{Tree, number, text, list, object, items_of, members_of}
 use Rattle.adx_json.specs.Spelling.{spelling}
 use Rattle.adx_json.specs.Plain.{IsPlain}
-use Rattle.day_machine.specs.declared.ask.Ask.{Ask}
+use Rattle.narrow_day.specs.declared.ask.Ask.{Ask}
 use Rattle.adx.specs.declared.roster.Campaign.{Campaign}
 use Rattle.adx.specs.declared.bill.Bill.{Bill}
 use Rattle.adx.specs.declared.bill.TheConstants.{LAST_AWARD}

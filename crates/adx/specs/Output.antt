@@ -7,12 +7,12 @@ use Rattle.adx_units.specs.Money.{units}
 use Rattle.adx_units.specs.declared.offer.Offer.{Offer}
 use Rattle.adx_json.specs.Spelling.{text_spelling}
 use Rattle.discount_table.specs.Discount.{slab_of}
-use Rattle.day_machine.specs.declared.answer.Answer.{Answer}
-use Rattle.day_machine.specs.declared.answer.Which.{Which}
-use Rattle.day_machine.specs.declared.ask.Ask.{Ask}
-use Rattle.day_machine.specs.declared.entry.Entry.{Entry}
-use Rattle.day_machine.specs.Books.{awarded_offers, awards_of, reserved, billed_money, committed, ask_count}
-use Rattle.day_machine.specs.Replies.{is_awarded}
+use Rattle.narrow_day.specs.declared.answer.Answer.{Answer}
+use Rattle.narrow_day.specs.declared.answer.Which.{Which}
+use Rattle.narrow_day.specs.declared.ask.Ask.{Ask}
+use Rattle.narrow_day.specs.declared.entry.Entry.{Entry}
+use Rattle.narrow_day.specs.Books.{awarded_offers, awards_of, reserved, billed_money, committed, ask_count}
+use Rattle.narrow_day.specs.Replies.{is_awarded}
 use Rattle.adx.specs.declared.roster.Campaign.{Campaign}
 
 -- the awarded offers of an ask, in the order of its impressions

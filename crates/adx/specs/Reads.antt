@@ -5,8 +5,8 @@ use Rattle.adx_json.specs.Spelling.{spelling}
 use Rattle.adx_json.specs.Plain.{IsPlain}
 use Rattle.adx_json.specs.View.{tree_of}
 use Rattle.adx_json.specs.declared.tree.Json.{Json}
-use Rattle.day_machine.specs.declared.ask.Ask.{Ask}
-use Rattle.day_machine.specs.Asks.{IsWellFormed, IsUndecided}
+use Rattle.narrow_day.specs.declared.ask.Ask.{Ask}
+use Rattle.narrow_day.specs.Asks.{IsWellFormed, IsUndecided}
 use Rattle.adx.specs.declared.roster.Campaign.{Campaign}
 use Rattle.adx.specs.declared.bill.Bill.{Bill}
 use Rattle.adx.specs.declared.line.ScriptLine.{ScriptLine}

@@ -2,10 +2,10 @@
 -- the closing table. This project's own.
 use Rattle.std.specs.Prelude.{◌≡◌, ◌⊎◌, ℕ, suc, ◌+◌, ◌<◌, ◌≤◌, List, [], ◌∷◌, ◌++◌, map, length, Option, Some, None}
 use Rattle.adx_units.specs.Number.{digits_value}
-use Rattle.day_machine.specs.declared.entry.Entry.{Entry}
-use Rattle.day_machine.specs.declared.limits.DayLimits.{DayLimits}
-use Rattle.day_machine.specs.Replies.{Terms, ask_reply, bill_reply, with_entry}
-use Rattle.day_machine.specs.Runs.{Turn}
+use Rattle.narrow_day.specs.declared.entry.Entry.{Entry}
+use Rattle.narrow_day.specs.declared.limits.DayLimits.{DayLimits}
+use Rattle.narrow_day.specs.Replies.{Terms, ask_reply, bill_reply, with_entry}
+use Rattle.narrow_day.specs.Runs.{Turn}
 use Rattle.adx.specs.declared.roster.Campaign.{Campaign}
 use Rattle.adx_io.specs.Streams.{Tape}
 use Rattle.adx.specs.declared.ending.Ending.{Ending}

@@ -1,5 +1,5 @@
 ghost use Rattle.std.specs.Prelude.{◌≡◌, ◌≤◌, ℕ, List, ◌++◌, length, OnOk, string_bytes};
-ghost use Rattle.day_machine.specs.Replies.{ask_reply, bill_reply, with_entry};
+ghost use Rattle.narrow_day.specs.Replies.{ask_reply, bill_reply, with_entry};
 ghost use Rattle.adx.specs.Lines.{Keeps, line_limit};
 ghost use Rattle.adx.specs.Output.{ask_answer_line, bill_answer_line};
 ghost use Rattle.adx.specs.Script.{terms_of, AnswersTo};
@@ -12,7 +12,7 @@ use crate::line::{ScriptLine, read_line};
 use crate::output::{push, push_refused};
 use crate::roster::Campaign;
 use adx_units::OutOfMemory;
-use day_machine::{Answer, Ask, Day, NoticeKind};
+use narrow_day::{Answer, Ask, Day, NoticeKind};
 use std::alloc::Global;
 
 /// Takes an ask, and then writes its answer.

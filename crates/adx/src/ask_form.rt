@@ -16,7 +16,7 @@ use adx_units::{
     ADMITTED, Id, Offer, OutOfMemory, PriceFault, Sequence, Text, Units, floor_of, price_of,
     whole_up_to,
 };
-use day_machine::Ask;
+use narrow_day::Ask;
 use sha2::{Digest, Sha256};
 use std::alloc::Global;
 

@@ -1,15 +1,15 @@
 ghost use Rattle.std.specs.Prelude.{◌≡◌, ◌==◌, ◌+◌, ◌<◌, ◌^◌, ◌&&◌, if◌then◌else◌, ◌∷◌, ◌++◌, [], List, ℕ, map, filter, length, decimal, slice_index_or, slice_get, OnOk, IfOk, string_bytes, vec_len};
 ghost use Rattle.std.specs.List.{enumerate_from, join_with_byte};
 ghost use Rattle.adx_json.specs.Spelling.{text_spelling};
-ghost use Rattle.day_machine.specs.Books.{awarded_offers};
+ghost use Rattle.narrow_day.specs.Books.{awarded_offers};
 ghost use Rattle.adx.specs.Output.{sold_offers, award_text, awards_text, reasons_of, reasons_text, comma_behind, awarded_line, nosale_line, ask_line, entry_line, ask_answer_line, no_campaign};
-ghost use Rattle.day_machine.specs.Replies.{is_awarded};
+ghost use Rattle.narrow_day.specs.Replies.{is_awarded};
 
 use crate::output::{push, push_day_full, push_number, push_reused};
 use crate::roster::Campaign;
 use adx_json::push_text;
 use adx_units::{Offer, OutOfMemory};
-use day_machine::{Answer, Ask, Entry};
+use narrow_day::{Answer, Ask, Entry};
 use std::alloc::Global;
 
 /// Adds the awarded offers of an impression.

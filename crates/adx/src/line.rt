@@ -11,7 +11,7 @@ use crate::roster::{Campaign, roster};
 use adx_json::plain::PlainFault;
 use adx_json::{Json, plain};
 use adx_units::OutOfMemory;
-use day_machine::Ask;
+use narrow_day::Ask;
 use std::alloc::Global;
 
 /// What a line of a script is.

@@ -2,7 +2,7 @@
 //!
 //! The call `adx` of the module `command` does all that the program does, from the words of its command
 //! line and the bytes of a source to those of a sink; its contract is the program's. It stands on
-//! `day_machine`, which holds a day's books, and on `adx_json`, `adx_io` and `adx_units`.
+//! `narrow_day`, which holds a day's books, and on `adx_json`, `adx_io` and `adx_units`.
 #![tactic(auto)]
 
 mod answering;

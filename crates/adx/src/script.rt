@@ -18,7 +18,7 @@ use crate::roster::Campaign;
 use crate::table::push_table;
 use adx_io::{Sink, Source};
 use adx_units::{OutOfMemory, Units};
-use day_machine::{Day, DayLimits};
+use narrow_day::{Day, DayLimits};
 use std::alloc::Global;
 
 /// The limits of a day whose roster states none.

@@ -8,7 +8,7 @@ use crate::output::{push, push_number};
 use crate::roster::Campaign;
 use adx_json::push_text;
 use adx_units::OutOfMemory;
-use day_machine::Day;
+use narrow_day::Day;
 use discount_table::slab_of;
 
 /// Writes a campaign's row of the closing table.

@@ -1,6 +1,6 @@
 -- One more impression.
 use Rattle.std.proofs.Common.{◌++◌, sym, ap, ◌∙◌}
-use Rattle.day_machine.specs.Books.{awarded_offers}
+use Rattle.narrow_day.specs.Books.{awarded_offers}
 use Rattle.adx.proofs.Joined.{over_more}
 use Rattle.adx.proofs.ask_lines.awarded.Goals as goal
 

@@ -1,7 +1,7 @@
 -- The awarded offers of the impressions so far.
 use Rattle.std.proofs.Common.{◌≡◌}
 use Rattle.std.specs.List.{flat_map, range_with_len}
-use Rattle.day_machine.specs.Books.{awarded_offers}
+use Rattle.narrow_day.specs.Books.{awarded_offers}
 use Rattle.adx.proofs.ask_lines.awarded.Given as goal
 
 abbrev pub invariant-loop-imp : goal.invariant-loop-imp

@@ -1,6 +1,6 @@
 -- The terms of a roster.
 use Rattle.std.proofs.Common.{subst, sym, ◌∙◌}
-use Rattle.day_machine.specs.DayState.{AreTerms}
+use Rattle.narrow_day.specs.DayState.{AreTerms}
 use Rattle.adx.specs.Script.{standard_limits}
 use Rattle.adx.proofs.Runs.{roster_terms}
 use Rattle.adx.proofs.script.open_day.Goals as goal

@@ -2,7 +2,7 @@
 use Rattle.std.proofs.Common.{◌≡◌, ◌++◌, ◌∙◌, ap, codes, decimal, string_bytes}
 use Rattle.adx_json.specs.Spelling.{text_spelling}
 use Rattle.discount_table.specs.Discount.{slab_of}
-use Rattle.day_machine.specs.Books.{reserved, billed_money, committed}
+use Rattle.narrow_day.specs.Books.{reserved, billed_money, committed}
 use Rattle.adx.proofs.Chains.{and_then}
 use Rattle.adx.proofs.table.push_campaign.Goals as goal
 

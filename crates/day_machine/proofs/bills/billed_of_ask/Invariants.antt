@@ -1,5 +1,0 @@
-use Rattle.day_machine.proofs.Ends.{AskBilled}
-use Rattle.day_machine.proofs.bills.billed_of_ask.Given as goal
-
-abbrev pub invariant-loop-imp : goal.invariant-loop-imp
-invariant-loop-imp l = AskBilled l.ask l.campaign l.rest l.first l.imp l.number l.charges

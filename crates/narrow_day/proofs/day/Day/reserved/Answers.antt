@@ -1,0 +1,12 @@
+use Rattle.std.proofs.Common.{ap}
+use Rattle.narrow_day.specs.DayState.{DayState, terms_of}
+use Rattle.narrow_day.proofs.Following.{read_awards, read_committed}
+use Rattle.narrow_day.proofs.day.Day.reserved.Goals as goal
+
+pub committed-committed-requires : goal.committed-committed-requires
+committed-committed-requires c =
+    (read_committed (terms_of c.self.inside.budgets.items c.self.inside.limits) c.self.inside.entries.items c.deref.result.now c.args.campaign c.args.self.now c.self.invariant.day c.deref.ensures.value c.requires (ap (λ (d : DayState). d.terms) c.self.view_is)).0
+
+pub billed-requires-clause-numbers : goal.billed-requires-clause-numbers
+billed-requires-clause-numbers c =
+    read_awards (terms_of c.self.inside.budgets.items c.self.inside.limits) c.self.inside.entries.items c.deref-2.result.now c.self.invariant.day c.deref-2.ensures.value
