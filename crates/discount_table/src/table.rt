@@ -3,7 +3,7 @@ ghost use Rattle.discount_table.specs.Discount.{decline, discount as discount_of
 
 /// The discounts of the slabs 0 to 100, of which a full discount is 10^9.
 #[rattlefmt::skip]
-const DISCOUNTS: [u64; 101] = [
+static DISCOUNTS: [u64; 101] = [
     1_000_000_000, 994_134_250, 988_209_843, 982_226_192, 976_182_704, 970_078_782, 963_913_820,
     957_687_209, 951_398_332, 945_046_566, 938_631_282, 932_151_845, 925_607_614, 918_997_941,
     912_322_171, 905_579_643, 898_769_690, 891_891_637, 884_944_804, 877_928_503, 870_842_039,
@@ -36,8 +36,7 @@ pub fn discount(slab: u8) -> u64
     ensures positive { slab < 100 → 0 < result }
     ensures used_up { slab ≡ 100 → result ≡ 0 }
 {
-    let discounts = DISCOUNTS;
-    discounts[usize::from(slab)]
+    DISCOUNTS[usize::from(slab)]
 }
 
 /// The slab of a campaign: the whole hundredths of its budget, in units, that are committed.
