@@ -1,6 +1,8 @@
 //! The choice for one impression.
 ghost use Rattle.std.specs.Prelude.{◌≡◌, ◌<◌, ◌≤◌, ◌^◌, All, IfSome, length};
 ghost use Rattle.adx_units.specs.declared.offer.TheConstants.{ADMITTED as ADMITTED_MARK};
+ghost use Rattle.adx_units.specs.declared.price.TheConstants.{PRICE_LIMIT};
+ghost use Rattle.allocator_core.specs.declared.limits.TheConstants.{OFFER_LIMIT};
 ghost use Rattle.allocator_core.specs.declared.reason.TheConstants.{AWARDED as AWARDED_MARK};
 ghost use Rattle.campaign_book.specs.Accounts.{account_at};
 ghost use Rattle.allocator_core.specs.Choice.{chosen_at};
@@ -26,8 +28,8 @@ pub(crate) fn weight_beside(book: &Book, more: u64, offer: &Offer) -> Option<u12
 
 /// What the offers that are awarded already take from a campaign, in units.
 fn awarded_charges(offers: &[Offer], campaign: u32) -> u64
-    requires few { length offers.now ≤ 1024 }
-    requires small { All (λ o. o.reason ≡ AWARDED_MARK → o.charge.0 ≤ 10 ^ 12) offers.now }
+    requires few { length offers.now ≤ OFFER_LIMIT }
+    requires small { All (λ o. o.reason ≡ AWARDED_MARK → o.charge.0 ≤ PRICE_LIMIT) offers.now }
     ensures { result ≡ taken_of offers.now campaign }
 {
     let mut units = 0;

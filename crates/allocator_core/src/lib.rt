@@ -7,11 +7,13 @@
 
 mod best;
 mod impression;
+mod limits;
 mod passes;
 mod reason;
 mod taken;
 
 pub use impression::choose;
+pub use limits::{IMP_LIMIT, OFFER_LIMIT};
 pub use passes::settle;
 pub use reason::{AWARDED, LOST_TO_HIGHER, OVER_BUDGET};
 

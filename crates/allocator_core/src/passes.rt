@@ -1,6 +1,7 @@
 //! The impressions of an ask, decided one after another: one pass over the offers for each.
 ghost use Rattle.std.specs.Prelude.{◌≡◌, ◌<◌, ◌≤◌, ◌+◌, ℕ, All, IfSome, length, map};
 ghost use Rattle.adx_units.specs.declared.offer.TheConstants.{ADMITTED as ADMITTED_MARK};
+ghost use Rattle.allocator_core.specs.declared.limits.TheConstants.{IMP_LIMIT};
 ghost use Rattle.campaign_book.specs.Accounts.{account_at};
 ghost use Rattle.allocator_core.specs.Choice.{chosen_at, settled_offers, taken_by};
 ghost use Rattle.allocator_core.specs.Passes.{competing_weight, decided_offers, passed, standing_with, taken_from};
@@ -49,7 +50,7 @@ fn pass(book: &Book, taken: &Taken, imp: u32, offers: &mut [Offer]) -> Option<us
 /// Decides an impression beside what the earlier ones took, and adds what it takes.
 fn decide(book: &Book, taken: &mut Taken, imp: u32, offers: &mut [Offer])
     requires priced { All (λ o. o.reason ≡ ADMITTED_MARK → IsPriced (length book.now) o) offers.old }
-    requires room { length taken.old < 16 }
+    requires room { length taken.old < IMP_LIMIT }
     ensures offers { offers.new ≡ decided_offers (budgets_in book.now) (standing_with book.now taken.old) imp offers.old }
     ensures taken { (campaign : ℕ) → taken_from taken.new campaign ≡ taken_from taken.old campaign + taken_by offers.old (chosen_at (budgets_in book.now) (standing_with book.now taken.old) offers.old imp) campaign }
     ensures few { length taken.new ≤ length taken.old + 1 }
@@ -66,7 +67,7 @@ fn decide(book: &Book, taken: &mut Taken, imp: u32, offers: &mut [Offer])
 pub fn settle(book: &Book, offers: &mut [Offer], imps: u32)
     requires offers { AreOffers (length book.now) offers.old }
     requires unsettled { IsUnsettled imps offers.old }
-    requires few_imps { imps ≤ 16 }
+    requires few_imps { imps ≤ IMP_LIMIT }
     ensures { offers.new ≡ settled_offers (budgets_in book.now) (standing_in book.now) offers.old }
 {
     let mut taken = Taken::new();

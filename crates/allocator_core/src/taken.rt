@@ -1,7 +1,10 @@
 //! What the offers that were chosen for the earlier impressions of an ask take from their campaigns.
 ghost use Rattle.std.specs.Prelude.{◌≡◌, ◌++◌, ◌<◌, ◌≤◌, ◌^◌, [], ◌∷◌, length};
+ghost use Rattle.adx_units.specs.declared.price.TheConstants.{PRICE_LIMIT};
+ghost use Rattle.allocator_core.specs.declared.limits.TheConstants.{IMP_LIMIT};
 ghost use Rattle.allocator_core.specs.Passes.{taken_from};
 
+use crate::limits::IMP_LIMIT;
 use adx_units::Units;
 use std::marker::Model;
 
@@ -12,22 +15,24 @@ pub(crate) struct Take {
     pub(crate) charge: Units,
 }
 
-/// What the chosen offers take, one for each of at most 16 impressions. A contract sees the list.
+/// What the chosen offers take, one for each impression. A contract sees the list.
 #[derive(Drop)]
 pub(crate) struct Taken {
-    takes: [Take; 16],
+    takes: [Take; IMP_LIMIT],
     len: usize,
 }
 
 impl Model for Taken {
     ghost use Rattle.std.specs.Prelude.{List, All, ◌≡◌, ◌^◌, ◌≤◌, length, take};
+    ghost use Rattle.adx_units.specs.declared.price.TheConstants.{PRICE_LIMIT};
+    ghost use Rattle.allocator_core.specs.declared.limits.TheConstants.{IMP_LIMIT};
     ghost use Rattle.allocator_core.specs.declared.taken.Take.{Take};
 
     ghost Value = { List Take };
 
     ghost view = { λ t. take t.len t.takes };
 
-    ghost invariant = { λ t. (t.len ≤ 16) × All (λ x. x.charge.0 ≤ 10 ^ 12) (take t.len t.takes) };
+    ghost invariant = { λ t. (t.len ≤ IMP_LIMIT) × All (λ x. x.charge.0 ≤ PRICE_LIMIT) (take t.len t.takes) };
 }
 
 impl Taken {
@@ -40,7 +45,7 @@ impl Taken {
             charge: Units(0),
         };
         Taken {
-            takes: [nothing; 16],
+            takes: [nothing; IMP_LIMIT],
             len: 0,
         }
     }
@@ -60,8 +65,8 @@ impl Taken {
 
     /// Adds what the chosen offer of the next impression takes.
     pub(crate) fn push(&mut self, campaign: u32, charge: Units)
-        requires room { length self.old < 16 }
-        requires small { charge.0 ≤ 10 ^ 12 }
+        requires room { length self.old < IMP_LIMIT }
+        requires small { charge.0 ≤ PRICE_LIMIT }
         ensures { self.new ≡ self.old ++ record { campaign = campaign; charge = charge } ∷ [] }
     {
         self.takes[self.len] = Take { campaign, charge };

@@ -1,0 +1,2 @@
+/// The most campaigns of a roster.
+pub const CAMPAIGN_LIMIT: usize = 1_024;
