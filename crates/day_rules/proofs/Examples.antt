@@ -1,5 +1,6 @@
 -- The definitions at small worked examples, each by evaluation alone: the answers, the reasons in the history, and each
 -- campaign's reserved and billed money, by the history and by the plain books.
+use Rattle.std.proofs.Common.{◌≢◌, ◌<◌, arith}
 use Rattle.std.specs.Prelude.{◌≡◌, refl, ℕ, ◌+◌, List, [], ◌∷◌, map, length, Option, Some, None}
 use Rattle.std.specs.List.{range_with_len}
 use Rattle.adx_units.specs.Money.{units}
@@ -15,6 +16,7 @@ use Rattle.day_rules.specs.declared.answer.Which.{Which}
 use Rattle.day_rules.specs.declared.ask.Ask.{Ask}
 use Rattle.day_rules.specs.declared.ask.Kept.{Kept}
 use Rattle.day_rules.specs.declared.entry.Entry.{Entry}
+use Rattle.day_rules.specs.declared.limits.TheConstants.{MAX_IMPS, NO_IMP}
 use Rattle.day_rules.specs.Entries.{asked}
 use Rattle.day_rules.specs.Books.{awards_of, reserved, billed, entries_to_come, latest, text_count}
 use Rattle.day_rules.specs.Terms.{Terms}
@@ -291,3 +293,7 @@ from_a_history = refl
 four_calls_taken : length (once one billed_day later_turns) ≡ 4
 unfolding settled_offers chosen_at standing_at discount awards_of
 four_calls_taken = refl
+
+-- no impression of an ask has the number of none
+not_one_of_them : (imp : ℕ) → imp < MAX_IMPS → imp ≢ NO_IMP
+not_one_of_them imp within same = omega arith
