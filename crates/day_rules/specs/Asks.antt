@@ -45,6 +45,7 @@ pub record IsRefusedOffer (imps : ℕ) (o : Offer) : Type 0 where
   pub charge : o.charge.0 ≡ 0
   pub life : o.life ≡ 0
 
+-- a bid as admission or the day left it
 abbrev pub IsOffer : ℕ → ℕ → Offer → Type 0
 IsOffer campaigns imps o = IsAdmittedOffer campaigns imps o ⊎ IsRefusedOffer imps o
 
@@ -76,6 +77,7 @@ pub record IsWellFormed (campaigns : ℕ) (a : Ask) : Type 0 where
 abbrev pub IsUndecided : Ask → Type 0
 IsUndecided a = All (λ o. (o.reason ≢ AWARDED) × (o.reason ≢ LOST_TO_HIGHER) × (o.reason ≢ OVER_BUDGET)) a.offers
 
+-- there is no byte
 abbrev pub is_empty : List ℕ → Bool
 is_empty bytes = length bytes == 0
 
@@ -96,6 +98,7 @@ abbrev pub stays : List Offer → Kept → Option Kept
 stays offers k =
     if is_winners offers k then Some k else (if may_be_told k then Some (texts_of_loss k) else None)
 
+-- the kept texts that stay beside these offers, in order
 abbrev pub settled_kept : List Offer → List Kept → List Kept
 settled_kept offers kept = filter_map (stays offers) kept
 

@@ -27,6 +27,7 @@ pub record Sale : Type 0 where
 abbrev pub awarded_offers : List Offer → ℕ → List Offer
 awarded_offers offers imp = filter (λ o. o.reason == AWARDED && o.imp == imp) offers
 
+-- what an awarded offer of an ask sold
 abbrev pub sale_of : Ask → Offer → Sale
 sale_of a o = record { campaign = o.campaign; charge = o.charge.0; deadline = a.now + o.life }
 
@@ -94,6 +95,7 @@ reserved_in awards campaign = sum_by (charge_where is_open campaign) awards
 abbrev pub billed_in : List Award → ℕ → ℕ
 billed_in awards campaign = sum_by (charge_where is_billed campaign) awards
 
+-- the reserved, the billed and the committed money of a campaign after a history
 abbrev pub reserved : List Entry → ℕ → ℕ
 reserved history campaign = reserved_in (awards_of history) campaign
 
@@ -120,18 +122,20 @@ numbers_where test awards =
 abbrev pub entries_to_come : List Award → ℕ
 entries_to_come awards = count_by may_end awards + count_by may_win awards
 
--- the greatest moment of a history: of its asks and its expiries
+-- the moment that an entry brings: of an ask or an expiry, and 0 else
 abbrev pub moment_of : Entry → ℕ
 moment_of e = max (option_map_or (λ a. a.now) (asked e) 0) (unwrap_or (expired e) 0)
 
+-- the greatest moment of a history
 abbrev pub latest : List Entry → ℕ
 latest [] = 0
 latest (e ∷ es) = max (moment_of e) (latest es)
 
--- the asks of a history, each with its place
+-- the ask at a place, with the place
 abbrev pub placed_ask : ℕ × Entry → Option (ℕ × Ask)
 placed_ask p = option_map (λ a. (p.0, a)) (asked p.1)
 
+-- the asks of a history, each with its place
 abbrev pub asks_of : List Entry → List (ℕ × Ask)
 asks_of history = filter_map placed_ask (enumerate_from 0 history)
 

@@ -13,6 +13,7 @@ pub record Room : Type 0 where
   pub awards : ℕ
   pub prepared : Option (List ℕ)
 
+-- a day: what it was opened with, what happened, and what there is memory for
 pub record DayState : Type 0 where
   pub terms : Terms
   pub history : List Entry

@@ -10,6 +10,7 @@ pub record Notice : Type 0 where
   pub kind : NoticeKind
   pub award : ℕ
 
+-- a notice of that kind and award
 abbrev pub notice_of : NoticeKind → ℕ → Notice
 notice_of kind award = record { kind = kind; award = award }
 
@@ -43,15 +44,18 @@ entry_of_notice NoticeKind.Win n = Entry.Win n
 entry_of_notice NoticeKind.Bill n = Entry.Bill n
 entry_of_notice NoticeKind.Loss n = Entry.Loss n
 
+-- the kinds are the same
 abbrev pub same_kind : NoticeKind → NoticeKind → Bool
 same_kind NoticeKind.Win NoticeKind.Win = true
 same_kind NoticeKind.Bill NoticeKind.Bill = true
 same_kind NoticeKind.Loss NoticeKind.Loss = true
 same_kind kind other = false
 
+-- the notices are of one kind and one award
 abbrev pub is_same_notice : Notice → Notice → Bool
 is_same_notice x y = same_kind x.kind y.kind && x.award == y.award
 
+-- there is a notice, and it is that one
 abbrev pub is_that_notice : Notice → Option Notice → Bool
 is_that_notice x None = false
 is_that_notice x (Some y) = is_same_notice x y

@@ -67,6 +67,7 @@ pub record AreOfCallsTakenOnce (terms : Terms) (history : List Entry) (turns : L
   pub billed : (campaign : ℕ) → billed (run terms history turns) campaign
       ≡ plain_billed (books_once terms history turns) campaign
 
+-- so are the books after each run from a legal history
 abbrev pub BooksAreOfCallsTakenOnce : Type 0
 BooksAreOfCallsTakenOnce =
     (terms : Terms) (history : List Entry) (turns : List Turn) → IsLegal terms history
@@ -89,12 +90,15 @@ pub record Arrival : Type 0 where
   pub auction : List ℕ
   pub award : ℕ
 
+-- the reply to an arrival
 abbrev pub arrival_reply : List Entry → Arrival → Reply
 arrival_reply history x = notice_reply history x.kind x.auction x.award
 
+-- the history after an arrival
 abbrev pub after_arrival : List Entry → Arrival → List Entry
 after_arrival history x = with_entry history (arrival_reply history x).entry
 
+-- the history after arrivals, one behind the other
 abbrev pub after_arrivals : List Entry → List Arrival → List Entry
 after_arrivals history [] = history
 after_arrivals history (x ∷ xs) = after_arrivals (after_arrival history x) xs
@@ -105,10 +109,12 @@ pub record Commute (history : List Entry) (x y : Arrival) : Type 0 where
   pub second : (arrival_reply (after_arrival history x) y).answer ≡ (arrival_reply history y).answer
   pub awards : awards_of (after_arrivals history (x ∷ y ∷ [])) ≡ awards_of (after_arrivals history (y ∷ x ∷ []))
 
+-- two notices of different awards commute in each legal history
 abbrev pub NoticesCommute : Type 0
 NoticesCommute =
     (terms : Terms) (history : List Entry) (x y : Arrival) → IsLegal terms history → x.award ≢ y.award → Commute history x y
 
+-- a notice of that kind and award is among the arrivals
 abbrev pub has_arrival : NoticeKind → ℕ → List Arrival → Type 0
 has_arrival kind n xs = IsTrue (list_any (λ x. is_same_notice (notice_of kind n) (notice_of x.kind x.award)) xs)
 
@@ -124,6 +130,7 @@ pub record AreSameBooks (one other : List Entry) : Type 0 where
   pub reserved : (campaign : ℕ) → reserved one campaign ≡ reserved other campaign
   pub billed : (campaign : ℕ) → billed one campaign ≡ billed other campaign
 
+-- every order of arrivals that agree on ends gives the same ends and the same money
 abbrev pub OrderIsFree : Type 0
 OrderIsFree =
     (terms : Terms) (history : List Entry) (xs ys : List Arrival) → IsLegal terms history → IsPermutation xs ys

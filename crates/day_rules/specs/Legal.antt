@@ -29,6 +29,7 @@ pub record ExpireMayFollow (history : List Entry) (now : ℕ) : Type 0 where
   pub latest : latest history ≤ now
   pub ends : 1 ≤ due_count now (awards_of history)
 
+-- an entry that may follow a history
 abbrev pub MayFollow : Terms → List Entry → Entry → Type 0
 MayFollow terms history (Entry.Ask a) = AskMayFollow terms history a
 MayFollow terms history (Entry.Win n) = NoticeMayFollow history NoticeKind.Win n

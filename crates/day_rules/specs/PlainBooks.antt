@@ -17,12 +17,15 @@ pub record PlainBooks : Type 0 where
   pub billed_numbers : List ℕ
   pub moment : ℕ
 
+-- books without sales
 abbrev pub no_books : List Units → PlainBooks
 no_books budgets = record { budgets = budgets; sales = []; open_numbers = []; billed_numbers = []; moment = 0 }
 
+-- a sale of nothing, for a number that is not there
 abbrev pub no_sale : Sale
 no_sale = record { campaign = 0; charge = 0; deadline = 0 }
 
+-- the sale of a number
 abbrev pub sale_at : List Sale → ℕ → Sale
 sale_at sales n = slice_index_or sales n no_sale
 
@@ -31,9 +34,11 @@ abbrev pub charged : List Sale → ℕ → List ℕ → ℕ
 charged sales campaign numbers =
     sum_by (λ n. if (sale_at sales n).campaign == campaign then (sale_at sales n).charge else 0) numbers
 
+-- what the open sales take from a campaign
 abbrev pub plain_reserved : PlainBooks → ℕ → ℕ
 plain_reserved books campaign = charged books.sales campaign books.open_numbers
 
+-- what the billed sales take from a campaign
 abbrev pub plain_billed : PlainBooks → ℕ → ℕ
 plain_billed books campaign = charged books.sales campaign books.billed_numbers
 
@@ -52,6 +57,7 @@ with_ask books a = record books {
   moment = a.now;
 }
 
+-- the numbers without that one
 abbrev pub without : ℕ → List ℕ → List ℕ
 without n numbers = filter (λ m. not (m == n)) numbers
 
@@ -75,6 +81,7 @@ with_moment books moment = record books {
   moment = if list_any (is_late books moment) books.open_numbers then moment else books.moment;
 }
 
+-- the books after a call
 abbrev pub with_call : PlainBooks → Call → PlainBooks
 with_call books (ask a) = with_ask books (plainly_settled books a)
 with_call books (notice kind auction n) = with_notice books kind n

@@ -27,13 +27,16 @@ pub data Call : Type 0 where
   notice : NoticeKind → List ℕ → ℕ → Call
   tick : ℕ → Call
 
+-- an answer, and the entry that it adds, if it adds one
 pub record Reply : Type 0 where
   pub answer : Answer
   pub entry : Option Entry
 
+-- a reply without an entry
 abbrev pub answered : Answer → Reply
 answered a = record { answer = a; entry = None }
 
+-- a reply with an entry
 abbrev pub added : Answer → Entry → Reply
 added a e = record { answer = a; entry = Some e }
 
@@ -46,6 +49,7 @@ abbrev pub seen_as : List ℕ → Option (ℕ × Ask) → Seen
 seen_as digest None = Seen.New
 seen_as digest (Some (place, a)) = if bytes_eq a.digest digest then Seen.Same place else Seen.Other a.digest
 
+-- whether a request stands in the history, by its auction and its digest
 abbrev pub seen_in : List Entry → List ℕ → List ℕ → Seen
 seen_in history auction digest = seen_as digest (ask_of auction history)
 
@@ -58,6 +62,7 @@ abbrev pub sale_reply : List Entry → Ask → Reply
 sale_reply history a =
     added (if is_awarded a then Answer.Awarded (length history) else Answer.NoSale (length history)) (Entry.Ask a)
 
+-- the ask would pass a limit of the day, and come to that count
 abbrev pub full : Which → ℕ → Reply
 full which count = answered (Answer.DayFull which count)
 
@@ -79,11 +84,13 @@ settled_reply limits history a =
     else (if nat_lt limits.text (text_with history a) then full Which.Text (text_with history a)
     else sale_reply history a))
 
+-- a new ask is settled, one that stands there is a repeat, and an id with another digest is reused
 abbrev pub ask_reply_by : Seen → Terms → List Entry → Ask → Reply
 ask_reply_by Seen.New terms history a = settled_reply terms.limits history (settled terms history a)
 ask_reply_by (Seen.Same place) terms history a = answered (Answer.Repeat place)
 ask_reply_by (Seen.Other kept) terms history a = answered (Answer.Reused kept a.digest)
 
+-- the reply to an ask
 abbrev pub ask_reply : Terms → List Entry → Ask → Reply
 ask_reply terms history a = ask_reply_by (seen_in history a.auction a.digest) terms history a
 
@@ -101,11 +108,13 @@ ruled_reply history kind n Ruling.Counted = added Answer.Counted (entry_of_notic
 ruled_reply history kind n Ruling.Repeat = answered (Answer.Repeat (notice_place history (notice_of kind n)))
 ruled_reply history kind n (Ruling.Conflict end) = answered (Answer.Conflict end)
 
+-- the reply to a notice of the award with a number, if there is one of that auction
 abbrev pub known_reply : List Entry → NoticeKind → List ℕ → ℕ → Option Award → Reply
 known_reply history kind auction n None = answered Answer.Unknown
 known_reply history kind auction n (Some w) =
     if is_of_auction history auction w then ruled_reply history kind n (ruling_of kind w) else answered Answer.Unknown
 
+-- the reply to a notice
 abbrev pub notice_reply : List Entry → NoticeKind → List ℕ → ℕ → Reply
 notice_reply history kind auction n = known_reply history kind auction n (slice_get (awards_of history) n)
 
@@ -119,6 +128,7 @@ abbrev pub tick_reply : List Entry → ℕ → Reply
 tick_reply history now =
     let moment = max now (latest history) in ticked moment (due_count moment (awards_of history))
 
+-- the reply to a call
 abbrev pub reply : Terms → List Entry → Call → Reply
 reply terms history (ask a) = ask_reply terms history a
 reply terms history (notice kind auction n) = notice_reply history kind auction n

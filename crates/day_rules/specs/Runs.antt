@@ -20,6 +20,7 @@ pub record Turn : Type 0 where
   pub call : Call
   pub outcome : Outcome
 
+-- the call was taken
 abbrev pub is_done : Outcome → Bool
 is_done done = true
 is_done faulted = false
@@ -30,6 +31,7 @@ IsCall campaigns (ask a) = IsWellFormed campaigns a × IsUndecided a
 IsCall campaigns (notice kind auction n) = Unit {0}
 IsCall campaigns (tick now) = now < 2 ^ 63
 
+-- turns whose calls a day with so many campaigns takes
 abbrev pub AreTurns : ℕ → List Turn → Type 0
 AreTurns campaigns turns = All (λ t. IsCall campaigns t.call) turns
 
@@ -37,6 +39,7 @@ AreTurns campaigns turns = All (λ t. IsCall campaigns t.call) turns
 abbrev pub entry_of_turn : Terms → List Entry → Turn → Option Entry
 entry_of_turn terms history turn = if is_done turn.outcome then (reply terms history turn.call).entry else None
 
+-- the history after a turn
 abbrev pub after_turn : Terms → List Entry → Turn → List Entry
 after_turn terms history turn = with_entry history (entry_of_turn terms history turn)
 
@@ -57,10 +60,12 @@ is_taken Answer.Unknown = false
 is_taken (Answer.Reused kept given) = false
 is_taken (Answer.DayFull which count) = false
 
+-- an answer of a call that came before
 abbrev pub is_repeat : Answer → Bool
 is_repeat (Answer.Repeat entry) = true
 is_repeat answer = false
 
+-- the turn is done, and its answer is one of a call that is taken
 abbrev pub is_effective : Terms → List Entry → Turn → Bool
 is_effective terms history turn = is_done turn.outcome && is_taken (reply terms history turn.call).answer
 

@@ -20,6 +20,6 @@ pub use laws::{
     runs_stay_legal, within_budget,
 };
 pub use limits::{
-    DayLimits, KEPT_OVERHEAD, MAX_AUCTIONS, MAX_BIDS, MAX_IMPS, MAX_KEPT, MAX_LIFE, MAX_OFFERS,
-    MAX_TEXT, NO_IMP,
+    DayLimits, KEPT_OVERHEAD, MAX_AUCTIONS, MAX_BIDS, MAX_CAMPAIGNS, MAX_IMPS, MAX_KEPT, MAX_LIFE,
+    MAX_OFFERS, MAX_TEXT, NO_IMP,
 };
