@@ -1,5 +1,6 @@
 -- One walk over an object's members finds the first value under each name.
-use Rattle.std.proofs.Common.{◌≡◌, ℕ, ◌+◌, ◌<◌, List, drop, get_or, length, Bool, true, false, cond, Option, Some, None, bytes_eq, refl, sym, ap, ◌∙◌, drop-cons, add-one, suc}
+use Rattle.std.proofs.Common.{◌≡◌, ℕ, ◌+◌, ◌<◌, List, drop, get_or, length, Bool, true, false, cond, Option, Some, None, bytes_eq, refl, sym, ap, ◌∙◌, drop-cons, add-one, suc, ◌≤◌}
+use Rattle.std.proofs.lemmas.List.{at_drop_all}
 use Rattle.adx_json.specs.Tree.{Tree, null, boolean, number, text, list, object, Members, no_members, member, members_of}
 use Rattle.adx_json.specs.Named.{value_of, member_in}
 use Rattle.adx_json.specs.View.{member_of, members_view}
@@ -37,3 +38,10 @@ members_found name (number n) = refl
 members_found name (text t) = refl
 members_found name (list ts) = refl
 members_found name (object ms) = refl
+
+-- behind the last member, what was found is the value of the tree's member
+pub all_met : (name : List ℕ) (t : Tree) (items : List Member) (i : ℕ) (found : Option Tree) → length items ≤ i → members_of (members_view items) ≡ members_by t → found_or name found (members_of (members_view (drop i items))) ≡ value_of name (members_of (members_view items)) → found ≡ member_in name t
+all_met name t items i found end is h =
+    sym (met_all name found)
+    ∙ sym (at_drop_all (λ left. found_or name found (members_of (members_view left))) items i end)
+    ∙ h ∙ ap (value_of name) is ∙ members_found name t

@@ -3,6 +3,7 @@
 use Rattle.std.specs.Prelude.{ℕ, List, [], ◌∷◌, ◌&&◌, Bool, true, false, Option, Some, None, is_some}
 use Rattle.std.specs.List.{list_all, filter_map}
 use Rattle.std.specs.Str.{bytes_eq}
+use Rattle.adx_units.specs.Number.{whole_up_to}
 use Rattle.adx_json.specs.Tree.{Tree, null, boolean, number, text, list, object, Items, no_items, item}
 use Rattle.adx_json.specs.Named.{member_in}
 
@@ -120,3 +121,15 @@ texts_among ts = filter_map (λ t. text_in (Some t)) ts
 -- the texts in the list that a value is; none where it is no list
 abbrev pub texts_in : Option Tree → List (List ℕ)
 texts_in v = texts_among (items_in v)
+
+abbrev pub or_zero : Option ℕ → ℕ
+or_zero None = 0
+or_zero (Some n) = n
+
+abbrev pub whole_by : ℕ → Option (List ℕ) → Option ℕ
+whole_by most None = None
+whole_by most (Some n) = whole_up_to most n
+
+-- the whole number of at most a bound that a value is; all else counts as absent, which is 0
+abbrev pub whole_or_zero : ℕ → Option Tree → ℕ
+whole_or_zero most v = or_zero (whole_by most (number_in v))

@@ -13,5 +13,5 @@ pub use member::{given, members_in, met};
 pub use texts::{are_texts_if_given, texts_in};
 pub use value::{
     is_absent_or, is_list_if_given, is_number_text, is_object_if_given, is_text_if_given, items_in,
-    number_in, text_in,
+    number_in, text_in, whole_or_zero,
 };

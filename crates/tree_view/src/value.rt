@@ -1,10 +1,10 @@
 //! What a value is that may be absent.
-ghost use Rattle.std.specs.Prelude.{◌≡◌, option_map};
+ghost use Rattle.std.specs.Prelude.{◌≡◌, ◌≤◌, option_map};
 ghost use Rattle.adx_json.specs.View.{tree_of, trees_of};
-ghost use Rattle.tree_view.specs.Values.{text_in as text_by, number_in as number_by, items_in as items_by, is_text_if_given as is_text_by, is_list_if_given as is_list_by, is_object_if_given as is_object_by, is_absent_or as is_absent_or_by, is_number_text as is_number_by};
+ghost use Rattle.tree_view.specs.Values.{text_in as text_by, number_in as number_by, items_in as items_by, is_text_if_given as is_text_by, is_list_if_given as is_list_by, is_object_if_given as is_object_by, is_absent_or as is_absent_or_by, is_number_text as is_number_by, whole_or_zero as whole_or_zero_by};
 
 use adx_json::Json;
-use adx_units::Text;
+use adx_units::{Text, whole_up_to};
 
 /// The text that a value is. None where it is absent or no text.
 pub fn text_in(value: Option<&Json>) -> Option<&Text>
@@ -79,4 +79,15 @@ pub fn is_number_text(value: Option<&Json>, want: &str) -> bool
         Some(number) => number.as_str() == want,
         None => false,
     }
+}
+
+/// The whole number of at most `most` that a value is; 0 where it is absent or anything else.
+pub fn whole_or_zero(value: Option<&Json>, most: u64) -> u64
+    ensures value { result ≡ whole_or_zero_by most (option_map (λ t. tree_of t.now) value.entry) }
+    ensures small { result ≤ most }
+{
+    let Some(number) = number_in(value) else {
+        return 0;
+    };
+    whole_up_to(number.as_bytes(), most).unwrap_or(0)
 }
