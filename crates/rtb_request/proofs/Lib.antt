@@ -1,0 +1,6 @@
+pub mod Ids
+pub mod Distinct
+pub mod DealSteps
+pub mod ImpSteps
+pub mod RequestSteps
+pub mod Copies

@@ -1,0 +1,12 @@
+-- No two of some names are the same.
+use Rattle.std.specs.Prelude.{ℕ, List, [], ◌∷◌, Bool, true, ◌&&◌, not}
+use Rattle.std.specs.List.{list_any}
+use Rattle.std.specs.Str.{bytes_eq}
+
+-- one of the names is this one
+abbrev pub is_among : List (List ℕ) → List ℕ → Bool
+is_among names name = list_any (λ n. bytes_eq n name) names
+
+abbrev pub all_distinct : List (List ℕ) → Bool
+all_distinct [] = true
+all_distinct (n ∷ ns) = not (list_any (bytes_eq n) ns) && all_distinct ns

@@ -1,0 +1,9 @@
+pub mod Faults
+pub mod Distinct
+pub mod Amounts
+pub mod Deals
+pub mod Imps
+pub mod Requests
+pub mod Seen
+pub mod ForBidders
+pub mod Copies

@@ -1,0 +1,26 @@
+//! Requests for bids (OpenRTB 2.6) as an exchange sees them.
+//!
+//! A request's tree has a view, which is what its members say, or a first fault; `BidRequest::of` gives
+//! just that. Ranges, lengths and distinct ids are facts of the types. `for_bidders` is what bidders are asked.
+//! Stands on adx_units, adx_json, tree_view and sha2.
+#![tactic(auto)]
+
+mod amount;
+mod asked;
+mod bid_request;
+mod deal;
+mod deal_reader;
+mod fault;
+
+mod imp;
+mod imp_reader;
+mod members;
+mod request_reader;
+#[cfg(test)]
+mod tests;
+
+pub use bid_request::{BidRequest, MOST_IMPS};
+pub use deal::Deal;
+pub use fault::{Field, RequestFault};
+pub use asked::for_bidders;
+pub use imp::{Imp, MOST_SECONDS};

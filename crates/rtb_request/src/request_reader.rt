@@ -1,0 +1,100 @@
+//! The view of a request's tree, or its first fault.
+ghost use Rattle.std.specs.Prelude.{◌≡◌, IfOk};
+ghost use Rattle.std.specs.List.{list_any};
+ghost use Rattle.adx_json.specs.Spelling.{spelling};
+ghost use Rattle.adx_json.specs.View.{tree_of, trees_of};
+ghost use Rattle.sha2.specs.Sha256.{sha256};
+ghost use Rattle.tree_view.specs.Checks.{Gives};
+ghost use Rattle.rtb_request.specs.Faults.{lacks_memory};
+ghost use Rattle.rtb_request.specs.Requests.{request_in, leaves_dollars as leaves_dollars_by, is_dollars};
+ghost use Rattle.rtb_request.specs.Seen.{seen_request};
+
+use crate::amount::id_in;
+use crate::bid_request::{BidRequest, MOST_IMPS};
+use crate::fault::{Field, RequestFault, bad_field};
+use crate::imp_reader::imps_of;
+use crate::members::request_members;
+use adx_json::{Json, write};
+use adx_units::{OutOfMemory, Sequence};
+use sha2::{Digest, Sha256};
+use std::alloc::Global;
+use tree_view::{are_texts_if_given, items_in, text_in, texts_in};
+
+impl BidRequest {
+    /// The view of a request, or its first fault: what an exchange reads of the tree (OpenRTB 2.6, section 3.2).
+    /// A member that is null counts as absent; members that no test names are passed over.
+    pub fn of(alloc: Global, tree: &Json) -> Result<BidRequest, RequestFault>
+        ensures { Gives lacks_memory seen_request result (request_in (tree_of tree.now)) }
+    {
+        let found = request_members(tree);
+        let Some(id) = id_in(alloc, found.id)? else {
+            return Err(RequestFault::NoId);
+        };
+        let trees = items_in(found.imp);
+        if trees.is_empty() {
+            return Err(RequestFault::NoImp);
+        }
+        if trees.len() > MOST_IMPS {
+            return Err(RequestFault::TooManyImps);
+        }
+        if !are_texts_if_given(found.cur) {
+            return Err(bad_field(Field::Cur));
+        }
+        if !are_texts_if_given(found.wseat) {
+            return Err(bad_field(Field::Wseat));
+        }
+        if !are_texts_if_given(found.bseat) {
+            return Err(bad_field(Field::Bseat));
+        }
+        if !are_texts_if_given(found.bcat) {
+            return Err(bad_field(Field::Bcat));
+        }
+        if !are_texts_if_given(found.badv) {
+            return Err(bad_field(Field::Badv));
+        }
+        let imps = match imps_of(alloc, leaves_dollars(items_in(found.cur)), trees) {
+            Ok(imps) => Sequence::from(imps),
+            Err(fault) => return Err(fault),
+        };
+        Ok(BidRequest {
+            id,
+            imps,
+            wseat: texts_in(alloc, found.wseat)?,
+            bseat: texts_in(alloc, found.bseat)?,
+            bcat: texts_in(alloc, found.bcat)?,
+            badv: texts_in(alloc, found.badv)?,
+            digest: digest_of(alloc, tree)?,
+        })
+    }
+}
+
+/// Whether currencies leave USD: none is named, or USD is among them.
+#[tactic(auto, using(crate::proofs::RequestSteps::leaves_are))]
+fn leaves_dollars(currencies: &[Json]) -> bool
+    ensures { result ≡ leaves_dollars_by (trees_of currencies.now) }
+{
+    currencies.is_empty() || any_dollars(currencies)
+}
+
+fn any_dollars(currencies: &[Json]) -> bool
+    ensures { result ≡ list_any (λ t. is_dollars (tree_of t)) currencies.now }
+{
+    currencies.iter().any(|currency| is_usd(currency))
+}
+
+fn is_usd(currency: &Json) -> bool
+    ensures { result ≡ is_dollars (tree_of currency.now) }
+{
+    match text_in(Some(currency)) {
+        Some(text) => text.as_str() == "USD",
+        None => false,
+    }
+}
+
+/// SHA-256 of the compact spelling of a tree.
+fn digest_of(alloc: Global, tree: &Json) -> Result<[u8; 32], OutOfMemory>
+    ensures { IfOk result (λ d. d ≡ sha256 (spelling (tree_of tree.now))) }
+{
+    let text = write(alloc, tree)?;
+    Ok(Sha256::digest(text.as_bytes()))
+}
