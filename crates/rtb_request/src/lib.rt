@@ -11,7 +11,6 @@ mod bid_request;
 mod deal;
 mod deal_reader;
 mod fault;
-
 mod imp;
 mod imp_reader;
 mod members;
@@ -19,8 +18,8 @@ mod request_reader;
 #[cfg(test)]
 mod tests;
 
+pub use asked::for_bidders;
 pub use bid_request::{BidRequest, MOST_IMPS};
 pub use deal::Deal;
 pub use fault::{Field, RequestFault};
-pub use asked::for_bidders;
 pub use imp::{Imp, MOST_SECONDS};

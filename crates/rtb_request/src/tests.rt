@@ -47,27 +47,78 @@ const FAULTS: [(&str, &str); 86] = [
     ("{\"id\":\"a\",\"imp\":{}}", "noimp"),
     ("{\"id\":\"a\",\"imp\":null}", "noimp"),
     ("{\"id\":\"a\",\"imp\":\"1\"}", "noimp"),
-    ("{\"id\":\"a\",\"imp\":[0,0,0,0,0,0,0,0,0,0,0,0,0,0,0,0,0]}", "manyimps"),
-    ("{\"id\":\"a\",\"imp\":[0,0,0,0,0,0,0,0,0,0,0,0,0,0,0,0]}", "imp.id"),
+    (
+        "{\"id\":\"a\",\"imp\":[0,0,0,0,0,0,0,0,0,0,0,0,0,0,0,0,0]}",
+        "manyimps",
+    ),
+    (
+        "{\"id\":\"a\",\"imp\":[0,0,0,0,0,0,0,0,0,0,0,0,0,0,0,0]}",
+        "imp.id",
+    ),
     (
         "{\"id\":\"a\",\"imp\":[{\"id\":\"0\"},{\"id\":\"1\"},{\"id\":\"2\"},{\"id\":\"3\"},{\"id\":\"4\"},{\"id\":\"5\"},{\"id\":\"6\"},{\"id\":\"7\"},{\"id\":\"8\"},{\"id\":\"9\"},{\"id\":\"10\"},{\"id\":\"11\"},{\"id\":\"12\"},{\"id\":\"13\"},{\"id\":\"14\"},{\"id\":\"15\"}]}",
         "view",
     ),
-    ("{\"id\":\"a\",\"imp\":[{\"id\":\"1\"}],\"cur\":\"x\"}", "cur"),
-    ("{\"id\":\"a\",\"imp\":[{\"id\":\"1\"}],\"cur\":[\"x\",null]}", "cur"),
-    ("{\"id\":\"a\",\"imp\":[{\"id\":\"1\"}],\"cur\":null}", "view"),
-    ("{\"id\":\"a\",\"imp\":[{\"id\":\"1\"}],\"wseat\":\"x\"}", "wseat"),
-    ("{\"id\":\"a\",\"imp\":[{\"id\":\"1\"}],\"wseat\":[\"x\",null]}", "wseat"),
-    ("{\"id\":\"a\",\"imp\":[{\"id\":\"1\"}],\"wseat\":null}", "view"),
-    ("{\"id\":\"a\",\"imp\":[{\"id\":\"1\"}],\"bseat\":\"x\"}", "bseat"),
-    ("{\"id\":\"a\",\"imp\":[{\"id\":\"1\"}],\"bseat\":[\"x\",null]}", "bseat"),
-    ("{\"id\":\"a\",\"imp\":[{\"id\":\"1\"}],\"bseat\":null}", "view"),
-    ("{\"id\":\"a\",\"imp\":[{\"id\":\"1\"}],\"bcat\":\"x\"}", "bcat"),
-    ("{\"id\":\"a\",\"imp\":[{\"id\":\"1\"}],\"bcat\":[\"x\",null]}", "bcat"),
-    ("{\"id\":\"a\",\"imp\":[{\"id\":\"1\"}],\"bcat\":null}", "view"),
-    ("{\"id\":\"a\",\"imp\":[{\"id\":\"1\"}],\"badv\":\"x\"}", "badv"),
-    ("{\"id\":\"a\",\"imp\":[{\"id\":\"1\"}],\"badv\":[\"x\",null]}", "badv"),
-    ("{\"id\":\"a\",\"imp\":[{\"id\":\"1\"}],\"badv\":null}", "view"),
+    (
+        "{\"id\":\"a\",\"imp\":[{\"id\":\"1\"}],\"cur\":\"x\"}",
+        "cur",
+    ),
+    (
+        "{\"id\":\"a\",\"imp\":[{\"id\":\"1\"}],\"cur\":[\"x\",null]}",
+        "cur",
+    ),
+    (
+        "{\"id\":\"a\",\"imp\":[{\"id\":\"1\"}],\"cur\":null}",
+        "view",
+    ),
+    (
+        "{\"id\":\"a\",\"imp\":[{\"id\":\"1\"}],\"wseat\":\"x\"}",
+        "wseat",
+    ),
+    (
+        "{\"id\":\"a\",\"imp\":[{\"id\":\"1\"}],\"wseat\":[\"x\",null]}",
+        "wseat",
+    ),
+    (
+        "{\"id\":\"a\",\"imp\":[{\"id\":\"1\"}],\"wseat\":null}",
+        "view",
+    ),
+    (
+        "{\"id\":\"a\",\"imp\":[{\"id\":\"1\"}],\"bseat\":\"x\"}",
+        "bseat",
+    ),
+    (
+        "{\"id\":\"a\",\"imp\":[{\"id\":\"1\"}],\"bseat\":[\"x\",null]}",
+        "bseat",
+    ),
+    (
+        "{\"id\":\"a\",\"imp\":[{\"id\":\"1\"}],\"bseat\":null}",
+        "view",
+    ),
+    (
+        "{\"id\":\"a\",\"imp\":[{\"id\":\"1\"}],\"bcat\":\"x\"}",
+        "bcat",
+    ),
+    (
+        "{\"id\":\"a\",\"imp\":[{\"id\":\"1\"}],\"bcat\":[\"x\",null]}",
+        "bcat",
+    ),
+    (
+        "{\"id\":\"a\",\"imp\":[{\"id\":\"1\"}],\"bcat\":null}",
+        "view",
+    ),
+    (
+        "{\"id\":\"a\",\"imp\":[{\"id\":\"1\"}],\"badv\":\"x\"}",
+        "badv",
+    ),
+    (
+        "{\"id\":\"a\",\"imp\":[{\"id\":\"1\"}],\"badv\":[\"x\",null]}",
+        "badv",
+    ),
+    (
+        "{\"id\":\"a\",\"imp\":[{\"id\":\"1\"}],\"badv\":null}",
+        "view",
+    ),
     (
         "{\"id\":\"a\",\"imp\":[{\"id\":\"1\"}],\"cur\":[],\"wseat\":[],\"bseat\":[\"s\"],\"bcat\":[\"IAB1\",\"IAB2-3\"],\"badv\":[\"a.example\"]}",
         "view",
@@ -77,27 +128,90 @@ const FAULTS: [(&str, &str); 86] = [
     ("{\"id\":\"a\",\"imp\":[{\"id\":7}]}", "imp.id"),
     ("{\"id\":\"a\",\"imp\":[{\"id\":\"\"}]}", "imp.id"),
     ("{\"id\":\"a\",\"imp\":[{\"id\":null}]}", "imp.id"),
-    ("{\"id\":\"a\",\"imp\":[{\"id\":\"u\"},{\"id\":\"v\"},{\"id\":\"u\"}]}", "u"),
-    ("{\"id\":\"a\",\"imp\":[{\"id\":\"1\",\"bidfloor\":-1}]}", "imp.bidfloor"),
-    ("{\"id\":\"a\",\"imp\":[{\"id\":\"1\",\"bidfloor\":\"1\"}]}", "imp.bidfloor"),
-    ("{\"id\":\"a\",\"imp\":[{\"id\":\"1\",\"bidfloor\":1000000.0000001}]}", "imp.bidfloor"),
-    ("{\"id\":\"a\",\"imp\":[{\"id\":\"1\",\"bidfloor\":null}]}", "view"),
-    ("{\"id\":\"a\",\"imp\":[{\"id\":\"1\",\"bidfloor\":0}]}", "view"),
-    ("{\"id\":\"a\",\"imp\":[{\"id\":\"1\",\"bidfloorcur\":840}]}", "imp.bidfloorcur"),
-    ("{\"id\":\"a\",\"imp\":[{\"id\":\"1\",\"bidfloorcur\":\"EUR\"}]}", "view"),
-    ("{\"id\":\"a\",\"imp\":[{\"id\":\"1\",\"pmp\":[]}]}", "imp.pmp"),
-    ("{\"id\":\"a\",\"imp\":[{\"id\":\"1\",\"pmp\":null}]}", "view"),
-    ("{\"id\":\"a\",\"imp\":[{\"id\":\"1\",\"pmp\":{\"private_auction\":2}}]}", "pmp.private_auction"),
-    ("{\"id\":\"a\",\"imp\":[{\"id\":\"1\",\"pmp\":{\"private_auction\":\"1\"}}]}", "pmp.private_auction"),
-    ("{\"id\":\"a\",\"imp\":[{\"id\":\"1\",\"pmp\":{\"private_auction\":1.0}}]}", "pmp.private_auction"),
-    ("{\"id\":\"a\",\"imp\":[{\"id\":\"1\",\"pmp\":{\"private_auction\":true}}]}", "pmp.private_auction"),
-    ("{\"id\":\"a\",\"imp\":[{\"id\":\"1\",\"pmp\":{\"private_auction\":0}}]}", "view"),
-    ("{\"id\":\"a\",\"imp\":[{\"id\":\"1\",\"pmp\":{\"deals\":{}}}]}", "pmp.deals"),
-    ("{\"id\":\"a\",\"imp\":[{\"id\":\"1\",\"pmp\":{\"deals\":null}}]}", "view"),
-    ("{\"id\":\"a\",\"imp\":[{\"id\":\"1\",\"pmp\":{\"deals\":[5]}}]}", "deal.id"),
-    ("{\"id\":\"a\",\"imp\":[{\"id\":\"1\",\"pmp\":{\"deals\":[{}]}}]}", "deal.id"),
-    ("{\"id\":\"a\",\"imp\":[{\"id\":\"1\",\"pmp\":{\"deals\":[{\"id\":5}]}}]}", "deal.id"),
-    ("{\"id\":\"a\",\"imp\":[{\"id\":\"1\",\"pmp\":{\"deals\":[{\"id\":\"\"}]}}]}", "view"),
+    (
+        "{\"id\":\"a\",\"imp\":[{\"id\":\"u\"},{\"id\":\"v\"},{\"id\":\"u\"}]}",
+        "u",
+    ),
+    (
+        "{\"id\":\"a\",\"imp\":[{\"id\":\"1\",\"bidfloor\":-1}]}",
+        "imp.bidfloor",
+    ),
+    (
+        "{\"id\":\"a\",\"imp\":[{\"id\":\"1\",\"bidfloor\":\"1\"}]}",
+        "imp.bidfloor",
+    ),
+    (
+        "{\"id\":\"a\",\"imp\":[{\"id\":\"1\",\"bidfloor\":1000000.0000001}]}",
+        "imp.bidfloor",
+    ),
+    (
+        "{\"id\":\"a\",\"imp\":[{\"id\":\"1\",\"bidfloor\":null}]}",
+        "view",
+    ),
+    (
+        "{\"id\":\"a\",\"imp\":[{\"id\":\"1\",\"bidfloor\":0}]}",
+        "view",
+    ),
+    (
+        "{\"id\":\"a\",\"imp\":[{\"id\":\"1\",\"bidfloorcur\":840}]}",
+        "imp.bidfloorcur",
+    ),
+    (
+        "{\"id\":\"a\",\"imp\":[{\"id\":\"1\",\"bidfloorcur\":\"EUR\"}]}",
+        "view",
+    ),
+    (
+        "{\"id\":\"a\",\"imp\":[{\"id\":\"1\",\"pmp\":[]}]}",
+        "imp.pmp",
+    ),
+    (
+        "{\"id\":\"a\",\"imp\":[{\"id\":\"1\",\"pmp\":null}]}",
+        "view",
+    ),
+    (
+        "{\"id\":\"a\",\"imp\":[{\"id\":\"1\",\"pmp\":{\"private_auction\":2}}]}",
+        "pmp.private_auction",
+    ),
+    (
+        "{\"id\":\"a\",\"imp\":[{\"id\":\"1\",\"pmp\":{\"private_auction\":\"1\"}}]}",
+        "pmp.private_auction",
+    ),
+    (
+        "{\"id\":\"a\",\"imp\":[{\"id\":\"1\",\"pmp\":{\"private_auction\":1.0}}]}",
+        "pmp.private_auction",
+    ),
+    (
+        "{\"id\":\"a\",\"imp\":[{\"id\":\"1\",\"pmp\":{\"private_auction\":true}}]}",
+        "pmp.private_auction",
+    ),
+    (
+        "{\"id\":\"a\",\"imp\":[{\"id\":\"1\",\"pmp\":{\"private_auction\":0}}]}",
+        "view",
+    ),
+    (
+        "{\"id\":\"a\",\"imp\":[{\"id\":\"1\",\"pmp\":{\"deals\":{}}}]}",
+        "pmp.deals",
+    ),
+    (
+        "{\"id\":\"a\",\"imp\":[{\"id\":\"1\",\"pmp\":{\"deals\":null}}]}",
+        "view",
+    ),
+    (
+        "{\"id\":\"a\",\"imp\":[{\"id\":\"1\",\"pmp\":{\"deals\":[5]}}]}",
+        "deal.id",
+    ),
+    (
+        "{\"id\":\"a\",\"imp\":[{\"id\":\"1\",\"pmp\":{\"deals\":[{}]}}]}",
+        "deal.id",
+    ),
+    (
+        "{\"id\":\"a\",\"imp\":[{\"id\":\"1\",\"pmp\":{\"deals\":[{\"id\":5}]}}]}",
+        "deal.id",
+    ),
+    (
+        "{\"id\":\"a\",\"imp\":[{\"id\":\"1\",\"pmp\":{\"deals\":[{\"id\":\"\"}]}}]}",
+        "view",
+    ),
     (
         "{\"id\":\"a\",\"imp\":[{\"id\":\"1\",\"pmp\":{\"deals\":[{\"id\":\"d\",\"bidfloor\":-0.5}]}}]}",
         "deal.bidfloor",
@@ -124,16 +238,40 @@ const FAULTS: [(&str, &str); 86] = [
     ),
     ("{\"imp\":[]}", "noid"),
     ("{\"id\":\"a\",\"imp\":[],\"cur\":5}", "noimp"),
-    ("{\"id\":\"a\",\"imp\":[0,0,0,0,0,0,0,0,0,0,0,0,0,0,0,0,0],\"cur\":5}", "manyimps"),
-    ("{\"id\":\"a\",\"imp\":[{\"id\":\"1\"}],\"wseat\":5,\"cur\":5}", "cur"),
-    ("{\"id\":\"a\",\"imp\":[{\"id\":\"1\"}],\"bseat\":5,\"wseat\":5}", "wseat"),
-    ("{\"id\":\"a\",\"imp\":[{\"id\":\"1\"}],\"bcat\":5,\"bseat\":5}", "bseat"),
-    ("{\"id\":\"a\",\"imp\":[{\"id\":\"1\"}],\"badv\":5,\"bcat\":5}", "bcat"),
+    (
+        "{\"id\":\"a\",\"imp\":[0,0,0,0,0,0,0,0,0,0,0,0,0,0,0,0,0],\"cur\":5}",
+        "manyimps",
+    ),
+    (
+        "{\"id\":\"a\",\"imp\":[{\"id\":\"1\"}],\"wseat\":5,\"cur\":5}",
+        "cur",
+    ),
+    (
+        "{\"id\":\"a\",\"imp\":[{\"id\":\"1\"}],\"bseat\":5,\"wseat\":5}",
+        "wseat",
+    ),
+    (
+        "{\"id\":\"a\",\"imp\":[{\"id\":\"1\"}],\"bcat\":5,\"bseat\":5}",
+        "bseat",
+    ),
+    (
+        "{\"id\":\"a\",\"imp\":[{\"id\":\"1\"}],\"badv\":5,\"bcat\":5}",
+        "bcat",
+    ),
     ("{\"id\":\"a\",\"imp\":[{}],\"badv\":5}", "badv"),
     ("{\"id\":\"a\",\"imp\":[{\"bidfloor\":-1}]}", "imp.id"),
-    ("{\"id\":\"a\",\"imp\":[{\"id\":\"u\"},{\"bidfloor\":-1,\"id\":\"u\"}]}", "u"),
-    ("{\"id\":\"a\",\"imp\":[{\"id\":\"1\",\"bidfloorcur\":1,\"bidfloor\":-1}]}", "imp.bidfloor"),
-    ("{\"id\":\"a\",\"imp\":[{\"id\":\"1\",\"pmp\":1,\"bidfloorcur\":1}]}", "imp.bidfloorcur"),
+    (
+        "{\"id\":\"a\",\"imp\":[{\"id\":\"u\"},{\"bidfloor\":-1,\"id\":\"u\"}]}",
+        "u",
+    ),
+    (
+        "{\"id\":\"a\",\"imp\":[{\"id\":\"1\",\"bidfloorcur\":1,\"bidfloor\":-1}]}",
+        "imp.bidfloor",
+    ),
+    (
+        "{\"id\":\"a\",\"imp\":[{\"id\":\"1\",\"pmp\":1,\"bidfloorcur\":1}]}",
+        "imp.bidfloorcur",
+    ),
     (
         "{\"id\":\"a\",\"imp\":[{\"id\":\"1\",\"pmp\":{\"deals\":1,\"private_auction\":5}}]}",
         "pmp.private_auction",
@@ -158,8 +296,14 @@ const FAULTS: [(&str, &str); 86] = [
         "{\"id\":\"a\",\"imp\":[{\"id\":\"1\",\"pmp\":{\"deals\":[{\"id\":\"d\",\"wadomain\":1},{}]}}]}",
         "deal.wadomain",
     ),
-    ("{\"id\":\"a\",\"imp\":[{\"id\":\"1\",\"pmp\":{\"deals\":[{}]}},{}]}", "deal.id"),
-    ("{\"id\":\"a\",\"imp\":[{\"id\":\"1\",\"pmp\":{\"deals\":5}},{\"id\":\"1\"}]}", "pmp.deals"),
+    (
+        "{\"id\":\"a\",\"imp\":[{\"id\":\"1\",\"pmp\":{\"deals\":[{}]}},{}]}",
+        "deal.id",
+    ),
+    (
+        "{\"id\":\"a\",\"imp\":[{\"id\":\"1\",\"pmp\":{\"deals\":5}},{\"id\":\"1\"}]}",
+        "pmp.deals",
+    ),
 ];
 
 #[test]
@@ -300,7 +444,10 @@ fn sees_requests(rt: HostRuntime) {
 }
 
 /// The SHA-256 of `{"id":"q","imp":[{"id":"1","bidfloor":1.50,"ext":{"x":"A/"}}]}`, as another program gives it.
-const DIGEST: [u8; 32] = [0xcb, 0xc0, 0x33, 0x61, 0x00, 0x31, 0x62, 0xc6, 0xfd, 0x19, 0x4b, 0x4b, 0xbd, 0x82, 0x06, 0xcf, 0x74, 0xff, 0xc1, 0xf2, 0x3f, 0x07, 0x52, 0x2e, 0x56, 0x5a, 0xba, 0xce, 0x11, 0x55, 0x0a, 0x1d];
+const DIGEST: [u8; 32] = [
+    0xcb, 0xc0, 0x33, 0x61, 0x00, 0x31, 0x62, 0xc6, 0xfd, 0x19, 0x4b, 0x4b, 0xbd, 0x82, 0x06, 0xcf,
+    0x74, 0xff, 0xc1, 0xf2, 0x3f, 0x07, 0x52, 0x2e, 0x56, 0x5a, 0xba, 0xce, 0x11, 0x55, 0x0a, 0x1d,
+];
 
 /// The digest of a request with blanks, escapes and a needless zero.
 fn digest_of(alloc: Global, text: &str) -> Option<[u8; 32]> {
@@ -315,7 +462,8 @@ fn digest_of(alloc: Global, text: &str) -> Option<[u8; 32]> {
 
 #[test]
 fn digests_the_compact_spelling(rt: HostRuntime) {
-    let text = "{ \"id\" : \"q\" , \"imp\" : [ {\"id\":\"1\",\"bidfloor\":1.50,\"ext\":{\"x\":\"\\u0041\\/\"}} ] }";
+    let text =
+        "{ \"id\" : \"q\" , \"imp\" : [ {\"id\":\"1\",\"bidfloor\":1.50,\"ext\":{\"x\":\"\\u0041\\/\"}} ] }";
     assert_eq!(rt; digest_of(rt.alloc(), text), Some(DIGEST));
 }
 
