@@ -3,28 +3,21 @@ use Rattle.std.proofs.Common.{◌≡◌, ◌≢◌, ◌⊎◌, ℕ, ◌+◌, ◌
 use mathlib.Core.Option.{none, some, some-injective, some-ne-none}
 use mathlib.Core.Option as maybe
 use mathlib.Core.Logic.{dite}
-use mathlib.Core.List.{IsPrefix}
 use native.Mathlib.Decide.{ℕ_discrete, dec_le}
 use lib.ListN.{get_elem?}
-use Rattle.atomic_table.specs.Table.{State, Me, step, Act, keeps, takes, gives, stepped, Allows}
-use Rattle.atomic_table.proofs.Lists.{at_set, set_else, set_again, one_turn}
-use Rattle.turnstile.specs.declared.view.Role.{Role}
-use Rattle.turnstile.specs.declared.view.Role.TheVariants.{First, Parted, Brief, Spent}
-use Rattle.turnstile.specs.declared.view.Stage.{Stage}
-use Rattle.turnstile.specs.declared.view.Stage.TheVariants.{Idle, Waits, Holds}
-use Rattle.turnstile.specs.declared.noted.Noted.{Noted}
+use Rattle.atomic_table.specs.Table.{State}
+use Rattle.turnstile.specs.declared.view.Role.TheVariants.{First, Spent}
 use Rattle.turnstile.specs.declared.view.SeatView.{SeatView}
 use Rattle.std.proofs.Common.{map}
 use Rattle.atomic_table.specs.Table.{opening, Final, Seen}
-use Rattle.turnstile.specs.Rule.{has_ticket, is_pass, Whole, Each, IsTicket, slot_of, Tickets, IsHolder, Desk, IsPlain, Passes, Knows, Histories, Faults, Own, Kept, first_view}
-use Rattle.turnstile.specs.Places.{total, times, within}
-use Rattle.turnstile.specs.declared.limits.TheConstants.{MOST_OUT}
+use Rattle.turnstile.specs.Rule.{is_pass, Whole, IsTicket, slot_of, IsHolder, IsPlain, Knows, Kept, first_view}
+use Rattle.turnstile.specs.Places.{times, within}
 use Rattle.turnstile.proofs.Views.{total_one, total_two, total_alone}
 use Rattle.turnstile.proofs.PlaceLemmas.{prefix_refl, prefix_length, prefix_whole, within_in, within_out}
 use Rattle.turnstile.specs.Rule.{Shows}
 use Rattle.turnstile.specs.Steps.{out_of}
 use Rattle.turnstile.specs.Hand.{IsAllOf, IsLastSeat}
-use Rattle.turnstile.proofs.Parts.{rank, role_rank, lives, apart, stage_at, home_cases, pass_or_not}
+use Rattle.turnstile.proofs.Parts.{rank, lives, apart, home_cases, pass_or_not}
 
 module _ {T I F N : Type 0} (items : T → List I) (count_faults : T → ℕ) (fixed_of : T → F) where
   abbrev Rule : State (Option T) (SeatView I F N) → Type 0

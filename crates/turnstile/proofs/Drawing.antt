@@ -1,17 +1,12 @@
 -- Drawing a ticket keeps the rule.
-use Rattle.std.proofs.Common.{◌≡◌, ◌≢◌, ◌⊎◌, ℕ, ◌+◌, ◌%◌, ◌^◌, ◌<◌, ◌≤◌, List, [], ◌∷◌, ◌++◌, length, set, get_or, sym, refl, ap, ◌∙◌, subst, ⊎_elim, inl, inr, arith, Option, Some, None}
-use mathlib.Core.Option.{none, some}
-use mathlib.Core.Option as maybe
-use mathlib.Core.Logic.{dite}
-use native.Mathlib.Decide.{ℕ_discrete}
-use lib.ListN.{get_elem?}
-use Rattle.atomic_table.specs.Table.{State, Me, step, Act, keeps, takes, gives, stepped, Allows}
-use Rattle.atomic_table.proofs.Lists.{at_set, set_else}
+use Rattle.std.proofs.Common.{◌≡◌, ℕ, ◌+◌, ◌%◌, ◌^◌, List, length, get_or, refl, ap, ◌∙◌, arith, Option}
+use mathlib.Core.Option.{none}
+use Rattle.atomic_table.specs.Table.{State, Me, step, keeps, Allows}
+use Rattle.atomic_table.proofs.Lists.{set_else}
 use Rattle.turnstile.specs.declared.view.Stage.{Stage}
 use Rattle.turnstile.specs.declared.view.Stage.TheVariants.{Idle, Waits, Holds}
 use Rattle.turnstile.specs.declared.view.SeatView.{SeatView}
-use Rattle.turnstile.specs.Rule.{has_ticket, is_pass, Whole, Each, IsTicket, slot_of, Tickets, IsHolder, Desk, Passes, Knows, Histories, Faults, Own, Kept}
-use Rattle.turnstile.specs.Places.{total, times, within}
+use Rattle.turnstile.specs.Rule.{has_ticket, is_pass, Whole, IsTicket, IsHolder, Knows, Kept}
 use Rattle.turnstile.specs.Steps.{drew}
 use Rattle.turnstile.specs.declared.words.TheConstants.{TICKETS}
 use Rattle.turnstile.proofs.WordLemmas.{shows_ticket}

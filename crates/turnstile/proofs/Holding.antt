@@ -1,5 +1,5 @@
 -- The steps of the seat that has the value: it raises the front and the faults, and gives the value back. Each keeps the rule.
-use Rattle.std.proofs.Common.{◌≡◌, ◌≢◌, ◌⊎◌, ℕ, ◌+◌, ◌%◌, ◌^◌, ◌<◌, ◌≤◌, List, [], ◌∷◌, ◌++◌, length, set, get_or, sym, refl, ap, ◌∙◌, subst, ⊎_elim, inl, inr, arith, Option, Some, None}
+use Rattle.std.proofs.Common.{◌≡◌, ◌≢◌, ◌⊎◌, ℕ, ◌+◌, ◌%◌, ◌^◌, ◌<◌, List, [], ◌∷◌, ◌++◌, length, set, get_or, sym, refl, ap, ◌∙◌, subst, ⊎_elim, inl, inr, arith, Option, Some, None}
 use mathlib.Core.Option.{none, some, some-injective, some-ne-none}
 use mathlib.Core.Option as maybe
 use mathlib.Core.Logic.{dite}
@@ -7,22 +7,19 @@ use mathlib.Core.List.{IsPrefix}
 use native.Mathlib.Decide.{ℕ_discrete}
 use lib.ListN.{get_elem?}
 use Rattle.atomic_table.specs.Table.{State, Me, step, Act, keeps, takes, gives, stepped, Allows}
-use Rattle.atomic_table.proofs.Lists.{at_set, set_else, set_again, one_turn}
-use Rattle.turnstile.specs.declared.view.Role.{Role}
-use Rattle.turnstile.specs.declared.view.Role.TheVariants.{First, Parted, Brief, Spent}
+use Rattle.turnstile.specs.declared.view.Role.TheVariants.{Spent}
 use Rattle.turnstile.specs.declared.view.Stage.{Stage}
 use Rattle.turnstile.specs.declared.view.Stage.TheVariants.{Idle, Waits, Holds}
 use Rattle.turnstile.specs.declared.noted.Noted.{Noted}
 use Rattle.turnstile.specs.declared.view.SeatView.{SeatView}
-use Rattle.turnstile.specs.Rule.{has_ticket, is_pass, Whole, Each, IsTicket, slot_of, Tickets, IsHolder, Desk, IsPlain, Passes, Knows, Histories, Faults, Own, Kept}
-use Rattle.turnstile.specs.Places.{total, times, within}
-use Rattle.turnstile.specs.declared.limits.TheConstants.{MOST_OUT}
-use Rattle.turnstile.specs.Steps.{raised, counted, served, places, ticket_of, carried_items}
+use Rattle.turnstile.specs.Rule.{has_ticket, is_pass, Whole, IsTicket, IsHolder, Knows, Kept}
+use Rattle.turnstile.specs.Places.{times, within}
+use Rattle.turnstile.specs.Steps.{raised, counted, served, places, carried_items}
 use Rattle.turnstile.specs.declared.words.TheConstants.{SERVED, FRONT, FAULTS}
 use Rattle.turnstile.proofs.WordLemmas.{shows_turn, shows_front, shows_faults}
 use Rattle.turnstile.proofs.Views.{each_set, total_set, total_same, set_at}
-use Rattle.turnstile.proofs.PlaceLemmas.{prefix_refl, prefix_length, prefix_on, times_append, times_places, within_on, within_out}
-use Rattle.turnstile.proofs.Parts.{rank, lives, same_passes, same_histories, same_faults, same_own, apart}
+use Rattle.turnstile.proofs.PlaceLemmas.{prefix_refl, prefix_on, times_append, times_places, within_on, within_out}
+use Rattle.turnstile.proofs.Parts.{rank, lives, same_passes, same_histories, same_faults, same_own}
 use Rattle.std.proofs.Common.{length-append}
 
 abbrev or_else : {A : Type 0} → A → Option A → A

@@ -1,30 +1,24 @@
 -- Splitting, joining and meeting: seats come and go. Each keeps the rule.
-use Rattle.std.proofs.Common.{◌≡◌, ◌≢◌, ◌⊎◌, ℕ, ◌+◌, ◌%◌, ◌^◌, ◌<◌, ◌≤◌, List, [], ◌∷◌, ◌++◌, length, set, get_or, sym, refl, ap, ◌∙◌, subst, ⊎_elim, inl, inr, arith, Option, Some, None}
-use mathlib.Core.Option.{none, some, some-injective, some-ne-none}
-use mathlib.Core.Option as maybe
-use mathlib.Core.Logic.{dite}
-use mathlib.Core.List.{IsPrefix}
-use native.Mathlib.Decide.{ℕ_discrete}
+use Rattle.std.proofs.Common.{◌≡◌, ◌≢◌, ◌⊎◌, ℕ, ◌+◌, ◌<◌, ◌≤◌, List, [], ◌∷◌, ◌++◌, length, set, sym, refl, ap, ◌∙◌, subst, ⊎_elim, inl, inr, arith, Option}
+use mathlib.Core.Option.{some}
 use lib.ListN.{get_elem?}
-use Rattle.atomic_table.specs.Table.{State, Me, step, Act, keeps, takes, gives, stepped, Allows}
-use Rattle.atomic_table.proofs.Lists.{at_set, set_else, set_again, one_turn}
+use Rattle.atomic_table.specs.Table.{State}
+use Rattle.atomic_table.proofs.Lists.{set_else, set_again}
 use Rattle.turnstile.specs.declared.view.Role.{Role}
 use Rattle.turnstile.specs.declared.view.Role.TheVariants.{First, Parted, Brief, Spent}
-use Rattle.turnstile.specs.declared.view.Stage.{Stage}
-use Rattle.turnstile.specs.declared.view.Stage.TheVariants.{Idle, Waits, Holds}
-use Rattle.turnstile.specs.declared.noted.Noted.{Noted}
+use Rattle.turnstile.specs.declared.view.Stage.TheVariants.{Idle, Holds}
 use Rattle.turnstile.specs.declared.view.SeatView.{SeatView}
-use Rattle.std.proofs.Common.{max, zero, suc, ◌-◌}
+use Rattle.std.proofs.Common.{◌-◌}
 use Rattle.atomic_table.specs.Table.{Splits, Joins}
 use Rattle.atomic_table.proofs.Lists.{at_longer}
-use Rattle.turnstile.specs.Rule.{has_ticket, is_pass, Whole, Each, IsTicket, slot_of, Tickets, IsHolder, Desk, IsPlain, Passes, Knows, Histories, Faults, Own, Kept}
-use Rattle.turnstile.specs.Places.{total, times, within}
+use Rattle.turnstile.specs.Rule.{has_ticket, is_pass, Whole, IsTicket, IsHolder, IsPlain, Knows, Kept}
+use Rattle.turnstile.specs.Places.{times}
 use Rattle.turnstile.specs.declared.limits.TheConstants.{MOST_OUT}
 use Rattle.turnstile.specs.Steps.{with_out, lender, parted, brief, united, met, spent}
 use Rattle.turnstile.specs.Places.{greater}
-use Rattle.turnstile.proofs.Views.{each_set, each_snoc, total_set, total_same, total_snoc, total_two, set_at}
+use Rattle.turnstile.proofs.Views.{each_set, each_snoc, total_set, total_same, total_snoc, total_two}
 use Rattle.turnstile.proofs.PlaceLemmas.{times_append}
-use Rattle.turnstile.proofs.Parts.{rank, role_rank, lives, apart, stage_at}
+use Rattle.turnstile.proofs.Parts.{rank, role_rank, lives, apart}
 use Rattle.turnstile.proofs.Passing.{quiet}
 
 abbrev out_or : ℕ → Role → ℕ

@@ -1,29 +1,24 @@
 -- Finding one's ticket served, and taking the value, keeps the rule.
-use Rattle.std.proofs.Common.{◌≡◌, ◌≢◌, ◌⊎◌, ℕ, ◌+◌, ◌%◌, ◌^◌, ◌<◌, ◌≤◌, List, [], ◌∷◌, ◌++◌, length, set, get_or, sym, refl, ap, ◌∙◌, subst, ⊎_elim, inl, inr, arith, Option, Some, None}
+use Rattle.std.proofs.Common.{◌≡◌, ℕ, ◌+◌, ◌%◌, ◌^◌, ◌<◌, ◌≤◌, List, ◌∷◌, length, set, get_or, sym, refl, ap, ◌∙◌, subst, ⊎_elim, arith, Option, Some}
 use mathlib.Core.Option.{none, some, some-injective, some-ne-none}
 use mathlib.Core.Option as maybe
 use mathlib.Core.Logic.{dite}
 use mathlib.Core.List.{IsPrefix}
 use native.Mathlib.Decide.{ℕ_discrete}
 use lib.ListN.{get_elem?}
-use Rattle.atomic_table.specs.Table.{State, Me, step, Act, keeps, takes, gives, stepped, Allows}
-use Rattle.atomic_table.proofs.Lists.{at_set, set_else, set_again, one_turn}
-use Rattle.turnstile.specs.declared.view.Role.{Role}
-use Rattle.turnstile.specs.declared.view.Role.TheVariants.{First, Parted, Brief, Spent}
+use Rattle.atomic_table.specs.Table.{State, Me, step, keeps, takes, stepped, Allows}
+use Rattle.atomic_table.proofs.Lists.{set_again, one_turn}
 use Rattle.turnstile.specs.declared.view.Stage.{Stage}
 use Rattle.turnstile.specs.declared.view.Stage.TheVariants.{Idle, Waits, Holds}
-use Rattle.turnstile.specs.declared.noted.Noted.{Noted}
 use Rattle.turnstile.specs.declared.view.SeatView.{SeatView}
-use Rattle.turnstile.specs.Rule.{has_ticket, is_pass, Whole, Each, IsTicket, slot_of, Tickets, IsHolder, Desk, IsPlain, Passes, Knows, Histories, Faults, Own, Kept}
-use Rattle.turnstile.specs.Places.{total, times, within}
-use Rattle.turnstile.specs.declared.limits.TheConstants.{MOST_OUT}
+use Rattle.turnstile.specs.Rule.{has_ticket, is_pass, Whole, IsTicket, slot_of, Tickets, IsHolder, IsPlain, Passes, Knows, Kept}
 use Rattle.turnstile.specs.Steps.{looked, ticket_of, holding}
 use Rattle.atomic_table.specs.Table.{Step}
 use Rattle.turnstile.specs.declared.words.TheConstants.{SERVED, FAULTS}
 use Rattle.turnstile.specs.Rule.{Shows}
 use Rattle.turnstile.specs.Steps.{stayed}
 use Rattle.turnstile.proofs.WordLemmas.{set_read, shows_still}
-use Rattle.turnstile.proofs.Views.{each_set, total_set, total_same, total_le, total_one, set_at}
+use Rattle.turnstile.proofs.Views.{each_set, total_same, total_le, set_at}
 use Rattle.turnstile.proofs.PlaceLemmas.{prefix_refl, prefix_length}
 use Rattle.turnstile.proofs.Parts.{rank, lives, same_passes, same_histories, same_faults, same_own, apart, home_cases, pass_or_not}
 

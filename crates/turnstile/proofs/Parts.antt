@@ -1,5 +1,5 @@
 -- What stays of each part of the rule where one view changes, and no more than that.
-use Rattle.std.proofs.Common.{◌≡◌, ◌≢◌, ◌⊎◌, ℕ, ◌+◌, ◌%◌, ◌^◌, ◌<◌, ◌≤◌, List, [], ◌∷◌, ◌++◌, length, set, get_or, sym, refl, ap, ◌∙◌, subst, ⊎_elim, inl, inr, arith, Option, Some, None}
+use Rattle.std.proofs.Common.{◌≡◌, ◌≢◌, ◌⊎◌, ℕ, List, set, sym, refl, ap, ◌∙◌, ⊎_elim, inl, inr, arith}
 use mathlib.Core.Option.{none, some}
 use mathlib.Core.Option as maybe
 use lib.ListN.{get_elem?}
@@ -8,9 +8,8 @@ use Rattle.turnstile.specs.declared.view.Role.TheVariants.{First, Parted, Brief,
 use Rattle.turnstile.specs.declared.view.Stage.{Stage}
 use Rattle.turnstile.specs.declared.view.Stage.TheVariants.{Idle, Waits, Holds}
 use Rattle.turnstile.specs.declared.view.SeatView.{SeatView}
-use Rattle.turnstile.specs.Rule.{has_ticket, is_pass, Whole, Each, IsTicket, slot_of, Tickets, IsHolder, Desk, IsPlain, Passes, Knows, Histories, Faults, Own}
-use Rattle.turnstile.specs.Places.{total, times, within}
-use Rattle.turnstile.specs.declared.limits.TheConstants.{MOST_OUT}
+use Rattle.turnstile.specs.Rule.{is_pass, IsPlain, Passes, Knows, Histories, Faults, Own}
+use Rattle.turnstile.specs.Places.{times}
 use Rattle.turnstile.proofs.Views.{each_set, total_same}
 
 -- 0 where no ticket is in hand, 1 where one waits, 2 where the value is in hand

@@ -1,33 +1,25 @@
 -- The steps of passes that wait for nobody: each keeps the rule.
-use Rattle.std.proofs.Common.{◌≡◌, ◌≢◌, ◌⊎◌, ℕ, ◌+◌, ◌%◌, ◌^◌, ◌<◌, ◌≤◌, List, [], ◌∷◌, ◌++◌, length, set, get_or, sym, refl, ap, ◌∙◌, subst, ⊎_elim, inl, inr, arith, Option, Some, None}
-use mathlib.Core.Option.{none, some, some-injective, some-ne-none}
-use mathlib.Core.Option as maybe
+use Rattle.std.proofs.Common.{◌≡◌, ◌⊎◌, ℕ, ◌≤◌, List, length, set, get_or, sym, refl, ap, ◌∙◌, subst, ⊎_elim, arith, Option}
+use mathlib.Core.Option.{none, some}
 use mathlib.Core.Logic.{dite}
 use mathlib.Core.List.{IsPrefix}
 use native.Mathlib.Decide.{ℕ_discrete}
 use lib.ListN.{get_elem?}
-use Rattle.atomic_table.specs.Table.{State, Me, step, Act, keeps, takes, gives, stepped, Allows}
-use Rattle.atomic_table.proofs.Lists.{at_set, set_else, set_again, one_turn}
-use Rattle.turnstile.specs.declared.view.Role.{Role}
-use Rattle.turnstile.specs.declared.view.Role.TheVariants.{First, Parted, Brief, Spent}
-use Rattle.turnstile.specs.declared.view.Stage.{Stage}
-use Rattle.turnstile.specs.declared.view.Stage.TheVariants.{Idle, Waits, Holds}
-use Rattle.turnstile.specs.declared.noted.Noted.{Noted}
+use Rattle.atomic_table.specs.Table.{State, Me, step, keeps, Allows}
+use Rattle.atomic_table.proofs.Lists.{set_else}
+use Rattle.turnstile.specs.declared.view.Role.TheVariants.{Spent}
+use Rattle.turnstile.specs.declared.view.Stage.TheVariants.{Idle}
 use Rattle.turnstile.specs.declared.view.SeatView.{SeatView}
-use Rattle.std.proofs.Common.{max, zero, suc, ◌-◌}
-use Rattle.atomic_table.specs.Table.{Splits, Joins}
-use Rattle.atomic_table.proofs.Lists.{at_longer}
-use Rattle.turnstile.specs.Rule.{has_ticket, is_pass, Whole, Each, IsTicket, slot_of, Tickets, IsHolder, Desk, IsPlain, Passes, Knows, Histories, Faults, Own, Kept}
-use Rattle.turnstile.specs.Places.{total, times, within}
-use Rattle.turnstile.specs.declared.limits.TheConstants.{MOST_OUT}
-use Rattle.turnstile.specs.Steps.{found_front, learned, with_out, lender, parted, brief, united, met, spent}
-use Rattle.turnstile.specs.Places.{longer, greater}
+use Rattle.turnstile.specs.Rule.{has_ticket, is_pass, Whole, IsTicket, IsHolder, Knows, Kept}
+use Rattle.turnstile.specs.Places.{times}
+use Rattle.turnstile.specs.Steps.{found_front, learned}
+use Rattle.turnstile.specs.Places.{longer}
 use Rattle.turnstile.specs.declared.words.TheConstants.{FRONT}
 use Rattle.turnstile.specs.Rule.{Shows}
 use Rattle.turnstile.proofs.WordLemmas.{set_read}
-use Rattle.turnstile.proofs.Views.{each_set, each_snoc, total_set, total_same, total_snoc, total_two, total_one, set_at}
-use Rattle.turnstile.proofs.PlaceLemmas.{prefix_refl, prefix_length, prefix_of_prefix, times_append, longer_is, within_one}
-use Rattle.turnstile.proofs.Parts.{rank, role_rank, lives, same_passes, same_histories, same_faults, same_own, apart, stage_at}
+use Rattle.turnstile.proofs.Views.{each_set, total_same, total_one, set_at}
+use Rattle.turnstile.proofs.PlaceLemmas.{prefix_refl, prefix_of_prefix, longer_is, within_one}
+use Rattle.turnstile.proofs.Parts.{rank, lives, same_passes, same_histories, same_faults, same_own, stage_at}
 
 module _ {T I F N : Type 0} (items : T → List I) (count_faults : T → ℕ) (fixed_of : T → F) where
   abbrev Rule : State (Option T) (SeatView I F N) → Type 0

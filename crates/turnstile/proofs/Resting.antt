@@ -1,33 +1,24 @@
 -- A pass rests between two calls: what each call makes of it.
-use Rattle.std.proofs.Common.{◌≡◌, ◌≢◌, ◌⊎◌, ℕ, ◌+◌, ◌%◌, ◌^◌, ◌<◌, ◌≤◌, List, [], ◌∷◌, ◌++◌, length, set, get_or, sym, refl, ap, ◌∙◌, subst, ⊎_elim, inl, inr, arith, Option, Some, None}
-use mathlib.Core.Option.{none, some, some-injective, some-ne-none}
-use mathlib.Core.Option as maybe
-use mathlib.Core.Logic.{dite}
+use Rattle.std.proofs.Common.{◌≡◌, ◌⊎◌, ℕ, ◌+◌, ◌<◌, ◌≤◌, List, [], ◌∷◌, ◌++◌, length, sym, refl, ap, ◌∙◌, subst, ⊎_elim, inl, inr, arith, Option, Some, None}
+use mathlib.Core.Option.{some, some-injective, some-ne-none}
 use mathlib.Core.List.{IsPrefix}
-use native.Mathlib.Decide.{ℕ_discrete}
 use lib.ListN.{get_elem?}
-use Rattle.atomic_table.specs.Table.{State, Me, step, Act, keeps, takes, gives, stepped, Allows}
-use Rattle.atomic_table.proofs.Lists.{at_set, set_else, set_again, one_turn}
 use Rattle.turnstile.specs.declared.view.Role.{Role}
 use Rattle.turnstile.specs.declared.view.Role.TheVariants.{First, Parted, Brief, Spent}
-use Rattle.turnstile.specs.declared.view.Stage.{Stage}
-use Rattle.turnstile.specs.declared.view.Stage.TheVariants.{Idle, Waits, Holds}
 use Rattle.turnstile.specs.declared.noted.Noted.{Noted}
 use Rattle.turnstile.specs.declared.view.SeatView.{SeatView}
-use Rattle.std.proofs.Common.{◌-◌, append-nil, length-append, zero, suc, Bool}
+use Rattle.std.proofs.Common.{◌-◌, length-append, zero, suc, Bool}
 use Rattle.std.proofs.lemmas.List.{append_assoc}
-use Rattle.turnstile.specs.Rule.{is_pass, has_ticket}
-use Rattle.turnstile.specs.Turns.{added_by, placed, faults_in, places_of, faults_noted, Stand, one_or_none, next_place, place_or_none, one_if}
-use Rattle.turnstile.specs.Steps.{Sat, places, out_of, with_out, lender, parted, united}
+use Rattle.turnstile.specs.Rule.{is_pass}
+use Rattle.turnstile.specs.Turns.{added_by, placed, faults_in, places_of, faults_noted, Stand, one_or_none, next_place, place_or_none}
+use Rattle.turnstile.specs.Steps.{Sat, places, out_of, with_out, lender, parted, brief, met, united}
 use Rattle.turnstile.specs.Places.{longer, greater}
-use Rattle.std.proofs.Math.Logic.{∥∥₁_map, ∥∥₁_map₂}
 use Rattle.turnstile.proofs.PlaceLemmas.{prefix_length, longer_is}
 use Rattle.std.proofs.Common.{true, false}
 use Rattle.atomic_table.specs.Seated.{TableId}
 use Rattle.turnstile.specs.declared.limits.TheConstants.{LAST_COUNT, MOST_OUT}
-use Rattle.turnstile.specs.Turns.{HasRisen}
-use Rattle.turnstile.specs.Places.{AreOneList}
-use Rattle.turnstile.specs.Passes.{PassView, IsTurn, told, joined, split_from}
+use Rattle.turnstile.specs.Places.{AreOneList, AreDifferent}
+use Rattle.turnstile.specs.Passes.{IsTurn}
 use Rattle.turnstile.specs.Hand.{is_first, shown, turned, heard, AtRest, Took, RanOnce}
 
 -- a pass that isn't the first was split from it
@@ -212,8 +203,13 @@ module _ {T I F N : Type 0} (adds : N → Option I) (is_fault : N → Bool) wher
       record { bare = refl; pass = refl; out_is = refl; few = omega arith; idle = refl; short = r.short; known = r.known; own = refl; faulted = λ lt. omega arith; stand = λ k n i there what. absurd (some-ne-none n (sym there)) }
 
   -- a pass that was told what u has seen
-  pub rests_heard : (out : ℕ) (out' : ℕ) (m u m' : Sat T I F N) → Rests out m → Rests out' u → AreOneList m.0.seen u.0.seen → m' ≡ (heard m.0 u.0, m.1) → Rests out m'
-  rests_heard out out' m u m' r r' p e = let l : List I = longer m.0.seen u.0.seen in subst (λ (z : Sat T I F N). Rests out z) (sym e)
+  pub rests_heard : (out : ℕ) (out' : ℕ) (m u m₁ m' : Sat T I F N) → Rests out m → Rests out' u → m₁ ≡ (met m.0 (brief u.0), m.1)
+      → AreOneList m₁.0.seen m₁.0.told → m' ≡ (record m₁.0 { seen = longer m₁.0.seen m₁.0.told }, m₁.1) → Rests out m'
+  rests_heard out out' m u m₁ m' r r' e₁ one e₂ =
+      let l : List I = longer m.0.seen u.0.seen in
+      let p : AreOneList m.0.seen u.0.seen = subst (λ (z : Sat T I F N). AreOneList z.0.seen z.0.told) e₁ one in
+      let e : m' ≡ (heard m.0 u.0, m.1) = e₂ ∙ ap (λ (z : Sat T I F N). (record z.0 { seen = longer z.0.seen z.0.told }, z.1)) e₁ in
+      subst (λ (z : Sat T I F N). Rests out z) (sym e)
       record {
         bare = r.bare;
         pass = r.pass;
@@ -228,9 +224,13 @@ module _ {T I F N : Type 0} (adds : N → Option I) (is_fault : N → Bool) wher
       }
 
   -- a pass into which u was joined
-  pub rests_joined : (out out' : ℕ) (m u m' : Sat T I F N) → Rests out m → m.0.role ≡ First out → Rests out' u → AreOneList m.0.seen u.0.seen
-      → m' ≡ (record (united m.0 u.0) { seen = longer m.0.seen u.0.seen }, m.1) → Rests (out - 1) m'
-  rests_joined out out' m u m' r first r' p e = let l : List I = longer m.0.seen u.0.seen in subst (λ (z : Sat T I F N). Rests (out - 1) z) (sym e)
+  pub rests_joined : (out out' : ℕ) (m u m₁ m' : Sat T I F N) → Rests out m → m.0.role ≡ First out → Rests out' u → m₁ ≡ (united m.0 u.0, m.1)
+      → AreOneList m₁.0.seen m₁.0.told → m' ≡ (record m₁.0 { seen = longer m₁.0.seen m₁.0.told }, m₁.1) → Rests (out - 1) m'
+  rests_joined out out' m u m₁ m' r first r' e₁ one e₂ =
+      let l : List I = longer m.0.seen u.0.seen in
+      let p : AreOneList m.0.seen u.0.seen = subst (λ (z : Sat T I F N). AreOneList z.0.seen z.0.told) e₁ one in
+      let e : m' ≡ (record (united m.0 u.0) { seen = l }, m.1) = e₂ ∙ ap (λ (z : Sat T I F N). (record z.0 { seen = longer z.0.seen z.0.told }, z.1)) e₁ in
+      subst (λ (z : Sat T I F N). Rests (out - 1) z) (sym e)
       record {
         bare = r.bare;
         pass = ap (λ (x : Role). is_pass (with_out (λ (n : ℕ). n - 1) x)) first;
@@ -245,3 +245,7 @@ module _ {T I F N : Type 0} (adds : N → Option I) (is_fault : N → Bool) wher
             (λ (h : get_elem? m.0.turns k ≡ some n). get_prefix m.0.seen l n.at i p.0 (r.stand k n i h what))
             (λ (h : (j : ℕ) × (get_elem? u.0.turns j ≡ some n)). get_prefix u.0.seen l n.at i p.1 (r'.stand h.0 n i h.1 what)) (get_append m.0.turns u.0.turns k n there);
       }
+
+  -- the places of its turns are different where its own are
+  pub different_places : (out : ℕ) (m₁ m' : Sat T I F N) → Rests out m' → m' ≡ (record m₁.0 { seen = longer m₁.0.seen m₁.0.told }, m₁.1) → AreDifferent m₁.0.own → AreDifferent (places_of adds m'.0.turns)
+  different_places out m₁ m' r e d = subst AreDifferent (sym (ap (λ (z : Sat T I F N). z.0.own) e) ∙ r.own) d

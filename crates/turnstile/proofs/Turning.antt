@@ -1,23 +1,12 @@
 -- What the seat has in hand over a turn, and what it knows at the end of it.
-use Rattle.std.proofs.Common.{◌≡◌, ◌≢◌, ◌⊎◌, ℕ, ◌+◌, ◌%◌, ◌^◌, ◌<◌, ◌≤◌, List, [], ◌∷◌, ◌++◌, length, set, get_or, sym, refl, ap, ◌∙◌, subst, ⊎_elim, inl, inr, arith, Option, Some, None}
-use mathlib.Core.Option.{none, some, some-injective, some-ne-none}
-use mathlib.Core.Option as maybe
-use mathlib.Core.Logic.{dite}
-use mathlib.Core.List.{IsPrefix}
-use native.Mathlib.Decide.{ℕ_discrete}
-use lib.ListN.{get_elem?}
-use Rattle.atomic_table.specs.Table.{State, Me, step, Act, keeps, takes, gives, stepped, Allows}
-use Rattle.atomic_table.proofs.Lists.{at_set, set_else, set_again, one_turn}
-use Rattle.turnstile.specs.declared.view.Role.{Role}
-use Rattle.turnstile.specs.declared.view.Role.TheVariants.{First, Parted, Brief, Spent}
-use Rattle.turnstile.specs.declared.view.Stage.{Stage}
-use Rattle.turnstile.specs.declared.view.Stage.TheVariants.{Idle, Waits, Holds}
-use Rattle.turnstile.specs.declared.noted.Noted.{Noted}
+use Rattle.std.proofs.Common.{◌≡◌, ◌⊎◌, ℕ, ◌+◌, ◌^◌, ◌<◌, ◌≤◌, List, [], ◌∷◌, ◌++◌, length, sym, refl, ap, ◌∙◌, subst, ⊎_elim, inl, inr, arith, Option, Some, None}
+use Rattle.turnstile.specs.declared.view.Stage.TheVariants.{Idle}
 use Rattle.turnstile.specs.declared.view.SeatView.{SeatView}
 use Rattle.std.proofs.Common.{◌-◌, append-nil, length-append}
 use Rattle.turnstile.specs.Rule.{is_pass}
-use Rattle.turnstile.specs.Turns.{added_by, placed}
-use Rattle.turnstile.specs.Steps.{Sat, places, holding}
+use Rattle.turnstile.specs.declared.limits.TheConstants.{LAST_COUNT}
+use Rattle.turnstile.specs.Turns.{added_by, placed, HasRisen}
+use Rattle.turnstile.specs.Steps.{Sat, places}
 use Rattle.turnstile.specs.Hand.{InHand, Begun, Took, with_new, with_rise, turned}
 
 abbrev in_slot : {A : Type 0} → A → Option A → A
@@ -30,6 +19,10 @@ value_or d (c ∷ cs) = in_slot d c.1
 
 pub value_same : {A : Type 0} (c : List (ℕ × Option A)) (x y : A) → c ≡ (0, Some x) ∷ [] → c ≡ (0, Some y) ∷ [] → x ≡ y
 value_same c x y a b = ap (value_or x) (sym a ∙ b)
+
+-- by how much a count rose, from what its value said before and after
+pub rise_of : (n x y before after known : ℕ) → before ≡ x → after ≡ y → x ≡ known → x ≤ y → HasRisen n x y → (n ≤ after - before) ⊎ (known + (after - before) ≡ LAST_COUNT)
+rise_of n x y before after known b a k le h = ⊎_elim (λ (e : x + n ≤ y). inl (omega arith)) (λ (e : y ≡ LAST_COUNT). inr (omega arith)) h
 
 module _ {T I F N : Type 0} (items : T → List I) (count_faults : T → ℕ) (fixed_of : T → F) where
   abbrev Hand : Sat T I F N → T → List I → ℕ → Type 0
@@ -110,11 +103,11 @@ module _ {T I F N : Type 0} (items : T → List I) (count_faults : T → ℕ) (f
 
 module _ {T I F N : Type 0} (adds : N → Option I) where
   -- the view at the end of a turn
-  pub ends_turned : (v : SeatView I F N) (m₁ m₂ m₃ m₄ : Sat T I F N) (new : List I) (rise at : ℕ) (ts : List N) → m₁.0 ≡ v → m₂ ≡ (with_new m₁.0 new, m₁.1)
-      → m₃ ≡ (with_rise m₂.0 rise, m₂.1) → m₄ ≡ (record m₃.0 { stage = Idle; turns = m₃.0.turns ++ placed adds at ts }, [])
-      → at ≡ length v.seen → new ≡ added_by adds ts → m₄ ≡ (turned adds v v.seen ts v.faults rise, [])
-  ends_turned v m₁ m₂ m₃ m₄ new rise at ts e₁ e₂ e₃ e₄ is_at is_new =
-      e₄ ∙ ap (λ (w : SeatView I F N). (record w { stage = Idle; turns = w.turns ++ placed adds at ts }, []))
+  pub ends_turned : (v : SeatView I F N) (m₁ m₂ m₃ m₄ m₅ : Sat T I F N) (before new : List I) (rise at : ℕ) (ts : List N) → m₁.0 ≡ v → m₂ ≡ (with_new m₁.0 new, m₁.1)
+      → m₃ ≡ (with_rise m₂.0 rise, m₂.1) → m₄ ≡ (record m₃.0 { stage = Idle; turns = m₃.0.turns ++ placed adds at ts }, []) → m₅ ≡ m₄
+      → at ≡ length before → before ≡ v.seen → new ≡ added_by adds ts → m₅ ≡ (turned adds v v.seen ts v.faults rise, [])
+  ends_turned v m₁ m₂ m₃ m₄ m₅ before new rise at ts e₁ e₂ e₃ e₄ e₅ is_at is_before is_new =
+      e₅ ∙ e₄ ∙ ap (λ (w : SeatView I F N). (record w { stage = Idle; turns = w.turns ++ placed adds at ts }, []))
       (ap (λ (m : Sat T I F N). m.0) e₃ ∙ ap (λ (w : SeatView I F N). record w { faults = w.faults + rise; raised = w.raised + rise }) (ap (λ (m : Sat T I F N). m.0) e₂ ∙ ap (λ (w : SeatView I F N). with_new w new) e₁))
       ∙ ap (λ (z : ℕ × List I). (record v { stage = Idle; seen = v.seen ++ z.1; known = length (v.seen ++ z.1); faults = v.faults + rise; own = v.own ++ places (length v.seen) (length z.1); raised = v.raised + rise; turns = v.turns ++ placed adds z.0 ts }, []))
-      (λ i. (is_at i, is_new i))
+      (λ i. ((is_at ∙ ap length is_before) i, is_new i))

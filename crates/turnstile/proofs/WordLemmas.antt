@@ -1,5 +1,5 @@
 -- What the words show after one of them has changed.
-use Rattle.std.proofs.Common.{◌≡◌, ◌≢◌, ℕ, ◌+◌, ◌%◌, ◌^◌, ◌<◌, ◌≤◌, List, length, set, get_or, replicate, sym, refl, ap, ◌∙◌, subst, arith}
+use Rattle.std.proofs.Common.{◌≡◌, ℕ, ◌%◌, ◌^◌, ◌<◌, List, set, get_or, replicate, refl, ◌∙◌, arith}
 use Rattle.std.proofs.lemmas.List.{get_or-set_same, get_or-set_other, set-get_or, length-set}
 use Rattle.turnstile.specs.declared.words.TheConstants.{TICKETS, SERVED, FRONT, FAULTS, WORDS}
 use Rattle.turnstile.specs.Rule.{Shows}

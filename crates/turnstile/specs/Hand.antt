@@ -1,13 +1,13 @@
 -- What a seat knows over a whole call. Only private clauses cite this file.
-use Rattle.std.specs.Prelude.{◌≡◌, ◌⊎◌, ℕ, ◌+◌, ◌^◌, ◌<◌, ◌≤◌, Bool, true, false, List, [], ◌∷◌, ◌++◌, length, Option, Some, None}
+use Rattle.std.specs.Prelude.{◌≡◌, ◌⊎◌, ℕ, ◌+◌, ◌^◌, ◌<◌, ◌≤◌, Bool, true, false, List, [], ◌∷◌, ◌++◌, length, Option, Some}
 use mathlib.Core.List.{IsPrefix}
 use Rattle.atomic_table.specs.Seated.{TableId}
 use Rattle.turnstile.specs.declared.limits.TheConstants.{LAST_COUNT, MOST_OUT}
 use Rattle.turnstile.specs.declared.view.Role.{Role}
 use Rattle.turnstile.specs.declared.view.Role.TheVariants.{First, Parted, Brief, Spent}
-use Rattle.turnstile.specs.declared.view.Stage.TheVariants.{Idle, Waits, Holds}
+use Rattle.turnstile.specs.declared.view.Stage.TheVariants.{Idle, Holds}
 use Rattle.turnstile.specs.declared.view.SeatView.{SeatView}
-use Rattle.turnstile.specs.Turns.{added_by, placed, faults_in, places_of, faults_noted, Stand, HasRisen}
+use Rattle.turnstile.specs.Turns.{added_by, placed, faults_in, places_of, faults_noted, Stand}
 use Rattle.turnstile.specs.Places.{AreAllOnce, longer, greater}
 use Rattle.turnstile.specs.Passes.{PassView}
 use Rattle.turnstile.specs.Rule.{is_pass}

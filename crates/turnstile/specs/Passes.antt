@@ -1,5 +1,5 @@
 -- What a pass knows, and what a turn, a split, a join and a meeting make of it. This project's own.
-use Rattle.std.specs.Prelude.{◌≡◌, ◌+◌, ◌-◌, ◌≤◌, ℕ, Bool, true, false, List, [], ◌++◌, Option, Some, length}
+use Rattle.std.specs.Prelude.{◌≡◌, ◌-◌, ◌≤◌, ℕ, Bool, true, false, List, [], ◌++◌, Option, Some, length}
 use mathlib.Core.List.{IsPrefix}
 use Rattle.atomic_table.specs.Seated.{TableId}
 use Rattle.turnstile.specs.declared.noted.Noted.{Noted}
@@ -60,20 +60,23 @@ module _ {I F N : Type 0} where
 abbrev pub IsSamePass : {I F N : Type 0} → PassView I F N → PassView I F N → Type 0
 IsSamePass p q = (q.turnstile ≡ p.turnstile) × (q.is_first ≡ p.is_first) × (q.out ≡ p.out) × (q.fixed ≡ p.fixed) × (q.opening ≡ p.opening)
 
--- One turn of a job, by which a pass p becomes q and the job j becomes k. The list at the turn begins with all that p
--- had seen and is no shorter than p knew, and the job ran on it. What the job's turns add is the end of the list that
--- q has seen, and they stand behind p's turns. The faults among them were counted, and all that q knows it has seen.
+-- One turn of a job, by which a pass p becomes q and the job j becomes k
 module _ {I F N J : Type 0} (adds : N → Option I) (is_fault : N → Bool) where
   pub record IsTurn (ran : J → F → List I → J → Type 0) (notes : J → List N) (j k : J) (p q : PassView I F N) : Type 0 where
+    -- the list at the turn begins with all that p had seen, and is no shorter than p knew
     pub before : List I
-    pub fixed : F
     pub begins : IsPrefix p.seen before
     pub no_shorter : p.known ≤ length before
+    -- the job ran on it
+    pub fixed : F
     pub fixed_is : p.fixed ≡ Some fixed
     pub ran_on : ran j fixed before k
+    -- q has seen it with what the job's turns add behind it, and knows of no more
     pub seen : q.seen ≡ before ++ added_by adds (notes k)
     pub known : q.known ≡ length q.seen
+    -- the job's turns stand behind p's
     pub turns : q.turns ≡ p.turns ++ placed adds (length before) (notes k)
+    -- the faults among them were counted
     pub no_fewer : p.faults ≤ q.faults
     pub counted : HasRisen (faults_in is_fault (notes k)) p.faults q.faults
     pub same : IsSamePass p q

@@ -1,5 +1,5 @@
 -- What each step tells its pass. Only private clauses cite this file.
-use Rattle.std.specs.Prelude.{◌≡◌, ◌⊎◌, ℕ, ◌+◌, ◌-◌, ◌*◌, ◌%◌, ◌^◌, ◌<◌, ◌≤◌, Bool, true, false, leb, List, [], ◌∷◌, ◌++◌, length, if◌then◌else◌, zero, suc, max, Option, Some, None}
+use Rattle.std.specs.Prelude.{◌≡◌, ℕ, ◌+◌, ◌-◌, ◌%◌, ◌^◌, ◌≤◌, List, [], ◌∷◌, ◌++◌, length, zero, suc, Option, Some, None}
 use mathlib.Core.List.{IsPrefix}
 use Rattle.turnstile.specs.Places.{longer, greater, AreOneList, AreDifferent}
 use Rattle.atomic_table.specs.Table.{Me, Step}

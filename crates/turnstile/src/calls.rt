@@ -19,7 +19,8 @@ use std::sync::Wait;
 impl<T: Counted + Drop> Turnstile<T> {
     /// A turnstile for this value, with the first pass. The value is given up where memory is wanting.
     pub fn new(alloc: Global, value: T) -> Result<(Turnstile<T>, Pass<T>), OutOfMemory>
-        ensures first { IfOk result (λ r. r.1 ≡ first_pass r.0 (T.items value) (T.fault_count value) (T.fixed value)) }
+        ensures first { IfOk result
+            (λ r. r.1 ≡ first_pass r.0 (T.items value) (T.fault_count value) (T.fixed value)) }
     {
         let mut words = [0; WORDS];
         words[FRONT] = value.count();
@@ -130,7 +131,8 @@ impl<T: Counted + Drop> Turnstile<T> {
         ensures known { pass.known ≡ length pass.seen }
         ensures fixed { pass.fixed ≡ Some (T.fixed result) }
         ensures faults { pass.faults ≤ T.fault_count result }
-        ensures counted { T.fault_count result < LAST_COUNT → faults_noted T.is_fault pass.turns ≤ T.fault_count result }
+        ensures counted { T.fault_count result < LAST_COUNT
+            → faults_noted T.is_fault pass.turns ≤ T.fault_count result }
         ensures own { AreAllOnce pass.opening (length pass.seen) (places_of T.adds pass.turns) }
         ensures stand { Stand T.adds pass.seen pass.turns }
     {

@@ -25,6 +25,7 @@ pub trait Job<T: Counted> {
         ensures fixed { T.fixed value.new ≡ T.fixed value.old }
         ensures no_fewer { T.fault_count value.old ≤ T.fault_count value.new }
         ensures one_at_most { T.fault_count value.new ≤ T.fault_count value.old + 1 }
-        ensures counted { HasRisen (faults_in T.is_fault (notes self.new)) (T.fault_count value.old) (T.fault_count value.new) }
+        ensures counted { HasRisen (faults_in T.is_fault (notes self.new))
+            (T.fault_count value.old) (T.fault_count value.new) }
         ensures ran { ran self.old (T.fixed value.old) (T.items value.old) self.new };
 }

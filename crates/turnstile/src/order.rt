@@ -10,7 +10,8 @@ pub struct Order<T> {
     of: PhantomData<T>,
 }
 
-impl<T: Counted> TableRule<Option<T>, SeatView<T::Item, T::Fixed, T::Turn>, Snapshot<T>> for Order<T> {
+impl<T: Counted> TableRule<Option<T>, SeatView<T::Item, T::Fixed, T::Turn>, Snapshot<T>>
+    for Order<T> {
     ghost use Rattle.turnstile.specs.Rule.{Kept, first_view};
 
     ghost holds = { λ _. Kept T.items T.fault_count T.fixed };

@@ -22,8 +22,8 @@ use std::alloc::Global;
 use std::marker::Model;
 use std::snapshot::Snapshot;
 
-/// A value that many threads share, one turn at a time. A contract sees only which turnstile it is.
-/// It may be shared by reference, or lie in an `Arc`.
+/// A value that many threads share, one turn at a time. A contract sees only which turnstile it is: all that is known
+/// of the value stands in the passes.
 #[derive(Drop)]
 pub struct Turnstile<T: Counted + Drop> {
     pub(crate) table: Table<
@@ -92,7 +92,12 @@ impl<T: Counted + Drop> Turnstile<T> {
 
     /// Gives the value back and serves the next ticket. The pass keeps the turns of the job.
     /// Answers which ticket was served.
-    pub(crate) fn serve<J: Job<T>, K: Notes<T::Turn>>(&self, seat: &mut TableSeat<T>, _job: &J, _at: u64) -> u64
+    pub(crate) fn serve<J: Job<T>, K: Notes<T::Turn>>(
+        &self,
+        seat: &mut TableSeat<T>,
+        _job: &J,
+        _at: u64,
+    ) -> u64
         requires turns { K.turns ≡ placed T.adds _at (J.notes _job.now) }
         requires seat { seat.old.table_id ≡ self.now }
         requires hand { (x : T) × InHand T.items T.fault_count T.fixed seat.old.me x [] 0 }

@@ -1,4 +1,4 @@
-use Rattle.std.proofs.Common.{◌≡◌, ◌<◌, ◌≤◌, ◌⊎◌, ap, refl, sym, ◌∙◌, arith, ◌+◌, ◌-◌, ◌%◌, ◌^◌, [], ◌∷◌, ◌++◌, List, ℕ, length, subst, Option, Some, None, length-append, append-nil, ⊎_elim, inl, inr}
+use Rattle.std.proofs.Common.{sym, ◌∙◌, arith}
 use Rattle.turnstile.proofs.Joining.{joins}
 use Rattle.turnstile.proofs.turnstile.Turnstile.merge.Goals as goal
 

@@ -1,25 +1,25 @@
-use Rattle.std.proofs.Common.{◌≡◌, ◌<◌, ◌≤◌, ◌⊎◌, ap, refl, sym, ◌∙◌, arith, ◌+◌, ◌-◌, ◌%◌, ◌^◌, [], ◌∷◌, ◌++◌, List, ℕ, length, subst, Option, Some, None, length-append, append-nil, ⊎_elim, inl, inr}
-use Rattle.turnstile.specs.Turns.{added_by}
-use Rattle.turnstile.proofs.Turning.{after_run, raised_in_hand, counted_in_hand, ends_turned}
+use Rattle.std.proofs.Common.{refl, arith, ◌-◌, [], subst}
+use Rattle.turnstile.specs.Turns.{added_by, faults_in}
+use Rattle.turnstile.proofs.Turning.{after_run, raised_in_hand, counted_in_hand, ends_turned, rise_of}
 use Rattle.turnstile.proofs.turnstile.Turnstile.run_in.Goals as goal
 
 pub raise_all-requires-clause-hand : goal.raise_all-requires-clause-hand
 raise_all-requires-clause-hand g c =
     let a = after_run g.T.Counted.items g.T.Counted.fault_count g.T.Counted.fixed c.requires.hand.1 c.take_out-value.ensures.value c.take_out-value.ensures.left c.put_in.ensures.value c.of-shown.ensures c.run.ensures.items c.run.ensures.fixed c.run.ensures.no_fewer
-        c.count-before.ensures.items c.count.ensures.items c.faults-faults.ensures.faults c.faults.ensures.faults (let big = c.count.type_inv in omega arith) (let big = c.faults.type_inv in omega arith) in
+    c.count-before.ensures.items c.count.ensures.items c.faults-faults.ensures.faults c.faults.ensures.faults (let big = c.count.type_inv in omega arith) (let big = c.faults.type_inv in omega arith) in
     (added_by g.T.Counted.adds (g.J.Job.notes c.run.new.self), c.faults.result - c.faults-faults.result, a.hand, a.count)
 
 pub count_all-requires-clause-hand : goal.count_all-requires-clause-hand
 count_all-requires-clause-hand g c =
     let a = after_run g.T.Counted.items g.T.Counted.fault_count g.T.Counted.fixed c.requires.hand.1 c.take_out-value.ensures.value c.take_out-value.ensures.left c.put_in.ensures.value c.of-shown.ensures c.run.ensures.items c.run.ensures.fixed c.run.ensures.no_fewer
-        c.count-before.ensures.items c.count.ensures.items c.faults-faults.ensures.faults c.faults.ensures.faults (let big = c.count.type_inv in omega arith) (let big = c.faults.type_inv in omega arith) in
+    c.count-before.ensures.items c.count.ensures.items c.faults-faults.ensures.faults c.faults.ensures.faults (let big = c.count.type_inv in omega arith) (let big = c.faults.type_inv in omega arith) in
     let e = c.raise_all.ensures.raised _ a.count a.hand.grown a.known in
     (c.of-shown.result.value, [], raised_in_hand g.T.Counted.items g.T.Counted.fault_count g.T.Counted.fixed _ _ _ _ _ a.hand e)
 
 pub serve-served-requires-clause-hand : goal.serve-served-requires-clause-hand
 serve-served-requires-clause-hand g c =
     let a = after_run g.T.Counted.items g.T.Counted.fault_count g.T.Counted.fixed c.requires.hand.1 c.take_out-value.ensures.value c.take_out-value.ensures.left c.put_in.ensures.value c.of-shown.ensures c.run.ensures.items c.run.ensures.fixed c.run.ensures.no_fewer
-        c.count-before.ensures.items c.count.ensures.items c.faults-faults.ensures.faults c.faults.ensures.faults (let big = c.count.type_inv in omega arith) (let big = c.faults.type_inv in omega arith) in
+    c.count-before.ensures.items c.count.ensures.items c.faults-faults.ensures.faults c.faults.ensures.faults (let big = c.count.type_inv in omega arith) (let big = c.faults.type_inv in omega arith) in
     let e = c.raise_all.ensures.raised _ a.count a.hand.grown a.known in
     (c.of-shown.result.value, counted_in_hand g.T.Counted.items g.T.Counted.fault_count g.T.Counted.fixed _ _ _ _ (raised_in_hand g.T.Counted.items g.T.Counted.fault_count g.T.Counted.fixed _ _ _ _ _ a.hand e) c.count_all.ensures.counted)
 
@@ -30,18 +30,14 @@ returns-clause-ran g c =
     let ts = g.J.Job.notes c.run.new.self in
     let rise = c.faults.result - c.faults-faults.result in
     let a = after_run g.T.Counted.items g.T.Counted.fault_count g.T.Counted.fixed c.requires.hand.1 c.take_out-value.ensures.value c.take_out-value.ensures.left c.put_in.ensures.value c.of-shown.ensures c.run.ensures.items c.run.ensures.fixed c.run.ensures.no_fewer
-        c.count-before.ensures.items c.count.ensures.items c.faults-faults.ensures.faults c.faults.ensures.faults (let big = c.count.type_inv in omega arith) (let big = c.faults.type_inv in omega arith) in
+    c.count-before.ensures.items c.count.ensures.items c.faults-faults.ensures.faults c.faults.ensures.faults (let big = c.count.type_inv in omega arith) (let big = c.faults.type_inv in omega arith) in
     let e = c.raise_all.ensures.raised _ a.count a.hand.grown a.known in
-    let f₀ = c.faults-faults.ensures.faults in
-    let f₁ = c.faults.ensures.faults in
-    let q = a.begun.faults in
-    let more = c.run.ensures.no_fewer in
     record {
       fixed = g.T.Counted.fixed x;
       rise = rise;
       fixed_is = a.begun.fixed_is;
       ran_on = subst (λ l. g.J.Job.ran c.args.job.now (g.T.Counted.fixed x) l c.run.new.self) a.begun.list c.run.ensures.ran;
-      counted = ⊎_elim (λ k. inl (omega arith)) (λ k. inr (omega arith)) c.run.ensures.counted;
-      view = ends_turned g.T.Counted.adds m.0 c.put_in.new.seat.me c.raise_all.new.seat.me c.count_all.new.seat.me c.wake_next.new.seat.me (added_by g.T.Counted.adds ts) rise c.count-before.result ts
-          a.same e c.count_all.ensures.counted (c.wake_next.ensures.same ∙ c.serve-served.ensures.noted) (c.count-before.ensures.items ∙ ap length a.begun.list) refl;
+      counted = rise_of (faults_in g.T.Counted.is_fault ts) (g.T.Counted.fault_count x) (g.T.Counted.fault_count c.run.new.value) c.faults-faults.result c.faults.result m.0.faults c.faults-faults.ensures.faults c.faults.ensures.faults a.begun.faults c.run.ensures.no_fewer c.run.ensures.counted;
+      view = ends_turned g.T.Counted.adds m.0 c.put_in.new.seat.me c.raise_all.new.seat.me c.count_all.new.seat.me c.serve-served.new.seat.me c.wake_next.new.seat.me (g.T.Counted.items x) (added_by g.T.Counted.adds ts) rise c.count-before.result ts
+          a.same e c.count_all.ensures.counted c.serve-served.ensures.noted c.wake_next.ensures.same c.count-before.ensures.items a.begun.list refl;
     }

@@ -1,4 +1,4 @@
-use Rattle.std.proofs.Common.{◌≡◌, ◌<◌, ◌≤◌, ◌⊎◌, ap, refl, sym, ◌∙◌, arith, ◌+◌, ◌-◌, ◌%◌, ◌^◌, [], ◌∷◌, ◌++◌, List, ℕ, length, subst, Option, Some, None, length-append, append-nil, ⊎_elim, inl, inr}
+use Rattle.std.proofs.Common.{sym, ◌∙◌, arith, append-nil}
 use Rattle.turnstile.proofs.Holding.{serves}
 use Rattle.turnstile.proofs.turnstile.Turnstile.serve.Goals as goal
 

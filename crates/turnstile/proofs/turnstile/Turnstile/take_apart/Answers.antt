@@ -1,4 +1,4 @@
-use Rattle.std.proofs.Common.{◌≡◌, ◌<◌, ◌≤◌, ◌⊎◌, ap, refl, sym, ◌∙◌, arith, ◌+◌, ◌-◌, ◌%◌, ◌^◌, [], ◌∷◌, ◌++◌, List, ℕ, length, subst, Option, Some, None, length-append, append-nil, ⊎_elim, inl, inr}
+use Rattle.std.proofs.Common.{◌≡◌, refl, sym, ◌∙◌, subst}
 use Rattle.std.specs.Prelude.{IsSome}
 use Rattle.turnstile.specs.Hand.{IsAllOf}
 use Rattle.turnstile.proofs.Holding.{some_same}

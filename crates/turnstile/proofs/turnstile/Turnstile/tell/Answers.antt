@@ -1,8 +1,6 @@
-use Rattle.std.proofs.Common.{◌≡◌, ◌<◌, ◌≤◌, ◌⊎◌, ap, refl, sym, ◌∙◌, arith, ◌+◌, ◌-◌, ◌%◌, ◌^◌, [], ◌∷◌, ◌++◌, List, ℕ, length, subst, Option, Some, None, length-append, append-nil, ⊎_elim, inl, inr}
+use Rattle.std.proofs.Common.{◌≡◌, ap, sym, ◌∙◌, arith}
 use Rattle.turnstile.specs.Rule.{is_pass}
-use Rattle.turnstile.specs.declared.view.Role.{Role}
-use Rattle.turnstile.specs.declared.view.Role.TheVariants.{First, Parted, Brief, Spent}
-use Rattle.turnstile.specs.Steps.{brief, met}
+use Rattle.turnstile.specs.declared.view.Role.TheVariants.{Brief}
 use Rattle.turnstile.proofs.Parts.{role_rank}
 use Rattle.turnstile.proofs.Joining.{splits_brief, meets}
 use Rattle.turnstile.proofs.turnstile.Turnstile.tell.Goals as goal

@@ -1,7 +1,6 @@
-use Rattle.std.proofs.Common.{◌≡◌, ◌<◌, ◌≤◌, ◌⊎◌, ap, refl, sym, ◌∙◌, arith, ◌+◌, ◌-◌, ◌%◌, ◌^◌, [], ◌∷◌, ◌++◌, List, ℕ, length, subst, Option, Some, None, length-append, append-nil, ⊎_elim, inl, inr}
+use Rattle.std.proofs.Common.{◌∙◌, subst}
 use Rattle.turnstile.specs.Passes.{IsTurn}
 use Rattle.turnstile.specs.Hand.{shown}
-use Rattle.turnstile.proofs.Turning.{took_begins}
 use Rattle.turnstile.proofs.Resting.{seat_turn, rests_turned, is_turn}
 use Rattle.turnstile.proofs.turnstile.Turnstile.turn.Goals as goal
 

@@ -1,4 +1,4 @@
-use Rattle.std.proofs.Common.{◌≡◌, ◌<◌, ◌≤◌, ◌⊎◌, ap, refl, sym, ◌∙◌, arith, ◌+◌, ◌-◌, ◌%◌, ◌^◌, [], ◌∷◌, ◌++◌, List, ℕ, length, subst, Option, Some, None, length-append, append-nil, ⊎_elim, inl, inr}
+use Rattle.std.proofs.Common.{sym, List, subst, Option}
 use Rattle.atomic_table.specs.Table.{opening}
 use Rattle.turnstile.specs.Rule.{Kept, first_view}
 use Rattle.turnstile.proofs.Closing.{opens}
