@@ -16,4 +16,5 @@ mod values;
 
 pub use expand::{expand_markup, expand_url};
 pub use law::piece_by_piece;
+pub use place::push_percent_encoded;
 pub use values::Values;

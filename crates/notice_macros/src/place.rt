@@ -1,6 +1,7 @@
 //! Where a template is from, and how a text is written there.
 ghost use Rattle.std.specs.Prelude.{◌≡◌, ◌++◌, OnOk, string_bytes};
-ghost use Rattle.notice_macros.specs.Escaped.{formed, placed};
+ghost use Rattle.std.specs.List.{flat_map};
+ghost use Rattle.notice_macros.specs.Escaped.{formed, placed, url_byte};
 
 use crate::macros::Form;
 use adx_units::OutOfMemory;
@@ -26,9 +27,10 @@ const RESERVED: AsciiSet = ascii_set!(
         .remove(b'~')
 );
 
-/// Puts a text at the end, with the escapes that a URL asks for.
-fn push_escaped(out: &mut String, text: &str) -> Result<(), OutOfMemory>
-    ensures { OnOk result (string_bytes out.new ≡ string_bytes out.old ++ placed Place.Url text.now) }
+/// Puts a text at the end, percent-encoded (RFC 3986, section 2): every byte but letters, digits, `-`, `.`,
+/// `_` and `~` becomes `%` and two upper-case hexadecimal digits.
+pub fn push_percent_encoded(out: &mut String, text: &str) -> Result<(), OutOfMemory>
+    ensures { OnOk result (string_bytes out.new ≡ string_bytes out.old ++ flat_map url_byte text.now) }
 {
     percent_encode(text.as_bytes(), RESERVED).append_to(out)?;
     Ok(())
@@ -39,7 +41,7 @@ fn push_placed(out: &mut String, place: Place, text: &str) -> Result<(), OutOfMe
     ensures { OnOk result (string_bytes out.new ≡ string_bytes out.old ++ placed place text.now) }
 {
     match place {
-        Place::Url => push_escaped(out, text)?,
+        Place::Url => push_percent_encoded(out, text)?,
         Place::Markup => out.push_str(text)?,
     }
     Ok(())
@@ -52,7 +54,7 @@ fn push_coded(alloc: Global, out: &mut String, place: Place, text: &str) -> Resu
     match place {
         Place::Url => {
             let coded = STANDARD.encode(alloc, text.as_bytes())?;
-            push_escaped(out, coded.as_str())?;
+            push_percent_encoded(out, coded.as_str())?;
         }
         Place::Markup => STANDARD.encode_string(text.as_bytes(), out)?,
     }
