@@ -1,0 +1,5 @@
+pub mod FieldLists
+pub mod Digits
+pub mod Cuts
+pub mod Hosts
+pub mod Forms

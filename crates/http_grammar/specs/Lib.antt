@@ -1,0 +1,5 @@
+pub mod Heads
+pub mod Fields
+pub mod Found
+pub mod Judged
+pub mod Requests
