@@ -1,0 +1,5 @@
+pub mod Passed
+pub mod Chains
+pub mod Seats
+pub mod Seen
+pub mod Counts

@@ -1,0 +1,14 @@
+use Rattle.tree_view.proofs.Meeting.{met_step}
+use Rattle.rtb_response.proofs.answer_reader.seat_members.Goals as goal
+
+pub loop-member-preserved : goal.loop-member-preserved
+loop-member-preserved c =
+    let before = c.loop-member.invariant in
+    let i = c.loop-member.member-index in
+    let items = c.members_in-member-items.result.now in
+    let low = c.loop-member-test.true in
+    record {
+      seat = met_step _ _ _ _ items i _ low c.member-item.is c.met-seat.ensures before.seat;
+      group = met_step _ _ _ _ items i _ low c.member-item.is c.met-group.ensures before.group;
+      bid = met_step _ _ _ _ items i _ low c.member-item.is c.met-bid.ensures before.bid;
+    }

@@ -1,0 +1,9 @@
+pub mod Prices
+pub mod Bodies
+pub mod Bids
+pub mod Answers
+pub mod Seen
+pub mod Faults
+pub mod Notices
+pub mod ExchangeAnswer
+pub mod Parts
