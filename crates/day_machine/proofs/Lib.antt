@@ -1,0 +1,9 @@
+pub mod Pointed
+pub mod LedgerKept
+pub mod DayKept
+pub mod SalesKept
+pub mod Texts
+pub mod AskKept
+pub mod IdPlaces
+pub mod Planning
+pub mod Settled

@@ -1,0 +1,147 @@
+-- The kept texts that stay, how many and how long they are.
+use Rattle.std.proofs.Common.{◌≡◌, ◌⊎◌, ℕ, zero, suc, ◌+◌, ◌<◌, ◌≤◌, List, [], ◌∷◌, ◌++◌, map, length, set, take, drop, append_assoc, get_or, Bool, true, false, cond, not, ◌||◌, leb, eqb, refl, sym, ap, ◌∙◌, subst, inl, inr, arith, Option, Some, None, slice_get}
+use Rattle.std.specs.List.{All, AllPairs, Any, cons_option, filter}
+use Rattle.std.specs.Option.{option_map_or}
+use Rattle.std.proofs.lemmas.Bool.{and_parts, cases_lt, eqb-true, leb-true}
+use Rattle.day_machine.proofs.LedgerKept.{get_or_default}
+use Rattle.std.proofs.Math.ListN.{drop_of_length-le}
+use Rattle.std.proofs.Math.Seq.{drop-cons}
+use Rattle.std.proofs.lemmas.List.{append-nil, get_or_at, length-map, length-take, map-append, set_at, take_all, take_at, take_more}
+use Rattle.std.proofs.lemmas.List.Elements.{All-cons, All-from_get_or, All-get_or, All-nil}
+use Rattle.adx_units.specs.declared.offer.Offer.{Offer}
+use Rattle.allocator_core.specs.declared.reason.TheConstants.{AWARDED}
+use Rattle.day_rules.specs.declared.ask.Ask.{Ask}
+use Rattle.day_rules.specs.declared.ask.Kept.{Kept}
+use Rattle.day_rules.specs.declared.entry.Entry.{Entry}
+use Rattle.day_rules.specs.declared.limits.TheConstants.{MAX_KEPT}
+use Rattle.day_rules.specs.Asks.{AreKeptTexts, AreTextsOf, IsWellFormed, is_empty, is_winners, may_be_told, settled, settled_kept, stays, texts_of_loss}
+use Rattle.day_rules.specs.Books.{text_size}
+use Rattle.day_rules.specs.Terms.{Terms}
+use Rattle.day_machine.specs.KeptTexts.{IsShort, trimmed}
+use Rattle.day_machine.specs.KeptTexts as texts
+
+-- the texts that stay are those of the bids that have any, each trimmed
+stays_one : (offers : List Offer) (k : Kept) (wins told : Bool) → is_winners offers k ≡ wins → may_be_told k ≡ told → (rest : List Kept)
+    → cons_option (stays offers k) rest ≡ cond (is_winners offers k || may_be_told k) (trimmed offers k ∷ rest) rest
+stays_one offers k true told w t rest = rw w refl
+stays_one offers k false true w t rest = rw (w, t) refl
+stays_one offers k false false w t rest = rw (w, t) refl
+
+map_cond : (f : Kept → Kept) (b : Bool) (k : Kept) (ks : List Kept) → map f (cond b (k ∷ ks) ks) ≡ cond b (f k ∷ map f ks) (map f ks)
+map_cond f true k ks = refl
+map_cond f false k ks = refl
+
+pub kept_by_two : (offers : List Offer) (kept : List Kept) → map (trimmed offers) (filter (texts.stays offers) kept) ≡ settled_kept offers kept
+kept_by_two offers [] = refl
+kept_by_two offers (k ∷ ks) =
+    map_cond (trimmed offers) (texts.stays offers k) k (filter (texts.stays offers) ks)
+    ∙ (ap (λ (t : List Kept). cond (texts.stays offers k) (trimmed offers k ∷ t) t) (kept_by_two offers ks)
+    ∙ sym (stays_one offers k (is_winners offers k) (may_be_told k) refl refl (settled_kept offers ks)))
+
+-- each is a winner's, or short
+abbrev IsWinnersOrShort : List Offer → Kept → Type 0
+IsWinnersOrShort offers k = (is_winners offers k ≡ true) ⊎ IsShort k
+
+shorter : (k : Kept) → text_size (texts_of_loss k) ≤ text_size k
+shorter k = omega arith
+
+told_short : (k : Kept) → may_be_told k ≡ true → IsShort (texts_of_loss k)
+told_short k h =
+    let fits : text_size k ≤ MAX_KEPT = leb-true (text_size k) MAX_KEPT (and_parts (not (is_empty k.lurl)) (leb (text_size k) MAX_KEPT) h).1 in
+    at_most (text_size (texts_of_loss k)) (text_size k) MAX_KEPT (shorter k) fits
+  where
+    at_most : (a b c : ℕ) → a ≤ b → b ≤ c → a ≤ c
+    at_most a b c p q = omega arith
+
+one_or_short : (offers : List Offer) (k : Kept) (rest : List Kept) (wins told : Bool) → is_winners offers k ≡ wins → may_be_told k ≡ told → All (IsWinnersOrShort offers) rest → All (IsWinnersOrShort offers) (cons_option (stays offers k) rest)
+one_or_short offers k rest true told w t all = rw w (All-cons (IsWinnersOrShort offers) k rest (inl w) all)
+one_or_short offers k rest false true w t all = rw (w, t) (All-cons (IsWinnersOrShort offers) (texts_of_loss k) rest (inr (told_short k t)) all)
+one_or_short offers k rest false false w t all = rw (w, t) all
+
+winners_or_short : (offers : List Offer) (kept : List Kept) → All (IsWinnersOrShort offers) (settled_kept offers kept)
+winners_or_short offers [] = All-nil (IsWinnersOrShort offers)
+winners_or_short offers (k ∷ ks) = one_or_short offers k (settled_kept offers ks) (is_winners offers k) (may_be_told k) refl refl (winners_or_short offers ks)
+
+abbrev no_texts : Kept
+no_texts = record { bid = 0; seat = []; bidid = []; adid = []; nurl = []; burl = []; lurl = []; body = [] }
+
+-- the texts of a winner are short, since those that it needs are
+awarded_at : (offers : List Offer) (k : Kept) (o : Option Offer) → slice_get offers k.bid ≡ o → option_map_or (λ o. eqb o.reason AWARDED) o false ≡ true → (x : Offer) × (slice_get offers k.bid ≡ Some x) × (x.reason ≡ AWARDED)
+awarded_at offers k None at h = cc
+awarded_at offers k (Some x) at h = (x, at, eqb-true x.reason AWARDED h)
+
+same_text : (kept : List Kept) (i : ℕ) → AllPairs (λ k l. k.bid < l.bid) kept → i < length kept → Any (AreTextsOf (get_or kept i no_texts).bid) kept → IsShort (get_or kept i no_texts)
+same_text kept i ordered within there =
+    let j : ℕ = there.0 in
+    let l : Kept = there.1 in
+    elim (cases_lt i j) [
+      | inl less ↦
+          let before : (get_or kept i l).bid < (get_or kept j l).bid = ordered i j l less there.2 in
+          absurd (omega (arith, before, ap (λ (k : Kept). k.bid) there.3, there.4.0, ap (λ (k : Kept). k.bid) (get_or_default kept i l no_texts within)))
+      | inr more ↦ elim (cases_lt j i) [
+        | inl less ↦
+            let before : (get_or kept j l).bid < (get_or kept i l).bid = ordered j i l less within in
+            absurd (omega (arith, before, ap (λ (k : Kept). k.bid) there.3, there.4.0, ap (λ (k : Kept). k.bid) (get_or_default kept i l no_texts within)))
+        | inr less ↦
+            let same : j ≡ i = omega arith in
+            let is : get_or kept i no_texts ≡ l = get_or_default kept i no_texts l within ∙ (ap (λ (m : ℕ). get_or kept m l) (sym same) ∙ there.3) in
+            subst IsShort (sym is) there.4.1
+      ]
+    ]
+
+pub all_short : (offers : List Offer) (kept old : List Kept) → kept ≡ settled_kept offers old → AreKeptTexts offers kept → All IsShort kept
+all_short offers kept old is are =
+    All-from_get_or IsShort kept no_texts (λ i within.
+    let each : All (IsWinnersOrShort offers) kept = subst (All (IsWinnersOrShort offers)) (sym is) (winners_or_short offers old) in
+    let here : IsWinnersOrShort offers (get_or kept i no_texts) = All-get_or (IsWinnersOrShort offers) kept i no_texts within each in
+    elim here [
+      | inl wins ↦
+          let k : Kept = get_or kept i no_texts in
+          let found = awarded_at offers k (slice_get offers k.bid) refl wins in
+          same_text kept i are.ordered within (are.needed k.bid found.0 found.1 (inl found.2))
+      | inr short ↦ short
+    ])
+
+-- there is at most one text for each offer
+rising : (kept : List Kept) (d : Kept) (i : ℕ) → AllPairs (λ k l. k.bid < l.bid) kept → i < length kept → i ≤ (get_or kept i d).bid
+rising kept d zero ordered within = omega arith
+rising kept d (suc i) ordered within =
+    let before : (get_or kept i d).bid < (get_or kept (suc i) d).bid = ordered i (suc i) d (omega arith) within in
+    let rest : i ≤ (get_or kept i d).bid = rising kept d i ordered (omega arith) in
+    omega arith
+
+pub few_texts : (offers : List Offer) (kept : List Kept) → AreKeptTexts offers kept → length kept ≤ length offers
+few_texts offers [] are = omega arith
+few_texts offers (k ∷ ks) are =
+    let last : ℕ = length ks in
+    let low : last ≤ (get_or (k ∷ ks) last k).bid = rising (k ∷ ks) k last are.ordered (omega arith) in
+    let high : (get_or (k ∷ ks) last k).bid < length offers = All-get_or (λ (l : Kept). l.bid < length offers) (k ∷ ks) last k (omega arith) are.placed in
+    omega arith
+
+-- the texts of a settled ask
+pub settled_short : (campaigns : ℕ) (terms : Terms) (history : List Entry) (old a : Ask) → settled terms history old ≡ a → IsWellFormed campaigns a → All IsShort a.kept
+settled_short campaigns terms history old a is formed =
+    all_short a.offers a.kept old.kept (sym (ap (λ (b : Ask). b.kept) is) ∙ ap (λ (os : List Offer). settled_kept os old.kept) (ap (λ (b : Ask). b.offers) is)) formed.kept
+
+-- a list that is mapped item by item
+pub map_step : {X : Type 0} (f : X → X) (items start : List X) (i : ℕ) (x y : X) → items ≡ map f (take i start) ++ drop i start → i < length start → y ≡ f (get_or items i x) → set items i y ≡ map f (take (i + 1) start) ++ drop (i + 1) start
+map_step {X} f items start i x y is within made =
+    let front : List X = map f (take i start) in
+    let here : X = get_or start i x in
+    let long : length front ≡ i = omega (arith, length-map (take i start) f, length-take i start) in
+    let next : suc i ≡ i + 1 = omega arith in
+    let split : items ≡ front ++ here ∷ drop (i + 1) start = is ∙ ap (λ (t : List X). front ++ t) (drop-cons start i x within ∙ ap (λ (k : ℕ). here ∷ drop k start) next) in
+    let value : y ≡ f here = made ∙ ap f (ap (λ (t : List X). get_or t i x) split ∙ get_or_at front here (drop (i + 1) start) x i long) in
+    ap (λ (t : List X). set t i y) split
+    ∙ (set_at front here (drop (i + 1) start) y i long
+    ∙ (ap (λ (z : X). front ++ z ∷ drop (i + 1) start) value
+    ∙ (sym (append_assoc front (f here ∷ []) (drop (i + 1) start))
+    ∙ ap (λ (t : List X). t ++ drop (i + 1) start) (sym (ap (map f) (take_more start i x within) ∙ map-append f (take i start) (here ∷ []))))))
+
+pub whole : {X : Type 0} (items old : List X) (n : ℕ) → length items ≡ length old → n ≡ length old → take n (items ++ drop (length items) old) ≡ items
+whole items old n same long = take_at items (drop (length items) old) n (omega arith)
+
+pub map_done : {X : Type 0} (f : X → X) (items start old : List X) (i n : ℕ) → items ≡ map f (take i start) ++ drop i start → length start ≤ i → start ≡ old → n ≡ length old → take n (items ++ drop (length items) old) ≡ map f start
+map_done {X} f items start old i n is past same long =
+    let all : items ≡ map f start = is ∙ (ap (λ (t : List X). map f t ++ drop i start) (take_all i start past) ∙ (ap (λ (t : List X). map f start ++ t) (drop_of_length-le start {i = i} past) ∙ append-nil (map f start))) in
+    whole items old n (ap length all ∙ (length-map start f ∙ ap length same)) long ∙ all

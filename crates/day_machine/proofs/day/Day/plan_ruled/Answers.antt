@@ -1,0 +1,51 @@
+use Rattle.std.proofs.Common.{◌≡◌, ◌≤◌, List, ap, sym, ◌∙◌, subst, arith, Some, slice_get}
+use Rattle.notice_book.specs.declared.award.Award.{Award}
+use Rattle.notice_book.specs.declared.ruling.Ruling.{Ruling}
+use Rattle.notice_book.specs.AwardList.{Counts}
+use Rattle.notice_book.specs.Rules.{ruling_of}
+use Rattle.notice_book.proofs.Counted.{counts_at}
+use Rattle.day_rules.specs.declared.answer.Answer.{Answer}
+use Rattle.day_rules.specs.declared.entry.Entry.{Entry}
+use Rattle.day_rules.specs.DayState.{DayState, HasRoomFor}
+use Rattle.day_rules.specs.Books.{awards_of, entries_to_come}
+use Rattle.day_rules.specs.Legal.{MayFollow}
+use Rattle.day_rules.specs.Replies.{notice_place, ruled_reply}
+use Rattle.day_rules.specs.Entries.{notice_of}
+use Rattle.day_rules.proofs.Following.{notice_may_follow}
+use Rattle.day_rules.proofs.Noticing.{repeat_stands}
+use Rattle.day_rules.proofs.Room.{notice_to_come}
+use Rattle.day_machine.proofs.DayKept.{notice_room}
+use Rattle.day_machine.proofs.day.Day.plan_ruled.Goals as goal
+
+pub returns-in-Counted-clause-legal : goal.returns-in-Counted-clause-legal
+returns-in-Counted-clause-legal c =
+    let h : List Entry = c.args.self.now.history in
+    let awards : c.sold.result.now.awards ≡ awards_of h = c.sold.ensures ∙ (c.self.invariant.awards_are ∙ ap (λ (s : DayState). awards_of s.history) c.self.view_is) in
+    let counted : Counts c.args.kind c.args.n (awards_of h) =
+    counts_at c.args.kind c.args.n (awards_of h) c.requires (λ w at. c.in-Counted.ensures w (ap (λ (ws : List Award). slice_get ws c.args.n) awards ∙ at)) in
+    subst (λ (e : Entry). MayFollow c.args.self.now.terms h e) (sym c.entry_of.ensures) (notice_may_follow c.args.self.now.terms h c.args.kind c.args.n counted)
+
+pub returns-in-Counted-clause-room : goal.returns-in-Counted-clause-room
+returns-in-Counted-clause-room c =
+    let h : List Entry = c.args.self.now.history in
+    let hist = ap (λ (s : DayState). awards_of s.history) c.self.view_is in
+    let awards : c.sold.result.now.awards ≡ awards_of h = c.sold.ensures ∙ (c.self.invariant.awards_are ∙ hist) in
+    let counted : Counts c.args.kind c.args.n (awards_of h) =
+    counts_at c.args.kind c.args.n (awards_of h) c.requires (λ w at. c.in-Counted.ensures w (ap (λ (ws : List Award). slice_get ws c.args.n) awards ∙ at)) in
+    let some : 1 ≤ c.args.self.now.room.entries =
+    omega (arith, notice_to_come c.args.kind c.args.n (awards_of h) counted, c.self.invariant.to_come, ap entries_to_come hist, ap (λ (s : DayState). s.room.entries) c.self.view_is) in
+    subst (λ (e : Entry). HasRoomFor c.args.self.now e) (sym c.entry_of.ensures) (notice_room c.args.kind c.args.n c.args.self.now some)
+
+pub returns-in-Repeat-clause-answer : goal.returns-in-Repeat-clause-answer
+returns-in-Repeat-clause-answer c = λ w at.
+    let h : List Entry = c.self.inside.history.items in
+    let hist = ap (λ (s : DayState). s.history) c.self.view_is in
+    let awards : c.sold.result.now.awards ≡ awards_of c.args.self.now.history = c.sold.ensures ∙ (c.self.invariant.awards_are ∙ ap awards_of hist) in
+    let here : slice_get (awards_of h) c.args.n ≡ Some w = ap (λ (es : List Entry). slice_get (awards_of es) c.args.n) hist ∙ at in
+    let repeat : Ruling.Repeat ≡ ruling_of c.args.kind w = c.in-Repeat.ensures w (ap (λ (ws : List Award). slice_get ws c.args.n) awards ∙ at) in
+    let place : c.from-entry.result ≡ notice_place c.args.self.now.history (notice_of c.args.kind c.args.n) =
+    c.from-entry.ensures
+    ∙ (c.place.ensures
+    ∙ (c.self.invariant.places_are c.args.kind c.args.n (repeat_stands _ h c.args.kind c.args.n w c.self.invariant.day.legal here (sym repeat))
+    ∙ ap (λ (es : List Entry). notice_place es (notice_of c.args.kind c.args.n)) hist)) in
+    ap Answer.Repeat place ∙ ap (λ (r : Ruling). (ruled_reply c.args.self.now.history c.args.kind c.args.n r).answer) repeat

@@ -1,0 +1,7 @@
+pub mod LedgerState
+pub mod Moved
+pub mod DayFields
+pub mod Sums
+pub mod KeptTexts
+pub mod Selling
+pub mod Answered

@@ -1,0 +1,387 @@
+//! One serving day.
+ghost use Rattle.std.specs.Prelude.{◌≡◌, ◌==◌, ◌≢◌, ◌∷◌, ◌++◌, ◌^◌, ◌<◌, ◌≤◌, ◌↔◌, [], None, length, IfOk, IfSome, IsTrue, OnOk, slice_get, Some};
+ghost use Rattle.std.specs.List.{list_any};
+ghost use Rattle.allocator_core.specs.declared.reason.TheConstants.{AWARDED as AWARDED_MARK};
+ghost use Rattle.notice_book.specs.AwardList.{Counts};
+ghost use Rattle.notice_book.specs.declared.award.Award.{Award as AwardValue};
+ghost use Rattle.day_rules.specs.Asks.{IsUndecided, IsWellFormed, settled};
+ghost use Rattle.day_rules.specs.Books.{accounts_in, awards_of, sales_of};
+ghost use Rattle.day_rules.specs.DayState.{HasRoomFor, HasRoomForAsk};
+ghost use Rattle.day_rules.specs.Entries.{entry_of_notice};
+ghost use Rattle.day_rules.specs.Legal.{AskMayFollow, ExpireMayFollow, MayFollow};
+ghost use Rattle.day_rules.specs.Replies.{ask_of, ask_reply, notice_reply, ruled_reply, sale_reply, seen_in, settled_reply, tick_reply};
+ghost use Rattle.notice_book.specs.Rules.{ruling_of};
+ghost use Rattle.day_rules.specs.Terms.{AreTerms, budgets_after, terms_of};
+ghost use Rattle.day_machine.specs.Answered.{IsReplyIn};
+
+use crate::ledger::Ledger;
+use crate::totals::Totals;
+use crate::{ids, kept, sales, totals};
+use adx_units::{Offer, OutOfMemory, Sequence, Units};
+use allocator_core::AWARDED;
+use campaign_book::Book;
+use day_rules::{Answer, Ask, DayLimits, Entry, Seen, Which};
+use indexmap::IndexMap;
+use notice_book::{Awards, NoticeKind, Ruling};
+use std::alloc::Global;
+use std::marker::Model;
+
+/// One serving day: what it was opened with, and its history. A contract sees both, and what there is
+/// memory for.
+#[derive(Drop)]
+pub struct Day {
+    alloc: Global,
+    limits: DayLimits,
+    history: Vec<Entry>,
+    ledger: Ledger,
+    ids: IndexMap<String, u32>,
+    totals: Totals,
+}
+
+impl Model for Day {
+    ghost use Rattle.std.specs.Prelude.{vec_len, vec_capacity, ◌-◌};
+    ghost use Rattle.day_rules.specs.DayState.{DayState, next_id};
+    ghost use Rattle.day_rules.specs.Terms.{terms_of};
+    ghost use Rattle.day_machine.specs.DayFields.{AreFields, id_entries};
+
+    ghost Value = { DayState };
+
+    ghost view = { λ d. record {
+      terms = terms_of d.ledger.budgets d.limits;
+      history = d.history.items;
+      room = record {
+        entries = vec_capacity d.history - vec_len d.history;
+        awards = d.ledger.room;
+        prepared = next_id d.totals.asks (vec_len d.history) (id_entries d.ids);
+      };
+    } };
+
+    ghost invariant = { λ d. AreFields (terms_of d.ledger.budgets d.limits) d.history.items (vec_capacity d.history - vec_len d.history) d.ledger (id_entries d.ids) d.totals };
+}
+
+/// The refusal of an ask that would pass a limit.
+fn full(which: Which, count: u64) -> (Answer, Option<Entry>)
+    ensures answer { result.0 ≡ Answer.DayFull which count }
+    ensures entry { result.1 ≡ None }
+{
+    (Answer::DayFull { which, count }, None)
+}
+
+/// Whether one of the offers was awarded.
+fn is_awarded(offers: &[Offer]) -> bool
+    ensures { result ≡ list_any (λ o. o.reason == AWARDED_MARK) offers.now }
+{
+    offers.iter().any(|offer| offer.reason == AWARDED)
+}
+
+/// The answer to a settled ask, which goes to the end of the history.
+fn sale(history: &[Entry], ask: Ask) -> (Answer, Option<Entry>)
+    ensures answer { result.0 ≡ (sale_reply history.now ask).answer }
+    ensures entry { result.1 ≡ (sale_reply history.now ask).entry }
+{
+    let entry = history.len() as u64;
+    let answer = if is_awarded(ask.offers.as_slice()) {
+        Answer::Awarded { entry }
+    } else {
+        Answer::NoSale { entry }
+    };
+    (answer, Some(Entry::Ask(ask)))
+}
+
+/// The entry that counts a notice.
+fn entry_of(kind: NoticeKind, award: u32) -> Entry
+    ensures { result ≡ entry_of_notice kind award }
+{
+    match kind {
+        NoticeKind::Win => Entry::Win { award },
+        NoticeKind::Bill => Entry::Bill { award },
+        NoticeKind::Loss => Entry::Loss { award },
+    }
+}
+
+impl Day {
+    /// A day without entries.
+    pub fn new(alloc: Global, budgets: &[Units], limits: DayLimits) -> Result<Day, OutOfMemory>
+        requires { AreTerms (terms_of budgets.now limits) }
+        ensures terms { IfOk result (λ d. d.terms ≡ terms_of budgets.now limits) }
+        ensures history { IfOk result (λ d. d.history ≡ []) }
+    {
+        let ledger = Ledger::new(alloc, budgets)?;
+        Ok(Day {
+            alloc,
+            limits,
+            history: Vec::new(alloc),
+            ledger,
+            ids: IndexMap::new(alloc),
+            totals: Totals {
+                asks: 0,
+                bids: 0,
+                text: 0,
+                moment: 0,
+            },
+        })
+    }
+
+    /// What happened so far.
+    pub fn entries(&self) -> &[Entry]
+        ensures { result.now ≡ self.now.history }
+    {
+        self.history.as_slice()
+    }
+
+    /// The money of each campaign.
+    pub fn book(&self) -> &Book
+        ensures { result.now ≡ accounts_in (budgets_after self.now.terms self.now.history) (awards_of self.now.history) }
+    {
+        self.ledger.money()
+    }
+
+    /// The awards, with what became of each.
+    pub fn awards(&self) -> &Awards
+        ensures { result.now.awards ≡ awards_of self.now.history }
+    {
+        self.ledger.sold()
+    }
+
+    /// Whether a request stands in the history, by its auction and its digest, or its auction with
+    /// another request.
+    pub fn seen(&self, auction: &str, digest: &[u8; 32]) -> Seen
+        ensures { result ≡ seen_in self.now.history auction.now digest.now }
+    {
+        match ids::place_of(&self.ids, self.totals.asks, auction) {
+            None => Seen::New,
+            Some(place) => ids::seen_at(&self.history, place, digest),
+        }
+    }
+
+    /// The answer to an ask, and the entry that a commit is to add, if the reply adds one. The day
+    /// itself stays as it is.
+    pub fn plan_ask(&self, ask: Ask) -> (Answer, Option<Entry>)
+        requires formed { IsWellFormed (length self.now.terms.budgets) ask }
+        requires undecided { IsUndecided ask }
+        ensures answer { result.0 ≡ (ask_reply self.now.terms self.now.history ask).answer }
+        ensures entry { result.1 ≡ (ask_reply self.now.terms self.now.history ask).entry }
+        ensures legal { IfSome result.1 (MayFollow self.now.terms self.now.history) }
+    {
+        match self.seen(ask.auction.as_str(), &ask.digest) {
+            Seen::New => self.plan_new(ask),
+            Seen::Same { entry } => (Answer::Repeat { entry }, None),
+            Seen::Other { kept } => {
+                let answer = Answer::Reused {
+                    kept_digest: kept,
+                    given: ask.digest,
+                };
+                (answer, None)
+            }
+        }
+    }
+
+    /// The answer to an ask of an auction that doesn't stand in the history.
+    fn plan_new(&self, ask: Ask) -> (Answer, Option<Entry>)
+        requires formed { IsWellFormed (length self.now.terms.budgets) ask }
+        requires undecided { IsUndecided ask }
+        requires new { ask_of ask.auction self.now.history ≡ None }
+        ensures { IsReplyIn self.now.terms self.now.history result (settled_reply self.now.terms.limits self.now.history (settled self.now.terms self.now.history ask)) }
+    {
+        let asks = self.totals.asks + 1;
+        if self.limits.auctions < asks {
+            return full(Which::Auctions, asks);
+        }
+        let bids = self.totals.bids + ask.offers.len() as u64;
+        if self.limits.bids < bids {
+            return full(Which::Bids, bids);
+        }
+        let ask = self.settled(ask);
+        let text = self.totals.text + kept::size_of_all(ask.kept.as_slice());
+        if self.limits.text < text {
+            return full(Which::Text, text);
+        }
+        sale(&self.history, ask)
+    }
+
+    /// The ask as the day settles it after its history, without memory.
+    fn settled(&self, ask: Ask) -> Ask
+        requires formed { IsWellFormed (length self.now.terms.budgets) ask }
+        requires undecided { IsUndecided ask }
+        ensures { result ≡ settled self.now.terms self.now.history ask }
+    {
+        let Ask {
+            auction,
+            digest,
+            now,
+            first: _,
+            imps,
+            offers,
+            kept,
+        } = ask;
+        let mut offers = offers.into_vec();
+        self.ledger.settle(&mut offers, imps.len() as u32);
+        let kept = kept::settle_kept(self.alloc, &offers, kept.into_vec());
+        Ask {
+            auction,
+            digest,
+            now: now.max(self.totals.moment),
+            first: self.ledger.sold().len(),
+            imps,
+            offers: Sequence::from(offers),
+            kept: Sequence::from(kept),
+        }
+    }
+
+    /// The answer to a notice of an award, and the entry that a commit is to add, if the reply adds
+    /// one. The room for that entry is there already: it needs no prepare. The day itself stays as it
+    /// is.
+    pub fn plan_notice(
+        &self,
+        kind: NoticeKind,
+        auction: &str,
+        award: u32,
+    ) -> (Answer, Option<Entry>)
+        ensures answer { result.0 ≡ (notice_reply self.now.history kind auction.now award).answer }
+        ensures entry { result.1 ≡ (notice_reply self.now.history kind auction.now award).entry }
+        ensures legal { IfSome result.1 (MayFollow self.now.terms self.now.history) }
+        ensures room { IfSome result.1 (HasRoomFor self.now) }
+    {
+        match self.ledger.sold().get(award) {
+            None => (Answer::Unknown, None),
+            Some(sold) => {
+                if ids::is_of_auction(&self.history, sold.ask, auction) {
+                    self.plan_ruled(kind, award)
+                } else {
+                    (Answer::Unknown, None)
+                }
+            }
+        }
+    }
+
+    /// The answer to a notice of an award of the auction that it names.
+    fn plan_ruled(&self, kind: NoticeKind, n: u32) -> (Answer, Option<Entry>)
+        requires { n < length (awards_of self.now.history) }
+        ensures answer { (w : AwardValue) → slice_get (awards_of self.now.history) n ≡ Some w → result.0 ≡ (ruled_reply self.now.history kind n (ruling_of kind w)).answer }
+        ensures entry { (w : AwardValue) → slice_get (awards_of self.now.history) n ≡ Some w → result.1 ≡ (ruled_reply self.now.history kind n (ruling_of kind w)).entry }
+        ensures legal { IfSome result.1 (MayFollow self.now.terms self.now.history) }
+        ensures room { IfSome result.1 (HasRoomFor self.now) }
+    {
+        match self.ledger.sold().rule(kind, n) {
+            Ruling::Counted => (Answer::Counted, Some(entry_of(kind, n))),
+            Ruling::Repeat => {
+                let entry = u64::from(self.ledger.place(kind, n));
+                (Answer::Repeat { entry }, None)
+            }
+            Ruling::Conflict(kept) => (Answer::Conflict { kept }, None),
+        }
+    }
+
+    /// The answer to a tick, and the entry that a commit is to add, if an award ends. The room for that
+    /// entry is there already. The day itself stays as it is.
+    pub fn plan_tick(&self, now: u64) -> (Answer, Option<Entry>)
+        requires { now < 2 ^ 63 }
+        ensures answer { result.0 ≡ (tick_reply self.now.history now).answer }
+        ensures entry { result.1 ≡ (tick_reply self.now.history now).entry }
+        ensures legal { IfSome result.1 (MayFollow self.now.terms self.now.history) }
+        ensures room { IfSome result.1 (HasRoomFor self.now) }
+    {
+        let moment = now.max(self.totals.moment);
+        let ended = self.ledger.sold().due(moment);
+        if ended == 0 {
+            return (Answer::Ticked { ended: 0 }, None);
+        }
+        (
+            Answer::Ticked { ended },
+            Some(Entry::Expire { now: moment }),
+        )
+    }
+
+    /// Makes the memory for an entry: for an ask, for two further entries per award of it, beside
+    /// those that earlier awards may still get. What was prepared before is given up, also where memory
+    /// is wanting.
+    pub fn prepare(&mut self, entry: &Entry) -> Result<(), OutOfMemory>
+        requires { MayFollow self.old.terms self.old.history entry.now }
+        ensures room { OnOk result (HasRoomFor self.new entry.now) }
+        ensures terms { self.new.terms ≡ self.old.terms }
+        ensures history { self.new.history ≡ self.old.history }
+        ensures kept { self.old.room.entries ≤ self.new.room.entries }
+    {
+        match entry {
+            Entry::Ask(ask) => self.prepare_ask(ask),
+            Entry::Win { .. } | Entry::Bill { .. } | Entry::Loss { .. } | Entry::Expire { .. } => {
+                // The room is there already, as a field shows.
+                let _ = &self.history;
+                Ok(())
+            }
+        }
+    }
+
+    /// Makes the memory for an ask.
+    fn prepare_ask(&mut self, ask: &Ask) -> Result<(), OutOfMemory>
+        requires { AskMayFollow self.old.terms self.old.history ask.now }
+        ensures room { OnOk result (HasRoomForAsk self.old.history self.new.room ask.entry.now) }
+        ensures terms { self.new.terms ≡ self.old.terms }
+        ensures history { self.new.history ≡ self.old.history }
+        ensures kept { self.old.room.entries ≤ self.new.room.entries }
+    {
+        let count = sales::sale_count(ask);
+        let asks = self.totals.asks as usize;
+        let place = self.history.len() as u32;
+        ids::put_next(self.alloc, &mut self.ids, asks, ask.auction.as_str(), place)?;
+        self.history
+            .reserve(1 + 2 * count + self.ledger.to_come() as usize)?;
+        self.ledger.room(count as u32)?;
+        Ok(())
+    }
+
+    /// Adds an entry to the end of the history, without memory. An ask has to be the one that was
+    /// prepared last, with nothing added since.
+    pub fn commit(&mut self, entry: Entry)
+        requires legal { MayFollow self.old.terms self.old.history entry }
+        requires room { HasRoomFor self.old entry }
+        ensures terms { self.new.terms ≡ self.old.terms }
+        ensures history { self.new.history ≡ self.old.history ++ entry ∷ [] }
+    {
+        match entry {
+            Entry::Ask(ask) => self.commit_ask(ask),
+            Entry::Win { award } => self.commit_notice(NoticeKind::Win, award),
+            Entry::Bill { award } => self.commit_notice(NoticeKind::Bill, award),
+            Entry::Loss { award } => self.commit_notice(NoticeKind::Loss, award),
+            Entry::Expire { now } => self.commit_moment(now),
+        }
+    }
+
+    /// Adds an ask.
+    fn commit_ask(&mut self, ask: Ask)
+        requires legal { AskMayFollow self.old.terms self.old.history ask }
+        requires room { HasRoomForAsk self.old.history self.old.room ask }
+        ensures terms { self.new.terms ≡ self.old.terms }
+        ensures history { self.new.history ≡ self.old.history ++ Entry.Ask ask ∷ [] }
+    {
+        let place = self.history.len() as u32;
+        let text = kept::size_of_all(ask.kept.as_slice());
+        sales::sell(&mut self.ledger, &ask, place);
+        self.totals = totals::with_ask(self.totals, &ask, text);
+        self.history.push_reserved(Entry::Ask(ask));
+    }
+
+    /// Adds a notice.
+    fn commit_notice(&mut self, kind: NoticeKind, n: u32)
+        requires legal { Counts kind n (awards_of self.old.history) }
+        requires room { 1 ≤ self.old.room.entries }
+        ensures terms { self.new.terms ≡ self.old.terms }
+        ensures history { self.new.history ≡ self.old.history ++ entry_of_notice kind n ∷ [] }
+    {
+        let place = self.history.len() as u32;
+        self.ledger.apply(kind, n, place);
+        self.history.push_reserved(entry_of(kind, n));
+    }
+
+    /// Adds a moment.
+    fn commit_moment(&mut self, now: u64)
+        requires legal { ExpireMayFollow self.old.history now }
+        requires room { 1 ≤ self.old.room.entries }
+        ensures terms { self.new.terms ≡ self.old.terms }
+        ensures history { self.new.history ≡ self.old.history ++ Entry.Expire now ∷ [] }
+    {
+        self.ledger.expire(now);
+        self.totals = totals::with_moment(self.totals, now);
+        self.history.push_reserved(Entry::Expire { now });
+    }
+}

@@ -1,0 +1,18 @@
+//! The day machine: one serving day as a value, and what it answers to each call.
+//!
+//! A contract sees a `Day` as its terms, its history and what there is memory for. A plan answers a
+//! call by the history and changes nothing; a commit extends the history by one entry. The running
+//! totals behind the answers stand in invariants alone.
+//! Stands on `day_rules`, `allocator_core`, `campaign_book`, `notice_book` and `indexmap`.
+#![tactic(auto)]
+
+mod day;
+mod ids;
+mod kept;
+mod ledger;
+mod places;
+mod sales;
+mod totals;
+
+pub use day::Day;
+pub use day_rules::{Answer, Ask, DayLimits, Entry, Kept, Seen, Which};
