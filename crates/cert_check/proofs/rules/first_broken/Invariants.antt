@@ -1,0 +1,6 @@
+use Rattle.hindsight.specs.Assignments.{impressions_of}
+use Rattle.hindsight.specs.Certificates.{AreCovered}
+use Rattle.cert_check.proofs.rules.first_broken.Given as goal
+
+abbrev pub invariant-loop-j : goal.invariant-loop-j
+invariant-loop-j l = AreCovered l.alphas l.betas (impressions_of l.imps) l.j
