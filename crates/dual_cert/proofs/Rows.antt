@@ -7,6 +7,7 @@ use Rattle.std.proofs.lemmas.List.{nil_from_length}
 use Rattle.std.proofs.lemmas.Option.{none-some, same_Some}
 use Rattle.line_parts.specs.Parts.{◌>>=◌, behind_word, behind_byte, none_left, number_at, part}
 use Rattle.line_parts.proofs.Laws.{bind_some, word_takes, word_again, byte_takes, byte_again, none_left_is, number_takes, number_again}
+use Rattle.line_parts.proofs.Options.{map_none, map_some, behind_none, or_some}
 use Rattle.dual_cert.specs.declared.row.Row.{Row}
 use Rattle.dual_cert.specs.declared.row.Row.TheVariants.{Alpha, Beta, Bound}
 use Rattle.dual_cert.specs.Lines.{head_line, alpha_line, beta_line, bound_line}
@@ -74,15 +75,9 @@ no_beta_in_bound : (index : ℕ) (tail : List ℕ) → indexed_at (codes "beta "
 unfolding indexed_at behind_word
 no_beta_in_bound index tail = refl
 
-map_none : {X Y : Type 0} (f : X → Y) (o : Option X) → o ≡ None → option_map f o ≡ None
-map_none f o e = rw e refl
-
 either_none : {X : Type 0} (b : Bool) (o : Option X) → o ≡ None → cond b o None ≡ None
 either_none true o e = e
 either_none false o e = refl
-
-behind_none : {X : Type 0} (o p : Option X) → o ≡ None → option_or o p ≡ p
-behind_none o p e = rw e refl
 
 -- what follows is read as its row
 pub row_again : (alphas betas line : List ℕ) (next : Told) → Follows (rows alphas betas) line next → (row : Row) × (row_at (length alphas) (length betas) line ≡ Some row) × (with_row row alphas betas ≡ next)
@@ -100,14 +95,6 @@ row_again alphas betas line next (bound_last as0 bs0 n h) =
     let no = either_none (eqb (length betas) 0) (option_map Alpha (indexed_at (codes "alpha ") (length alphas) (bound_line n))) (map_none Alpha (indexed_at (codes "alpha ") (length alphas) (bound_line n)) (no_alpha_in_bound (length alphas) (decimal n))) in
     let nor = map_none Beta (indexed_at (codes "beta ") (length betas) (bound_line n)) (no_beta_in_bound (length betas) (decimal n)) in
     (Bound n, behind_none _ _ no ∙ behind_none _ _ nor ∙ rw read refl, refl)
-
-or_some : {X : Type 0} (o p : Option X) (x : X) → option_or o p ≡ Some x → (o ≡ Some x) ⊎ (p ≡ Some x)
-or_some None p x h = inr h
-or_some (Some y) p x h = inl h
-
-map_some : {X Y : Type 0} (f : X → Y) (o : Option X) (y : Y) → option_map f o ≡ Some y → (x : X) × (o ≡ Some x) × (f x ≡ y)
-map_some f None y h = absurd (none-some y h)
-map_some f (Some x) y h = (x, refl, same_Some (f x) y h)
 
 first_none : {X : Type 0} (b : Bool) (o : Option X) (x : X) → cond b o None ≡ Some x → (b ≡ true) × (o ≡ Some x)
 first_none true o x h = (refl, h)

@@ -5,3 +5,4 @@ pub mod Decimals
 pub mod Laws
 pub mod Documents
 pub mod OneLines
+pub mod Options
