@@ -1,6 +1,7 @@
 //! Why a document isn't a record.
 ghost use Rattle.std.specs.Prelude.{◌≡◌};
 ghost use Rattle.bid_record.specs.declared.fault.Misfit.TheVariants.{Memory};
+ghost use Rattle.bid_record.specs.declared.fault.RecordFault.TheVariants.{OutOfMemory as NoMemory};
 
 use adx_units::OutOfMemory;
 use std::alloc::{AllocError, AllocFailed};
@@ -34,6 +35,14 @@ impl fmt::Display for RecordFault {
 }
 
 impl std::error::Error for RecordFault {}
+
+impl<T: Drop> From<AllocFailed<T>> for RecordFault {
+    ghost from_gives = { λ _ e. e ≡ NoMemory };
+
+    fn from(_refused: AllocFailed<T>) -> RecordFault {
+        RecordFault::OutOfMemory
+    }
+}
 
 /// Why a line wasn't read.
 #[derive(Clone, Copy, Debug, PartialEq, Eq)]
