@@ -1,0 +1,13 @@
+//! The closer: the certificate of a day's record, from where its campaigns stand at the end.
+//!
+//! What the certificate is stands in `specs/Closing`; that it meets the rules of every certificate,
+//! so that a checker accepts it, is a clause of `close`. Stands on `bid_record`, `dual_cert`,
+//! `hindsight` and `discount_table`.
+#![tactic(auto)]
+
+mod alphas;
+mod betas;
+mod closer;
+mod money;
+
+pub use closer::close;
