@@ -1,0 +1,4 @@
+pub mod Gathering
+pub mod Replies
+pub mod Written
+pub mod Targets

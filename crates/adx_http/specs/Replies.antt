@@ -1,0 +1,37 @@
+-- The bytes of a reply (RFC 9112, sections 4 to 6). Which fields stand in it is this project's own.
+use Rattle.std.specs.Prelude.{ℕ, List, [], ◌++◌, length, decimal, unwrap_or, codes, Bool, not, ◌&&◌, ◌==◌, nat_lt, nat_le, if◌then◌else◌}
+use Rattle.http.specs.StatusCode.{reason_phrase}
+use Rattle.httparse.specs.Ascii.{crlf_bytes}
+use Rattle.adx_http.specs.declared.reply.Reply.{Reply}
+
+-- a field line
+abbrev pub field_line : List ℕ → List ℕ → List ℕ
+field_line name value = name ++ codes ": " ++ value ++ crlf_bytes
+
+abbrev pub when : Bool → List ℕ → List ℕ
+when b bytes = if b then bytes else []
+
+-- a reply with status 204 has no type, no length and no body, and one to HEAD has no length and no body
+abbrev pub has_type : Reply → Bool
+has_type r = r.json && not (r.status == 204)
+
+abbrev pub has_body : Reply → Bool
+has_body r = not r.head && not (r.status == 204)
+
+-- the phrase that `http` gives to a status of three digits; empty where it gives none
+abbrev pub phrase : ℕ → List ℕ
+phrase status = if nat_le 100 status && nat_lt status 1000 then unwrap_or (reason_phrase status) [] else []
+
+abbrev pub status_line : ℕ → List ℕ
+status_line status = codes "HTTP/1.1 " ++ decimal status ++ codes " " ++ phrase status ++ crlf_bytes
+
+abbrev pub field_lines : Reply → List ℕ
+field_lines r =
+    when (has_type r) (field_line (codes "Content-Type") (codes "application/json"))
+    ++ when r.openrtb (field_line (codes "x-openrtb-version") (codes "2.6"))
+    ++ when (not (length r.allow.now == 0)) (field_line (codes "Allow") r.allow.now)
+    ++ when (has_body r) (field_line (codes "Content-Length") (decimal (length r.body.now)))
+    ++ when r.close (field_line (codes "Connection") (codes "close"))
+
+abbrev pub reply_bytes : Reply → List ℕ
+reply_bytes r = status_line r.status ++ field_lines r ++ crlf_bytes ++ when (has_body r) r.body.now

@@ -1,0 +1,16 @@
+//! HTTP/1.1 replies and targets, as the exchange writes and reads them.
+//!
+//! `write_reply` puts exactly the bytes of a reply, which one definition states; after a fault of the
+//! sink it took some front of them. `read_target` says a target's path and query, and `query_value`
+//! the first value of a name in a query. No buffer and no offset stands in a contract.
+//! Stands on `adx_io` for sinks, on `http` for phrases and on `form_urlencoded` for queries.
+#![tactic(auto)]
+
+mod gathered;
+mod reply;
+mod target;
+#[cfg(test)]
+mod tests;
+
+pub use reply::{Reply, WriteFault, write_reply};
+pub use target::{Target, query_value, read_target};

@@ -1,0 +1,99 @@
+ghost use Rattle.std.specs.Prelude.{◌≡◌, ◌≤◌, length, position, option_map, IfOk};
+ghost use Rattle.std.specs.List.{position_or_len};
+ghost use Rattle.std.specs.Cow.{cow_str_bytes};
+ghost use Rattle.adx_http.specs.Targets.{is_end, is_question_mark, rest_of, path_of, query_of, value_of};
+
+use adx_units::OutOfMemory;
+use form_urlencoded::parse;
+use std::alloc::Global;
+use std::borrow::CowStr;
+
+/// What a request's target names (RFC 9112, section 3.2).
+#[derive(Clone, Copy, Debug)]
+pub struct Target<'a> {
+    /// The path, not decoded; `/` where the target has none.
+    pub path: &'a [u8],
+    /// What stands behind the first question mark, as `query_value` reads it.
+    pub query: &'a [u8],
+}
+
+/// The place of the first slash or question mark.
+fn slash_or_mark_in(bytes: &[u8]) -> Option<usize>
+    ensures { result ≡ position is_end bytes.now }
+{
+    bytes.iter().position(|b| *b == b'/' || *b == b'?')
+}
+
+/// The place of the first question mark.
+fn mark_in(bytes: &[u8]) -> Option<usize>
+    ensures { result ≡ position is_question_mark bytes.now }
+{
+    bytes.iter().position(|b| *b == b'?')
+}
+
+/// Where an authority ends.
+fn end_of_authority(bytes: &[u8]) -> usize
+    ensures place { result ≡ position_or_len is_end bytes.now }
+    ensures within { result ≤ length bytes.now }
+{
+    match slash_or_mark_in(bytes) {
+        Some(place) => place,
+        None => bytes.len(),
+    }
+}
+
+/// Where a path ends.
+fn end_of_path(bytes: &[u8]) -> usize
+    ensures place { result ≡ position_or_len is_question_mark bytes.now }
+    ensures within { result ≤ length bytes.now }
+{
+    match mark_in(bytes) {
+        Some(place) => place,
+        None => bytes.len(),
+    }
+}
+
+/// The target without `http://` and the authority behind it, where it begins so.
+fn without_authority(target: &[u8]) -> &[u8]
+    ensures { result.now ≡ rest_of target.now }
+{
+    let (scheme, rest) = target.split_at(target.len().min(7));
+    if !scheme.eq_ignore_ascii_case(b"http://") {
+        return target;
+    }
+    let (_, path) = rest.split_at(end_of_authority(rest));
+    path
+}
+
+/// What a target names: its path and its query.
+pub fn read_target(target: &[u8]) -> Target<'_>
+    ensures path { result.path.now ≡ path_of target.now }
+    ensures query { result.query.now ≡ query_of target.now }
+{
+    let rest = without_authority(target);
+    let end = end_of_path(rest);
+    let (path, behind) = rest.split_at(end);
+    let (_, query) = behind.split_at(behind.len().min(1));
+    Target {
+        path: if path.is_empty() { b"/" } else { path },
+        query,
+    }
+}
+
+/// The value of the first pair with this name in a query, both decoded as in a form.
+pub fn query_value<'a>(
+    alloc: Global,
+    query: &'a [u8],
+    name: &str,
+) -> Result<Option<CowStr<'a, Global>>, OutOfMemory>
+    ensures { IfOk result (λ found. option_map cow_str_bytes found ≡ value_of name.now query.now) }
+{
+    let mut pairs = parse(alloc, query);
+    'pairs: while let Some(pair) = pairs.next() {
+        let (key, value) = pair?;
+        if key.as_str() == name {
+            return Ok(Some(value));
+        }
+    }
+    Ok(None)
+}
