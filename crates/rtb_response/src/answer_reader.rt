@@ -113,33 +113,34 @@ fn count_bids(seats: &[Json]) -> Option<usize>
     Some(count)
 }
 
-fn bids_of(alloc: Global, trees: &[Json]) -> Result<Vec<Bid>, OutOfMemory>
+fn bids_of(alloc: Global, scratch: &mut String, trees: &[Json]) -> Result<Vec<Bid>, OutOfMemory>
     ensures { IfOk result (λ bs. map seen_bid bs.items ≡ map bid_view (trees_of trees.now)) }
 {
     let mut bids = Vec::new(alloc);
     for tree in trees {
-        bids.push(bid_of(alloc, tree)?)?;
+        bids.push(bid_of(alloc, scratch, tree)?)?;
     }
     Ok(bids)
 }
 
-fn seat_of(alloc: Global, tree: &Json) -> Result<SeatBid, OutOfMemory>
+fn seat_of(alloc: Global, scratch: &mut String, tree: &Json) -> Result<SeatBid, OutOfMemory>
     ensures { IfOk result (λ s. seen_seat s ≡ seat_view (tree_of tree.now)) }
 {
     let found = seat_members(tree);
     Ok(SeatBid {
         seat: text_or_empty(alloc, found.seat)?,
         all_or_none: is_number_text(found.group, "1"),
-        bids: Sequence::from(bids_of(alloc, items_in(found.bid))?),
+        bids: Sequence::from(bids_of(alloc, scratch, items_in(found.bid))?),
     })
 }
 
 fn seats_of(alloc: Global, trees: &[Json]) -> Result<Vec<SeatBid>, OutOfMemory>
     ensures { IfOk result (λ ss. map seen_seat ss.items ≡ map seat_view (trees_of trees.now)) }
 {
+    let mut scratch = String::new(alloc);
     let mut seats = Vec::new(alloc);
     for tree in trees {
-        seats.push(seat_of(alloc, tree)?)?;
+        seats.push(seat_of(alloc, &mut scratch, tree)?)?;
     }
     Ok(seats)
 }

@@ -117,8 +117,8 @@ fn price_in(value: Option<&Json>) -> Result<Units, PriceFault>
     }
 }
 
-/// What a bid says by its members.
-pub(crate) fn bid_of(alloc: Global, tree: &Json) -> Result<Bid, OutOfMemory>
+/// What a bid says by its members. Its body is made in `scratch`, which serves again.
+pub(crate) fn bid_of(alloc: Global, scratch: &mut String, tree: &Json) -> Result<Bid, OutOfMemory>
     ensures { IfOk result (λ b. seen_bid b ≡ bid_view (tree_of tree.now)) }
 {
     let found = bid_members(tree);
@@ -139,6 +139,6 @@ pub(crate) fn bid_of(alloc: Global, tree: &Json) -> Result<Bid, OutOfMemory>
         cat: texts_in(alloc, found.cat)?,
         dealid: named_text(alloc, found.dealid)?,
         exp: whole_or_zero(found.exp, MOST_SECONDS) as u32,
-        body: body_of(alloc, tree)?,
+        body: body_of(alloc, scratch, tree)?,
     })
 }

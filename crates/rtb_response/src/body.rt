@@ -21,18 +21,19 @@ fn is_own(name: &str) -> bool
         || name == "lurl"
 }
 
-/// The compact spelling of the object of the members that are passed on; empty where the tree is no object.
+/// The compact spelling of the object of the members that are passed on; empty where the tree is no object. It is
+/// made in `scratch`, which serves again, and copied once.
 #[tactic(auto, using(crate::proofs::Passed::no_body))]
-pub(crate) fn body_of(alloc: Global, tree: &Json) -> Result<Text, OutOfMemory>
+pub(crate) fn body_of(alloc: Global, scratch: &mut String, tree: &Json) -> Result<Text, OutOfMemory>
     ensures { IfOk result (λ t. t ≡ body (tree_of tree.now)) }
 {
-    let mut out = String::new(alloc);
+    scratch.clear();
     if let Some(members) = tree.members() {
-        out.push_str("{")?;
-        push_passed_on(&mut out, true, members)?;
-        out.push_str("}")?;
+        scratch.push_str("{")?;
+        push_passed_on(scratch, true, members)?;
+        scratch.push_str("}")?;
     }
-    Ok(Text::from(out))
+    Text::of(alloc, scratch.as_str())
 }
 
 /// Puts the members that are passed on at the end, as the first members of an object or behind others.

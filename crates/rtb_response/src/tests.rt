@@ -1,153 +1,176 @@
 use crate::bid::Bid;
-use crate::bid_answer::{BidAnswer, SeatBid};
+use crate::bid_answer::BidAnswer;
 use crate::exchange_answer::write_answer;
-use crate::fault::AnswerFault;
+use crate::fault::{AnswerFault, Field};
 use crate::sold::Sold;
-use adx_json::{Json, read};
-use adx_units::{Id, OutOfMemory, Text, Units};
+use adx_json::read;
+use adx_units::{Id, OutOfMemory, PriceFault, Text, Units};
 use std::alloc::{AllocError, Global};
 use std::fmt::Write;
 use std::test::Fail;
 
-/// An answer, and what is told of it. The faults come in their order, each with the one behind it where both can
-/// stand together.
-const ANSWERS: [(&str, &str); 26] = [
-    ("7", "NoId"),
-    ("[]", "NoId"),
-    ("{}", "NoId"),
-    (r#"{"id":null}"#, "NoId"),
-    (r#"{"id":1,"cur":"EUR"}"#, "NoId"),
-    (r#"{"id":"b"}"#, "OtherId"),
-    (r#"{"id":"b","cur":"EUR","seatbid":1}"#, "OtherId"),
-    (r#"{"id":"a","cur":"EUR"}"#, "OtherCurrency"),
-    (r#"{"id":"a","cur":["USD"]}"#, "OtherCurrency"),
+/// The members of an answer, and its fault. The faults come in their order, each with the one behind it where both
+/// can stand together.
+const FAULTS: [(&str, Option<AnswerFault>); 20] = [
+    ("", Some(AnswerFault::NoId)),
+    ("\"id\":null", Some(AnswerFault::NoId)),
+    ("\"id\":1,\"cur\":\"EUR\"", Some(AnswerFault::NoId)),
+    ("\"id\":\"b\"", Some(AnswerFault::OtherId)),
+    ("\"id\":\"b\",\"cur\":\"EUR\"", Some(AnswerFault::OtherId)),
     (
-        r#"{"id":"a","cur":"usd","seatbid":{},"bidid":1}"#,
-        "OtherCurrency",
+        "\"id\":\"a\",\"cur\":\"EUR\"",
+        Some(AnswerFault::OtherCurrency),
     ),
     (
-        r#"{"id":"a","seatbid":{"bid":[]}}"#,
-        "BadField { field: Seatbid }",
-    ),
-    (r#"{"id":"a","seatbid":"s"}"#, "BadField { field: Seatbid }"),
-    (
-        r#"{"id":"a","seatbid":[{"bid":[]},{}]}"#,
-        "BadField { field: SeatbidBid }",
+        "\"id\":\"a\",\"cur\":[\"USD\"]",
+        Some(AnswerFault::OtherCurrency),
     ),
     (
-        r#"{"id":"a","seatbid":[{"bid":null}]}"#,
-        "BadField { field: SeatbidBid }",
+        "\"id\":\"a\",\"cur\":\"usd\",\"seatbid\":{}",
+        Some(AnswerFault::OtherCurrency),
     ),
     (
-        r#"{"id":"a","seatbid":[[]]}"#,
-        "BadField { field: SeatbidBid }",
+        "\"id\":\"a\",\"seatbid\":{\"bid\":[]}",
+        Some(AnswerFault::BadField {
+            field: Field::Seatbid,
+        }),
     ),
     (
-        r#"{"id":"a","seatbid":[{"bid":{}}]}"#,
-        "BadField { field: SeatbidBid }",
-    ),
-    (r#"{"id":"a"}"#, ""),
-    (r#"{"id":"a","cur":null,"seatbid":null,"bidid":null}"#, ""),
-    (
-        r#"{"cur":"USD","seatbid":[{"bid":[],"seat":"s1"},{"group":1,"bid":[]}],"bidid":"r","id":"a"}"#,
-        "r;seat s1 false;seat  true",
+        "\"id\":\"a\",\"seatbid\":\"s\"",
+        Some(AnswerFault::BadField {
+            field: Field::Seatbid,
+        }),
     ),
     (
-        r#"{"id":"a","seatbid":[{"group":1.0,"bid":[7]},{"group":"1","bid":[{}]}]}"#,
-        ";seat  false;false || NotNumber 0 -|||||||;seat  false;false || NotNumber 0 -|||||||{}",
+        "\"id\":\"a\",\"seatbid\":[{\"bid\":[]},{}]",
+        Some(AnswerFault::BadField {
+            field: Field::SeatbidBid,
+        }),
     ),
     (
-        r#"{"id":"a","seatbid":[{"bid":[{"id":"b","impid":"1","price":"2","exp":60.0},{"id":"b","impid":"1","price":0,"exp":2147483647}]}]}"#,
-        r#";seat  false;true |b|1 NotNumber 0 -|||||||{"exp":60.0};true |b|1 NotPositive 2147483647 -|||||||{"exp":2147483647}"#,
+        "\"id\":\"a\",\"seatbid\":[{\"bid\":null}]",
+        Some(AnswerFault::BadField {
+            field: Field::SeatbidBid,
+        }),
     ),
     (
-        r#"{"id":"a","seatbid":[{"bid":[{"id":"b","impid":1,"price":1000000.000001,"exp":2147483648,"dealid":""}]}]}"#,
-        r#";seat  false;false |b| TooLarge 0 deal |||||||{"exp":2147483648,"dealid":""}"#,
+        "\"id\":\"a\",\"seatbid\":[[]]",
+        Some(AnswerFault::BadField {
+            field: Field::SeatbidBid,
+        }),
     ),
     (
-        r#"{"id":"a","seatbid":[{"bid":[{"id":null,"impid":"1","price":null,"adomain":["x.example",1,null,"y.example"],"cat":"IAB1","nurl":5,"burl":null}]}]}"#,
-        r#";seat  false;false ||1 NotNumber 0 -||||||x.example,y.example,|{"adomain":["x.example",1,null,"y.example"],"cat":"IAB1"}"#,
+        "\"id\":\"a\",\"seatbid\":[{\"bid\":{}}]",
+        Some(AnswerFault::BadField {
+            field: Field::SeatbidBid,
+        }),
     ),
+    ("\"id\":\"a\"", None),
+    ("\"id\":\"a\",\"cur\":null,\"seatbid\":null", None),
+    ("\"id\":\"a\",\"cur\":\"USD\",\"seatbid\":[]", None),
+    ("\"seatbid\":[{\"bid\":[7]}],\"id\":\"a\"", None),
+    ("\"seatbid\":[{\"bid\":[]}],\"id\":\"a\"", None),
+    ("\"bidid\":null,\"id\":\"a\",\"nbr\":2", None),
+];
+
+/// How many bids two seats have, whether a seat without bids stands behind them, and the fault.
+const COUNTS: [(usize, usize, bool, Option<AnswerFault>); 5] = [
+    (32, 32, false, None),
+    (65, 0, false, Some(AnswerFault::TooManyBids)),
+    (33, 32, false, Some(AnswerFault::TooManyBids)),
+    (1, 64, false, Some(AnswerFault::TooManyBids)),
     (
-        r#"{"id":"a","bidid":"r1","cur":"USD","seatbid":[{"seat":"s1","bid":[{"id":"b1","impid":"1","price":2.5,"adid":"ad1","nurl":"http://n.example/w","burl":"http://n.example/b","lurl":"http://n.example/l","adm":"<img src=\"x\">","adomain":["shop.example"],"cid":"c1","crid":"cr1","cat":["IAB3","IAB7"],"attr":[1,2],"w":300,"h":250,"exp":60,"dealid":"d1"}]}]}"#,
-        r#"r1;seat s1 false;true |b1|1 2500000 60 deal d1|http://n.example/w|http://n.example/b|http://n.example/l|ad1|c1|shop.example,|IAB3,IAB7,{"adid":"ad1","adm":"<img src=\"x\">","adomain":["shop.example"],"cid":"c1","crid":"cr1","cat":["IAB3","IAB7"],"attr":[1,2],"w":300,"h":250,"exp":60,"dealid":"d1"}"#,
-    ),
-    (
-        r#"{"id":"a","seatbid":[{"seat":"s2","group":1,"bid":[{"id":"v1","impid":"2","price":12,"adm":"<VAST version=\"4.2\"/>","dur":30,"protocol":3}]},{"seat":"s3","bid":[]}]}"#,
-        r#";seat s2 true;true |v1|2 12000000 0 -|||||||{"adm":"<VAST version=\"4.2\"/>","dur":30,"protocol":3};seat s3 false"#,
-    ),
-    (
-        r#"{"id":"a","seatbid":[{"seat":"s4","bid":[{"price":0.5,"id":"n1","impid":"3","mtype":4,"adm":"{\"native\":{\"assets\":[{\"id\":1,\"title\":{\"text\":\"Tea\"}}]}}"}]}]}"#,
-        r#";seat s4 false;true |n1|3 500000 0 -|||||||{"mtype":4,"adm":"{\"native\":{\"assets\":[{\"id\":1,\"title\":{\"text\":\"Tea\"}}]}}"}"#,
+        65,
+        1,
+        true,
+        Some(AnswerFault::BadField {
+            field: Field::SeatbidBid,
+        }),
     ),
 ];
 
-/// How many bids two seats have, whether a seat without bids stands behind them, and what is told.
-const COUNTS: [(usize, usize, bool, &str); 5] = [
-    (65, 0, false, "TooManyBids"),
-    (33, 32, false, "TooManyBids"),
-    (1, 64, false, "TooManyBids"),
-    (65, 1, true, "BadField { field: SeatbidBid }"),
-    (32, 33, true, "BadField { field: SeatbidBid }"),
+/// A bid, and what is told of it: whether it is whole, its id, impression, price, seconds, deal, notices, `adid`,
+/// `cid`, domains, categories and body.
+const BIDS: [(&str, &str); 9] = [
+    ("7", "false||||NotNumber|0|-||||||||"),
+    ("{}", "false||||NotNumber|0|-||||||||{}"),
+    (
+        "{\"id\":\"b\",\"impid\":\"1\",\"price\":\"2\",\"exp\":60.0}",
+        "true|b|1||NotNumber|0|-||||||||{\"exp\":60.0}",
+    ),
+    (
+        "{\"id\":\"b\",\"impid\":1,\"price\":0,\"exp\":2147483647}",
+        "false|b|||NotPositive|2147483647|-||||||||{\"exp\":2147483647}",
+    ),
+    (
+        "{\"id\":null,\"impid\":\"1\",\"price\":1000000.000001,\"dealid\":\"\"}",
+        "false||1||TooLarge|0|deal ||||||||{\"dealid\":\"\"}",
+    ),
+    (
+        "{\"adomain\":[\"x\",1,null,\"y\"],\"cat\":\"c\",\"nurl\":5,\"exp\":2147483648}",
+        "false||||NotNumber|0|-||||||x,y,||{\"adomain\":[\"x\",1,null,\"y\"],\"cat\":\"c\",\"exp\":2147483648}",
+    ),
+    (
+        "{\"id\":\"b\",\"impid\":\"1\",\"price\":2.5,\"nurl\":\"n\",\"burl\":\"u\",\"lurl\":\"l\",\"adm\":\"<img>\",\"adid\":\"d\",\"cid\":\"c\",\"cat\":[\"IAB3\"],\"w\":300,\"h\":250,\"exp\":60,\"dealid\":\"e\"}",
+        "true|b|1||2500000|60|deal e|n|u|l|d|c||IAB3,|{\"adm\":\"<img>\",\"adid\":\"d\",\"cid\":\"c\",\"cat\":[\"IAB3\"],\"w\":300,\"h\":250,\"exp\":60,\"dealid\":\"e\"}",
+    ),
+    (
+        "{\"id\":\"v\",\"impid\":\"2\",\"price\":12,\"adm\":\"<VAST version=\\\"4.2\\\"/>\",\"dur\":30}",
+        "true|v|2||12000000|0|-||||||||{\"adm\":\"<VAST version=\\\"4.2\\\"/>\",\"dur\":30}",
+    ),
+    (
+        "{\"price\":0.5,\"id\":\"n\",\"impid\":\"3\",\"mtype\":4,\"adm\":\"{\\\"native\\\":{\\\"assets\\\":[]}}\"}",
+        "true|n|3||500000|0|-||||||||{\"mtype\":4,\"adm\":\"{\\\"native\\\":{\\\"assets\\\":[]}}\"}",
+    ),
 ];
 
 fn push_texts(out: &mut String, texts: &[Text]) -> Result<(), AllocError> {
-    out.push_str("|")?;
     for text in texts {
         out.push_str(text.as_str())?;
         out.push_str(",")?;
     }
+    out.push_str("|")
+}
+
+fn push_text(out: &mut String, text: &Text) -> Result<(), AllocError> {
+    out.push_str(text.as_str())?;
+    out.push_str("|")
+}
+
+fn push_price(out: &mut String, price: Result<Units, PriceFault>) -> Result<(), AllocError> {
+    match price {
+        Ok(units) => write!(out, "|{}", units.0)?,
+        Err(PriceFault::NotNumber) => out.push_str("|NotNumber")?,
+        Err(PriceFault::NotPositive) => out.push_str("|NotPositive")?,
+        Err(PriceFault::TooLarge) => out.push_str("|TooLarge")?,
+        Err(PriceFault::TooFine) => out.push_str("|TooFine")?,
+    }
     Ok(())
 }
 
-fn push_bid(out: &mut String, bid: &Bid) -> Result<(), AllocError> {
-    write!(out, ";{} |", bid.whole)?;
-    out.push_str(bid.id.as_str())?;
-    out.push_str("|")?;
-    out.push_str(bid.impid.as_str())?;
-    match bid.price {
-        Ok(units) => write!(out, " {} ", units.0)?,
-        Err(fault) => write!(out, " {fault:?} ")?,
-    }
-    write!(out, "{} ", bid.exp)?;
+/// What is told of a bid.
+fn told(alloc: Global, bid: &Bid) -> Result<String, AllocError> {
+    let mut out = String::new(alloc);
+    out.push_str(if bid.whole { "true|" } else { "false|" })?;
+    push_text(&mut out, &bid.id)?;
+    push_text(&mut out, &bid.impid)?;
+    push_price(&mut out, bid.price)?;
+    write!(&mut out, "|{}|", bid.exp)?;
     match &bid.dealid {
         Some(deal) => {
             out.push_str("deal ")?;
-            out.push_str(deal.as_str())?;
+            push_text(&mut out, deal)?;
         }
-        None => out.push_str("-")?,
+        None => out.push_str("-|")?,
     }
-    for text in [&bid.nurl, &bid.burl, &bid.lurl, &bid.adid, &bid.cid] {
-        out.push_str("|")?;
-        out.push_str(text.as_str())?;
-    }
-    push_texts(out, bid.adomain.as_slice())?;
-    push_texts(out, bid.cat.as_slice())?;
-    out.push_str(bid.body.as_str())
-}
-
-fn push_seat(out: &mut String, seat: &SeatBid) -> Result<(), AllocError> {
-    out.push_str(";seat ")?;
-    out.push_str(seat.seat.as_str())?;
-    write!(out, " {}", seat.all_or_none)?;
-    for bid in seat.bids.as_slice() {
-        push_bid(out, bid)?;
-    }
-    Ok(())
-}
-
-/// What is told of an answer: its fault, or its members.
-fn told(alloc: Global, read: Result<BidAnswer, AnswerFault>) -> Result<String, AllocError> {
-    let mut out = String::new(alloc);
-    match read {
-        Err(fault) => write!(out, "{fault:?}")?,
-        Ok(answer) => {
-            out.push_str(answer.bidid.as_str())?;
-            for seat in answer.seats.as_slice() {
-                push_seat(&mut out, seat)?;
-            }
-        }
-    }
+    push_text(&mut out, &bid.nurl)?;
+    push_text(&mut out, &bid.burl)?;
+    push_text(&mut out, &bid.lurl)?;
+    push_text(&mut out, &bid.adid)?;
+    push_text(&mut out, &bid.cid)?;
+    push_texts(&mut out, bid.adomain.as_slice())?;
+    push_texts(&mut out, bid.cat.as_slice())?;
+    out.push_str(bid.body.as_str())?;
     Ok(out)
 }
 
@@ -159,88 +182,89 @@ fn push_bids(out: &mut String, bids: usize) -> Result<(), AllocError> {
     out.push_str("]}")
 }
 
+fn answer_of(alloc: Global, id: &Id, text: &str) -> Result<Result<BidAnswer, AnswerFault>, Fail> {
+    let tree = read(alloc, text.as_bytes())?;
+    Ok(BidAnswer::of(alloc, &tree, id))
+}
+
 #[test]
 fn answers_give_bids_or_their_first_fault(rt: HostRuntime) -> Result<(), Fail> {
     let alloc = rt.alloc();
     let id = Id::of(alloc, "a")?.ok_or(OutOfMemory)?;
-    for (text, want) in ANSWERS {
-        let tree = read(alloc, text.as_bytes())?;
-        let found = told(alloc, BidAnswer::of(alloc, &tree, &id))?;
-        assert_eq!(rt; found.as_str(), want);
+    for (members, want) in FAULTS {
+        let mut text = String::from_str(alloc, "{")?;
+        text.push_str(members)?;
+        text.push_str("}")?;
+        assert_eq!(rt; answer_of(alloc, &id, text.as_str())?.err(), want);
     }
-    let mut most = String::from_str(alloc, "{\"id\":\"a\",\"seatbid\":[")?;
-    push_bids(&mut most, 32)?;
-    most.push_str(",")?;
-    push_bids(&mut most, 32)?;
-    most.push_str("]}")?;
-    let tree = read(alloc, most.as_bytes())?;
-    assert!(rt; BidAnswer::of(alloc, &tree, &id).is_ok());
     for (first, second, without, want) in COUNTS {
         let mut text = String::from_str(alloc, "{\"id\":\"a\",\"seatbid\":[")?;
         push_bids(&mut text, first)?;
         text.push_str(",")?;
         push_bids(&mut text, second)?;
         text.push_str(if without { ",{}]}" } else { "]}" })?;
-        let tree = read(alloc, text.as_bytes())?;
-        let found = told(alloc, BidAnswer::of(alloc, &tree, &id))?;
-        assert_eq!(rt; found.as_str(), want);
+        assert_eq!(rt; answer_of(alloc, &id, text.as_str())?.err(), want);
     }
     Ok(())
 }
 
-/// An award's number, its impression, seat, charge and body.
-type Row = (u32, &'static str, &'static str, u64, &'static str);
+#[test]
+fn bids_are_read_member_by_member(rt: HostRuntime) -> Result<(), Fail> {
+    let alloc = rt.alloc();
+    let id = Id::of(alloc, "a")?.ok_or(OutOfMemory)?;
+    for (bid, want) in BIDS {
+        let mut text = String::from_str(
+            alloc,
+            "{\"id\":\"a\",\"bidid\":\"r\",\"seatbid\":[{\"bid\":[],\"group\":1},{\"seat\":\"s\",\"bid\":[",
+        )?;
+        text.push_str(bid)?;
+        text.push_str("]}]}")?;
+        let Ok(answer) = answer_of(alloc, &id, text.as_str())? else {
+            return Err(Fail::from(OutOfMemory));
+        };
+        assert_eq!(rt; answer.bidid.as_str(), "r");
+        let [empty, seat] = answer.seats.as_slice() else {
+            return Err(Fail::from(OutOfMemory));
+        };
+        assert!(rt; empty.all_or_none && empty.bids.is_empty() && !seat.all_or_none);
+        assert_eq!(rt; seat.seat.as_str(), "s");
+        let [only] = seat.bids.as_slice() else {
+            return Err(Fail::from(OutOfMemory));
+        };
+        assert_eq!(rt; told(alloc, only)?.as_str(), want);
+    }
+    Ok(())
+}
 
-fn sold(alloc: Global, row: Row) -> Result<Sold, Fail> {
-    let (award, imp, seat, charge, body) = row;
+fn sold(alloc: Global, award: u32, charge: u64, body: &str) -> Result<Sold, Fail> {
     Ok(Sold {
         award,
-        imp: Id::of(alloc, imp)?.ok_or(OutOfMemory)?,
-        seat: Text::of(alloc, seat)?,
+        imp: Id::of(alloc, "i\"1")?.ok_or(OutOfMemory)?,
+        seat: Text::of(alloc, "s1")?,
         charge: Units(charge),
         body: read(alloc, body.as_bytes())?,
     })
 }
 
-fn answer(alloc: Global, id: &str, base: &str, rows: &[Row]) -> Result<Text, Fail> {
-    let id = Id::of(alloc, id)?.ok_or(OutOfMemory)?;
-    let mut awards = Vec::new(alloc);
-    for row in rows {
-        awards.push(sold(alloc, *row)?)?;
-    }
-    Ok(write_answer(alloc, &id, base, awards.as_slice())?)
-}
-
 #[test]
 fn the_exchange_answers_in_compact_json(rt: HostRuntime) -> Result<(), Fail> {
     let alloc = rt.alloc();
-    let one: [Row; 1] = [(
-        0,
-        "1",
-        "s1",
-        1_250_000,
-        r#"{"cid":"c1","adm":"<img src=\"http://a.example/i?p=1.25\">"}"#,
-    )];
-    let id = "7979d0c7-4a1e-4c6b-9d0e-2f6f1b1c0a11";
-    let text = answer(alloc, id, "http://localhost", &one)?;
+    let id = Id::of(alloc, "a/1")?.ok_or(OutOfMemory)?;
+    let mut awards = Vec::new(alloc);
     assert_eq!(rt;
-        text.as_str(),
-        r#"{"id":"7979d0c7-4a1e-4c6b-9d0e-2f6f1b1c0a11","seatbid":[{"seat":"s1","bid":[{"id":"0","impid":"1","price":1.25,"cid":"c1","adm":"<img src=\"http://a.example/i?p=1.25\">","nurl":"http://localhost/notice/win?auction=7979d0c7-4a1e-4c6b-9d0e-2f6f1b1c0a11&bid=0","burl":"http://localhost/notice/bill?auction=7979d0c7-4a1e-4c6b-9d0e-2f6f1b1c0a11&bid=0","lurl":"http://localhost/notice/loss?auction=7979d0c7-4a1e-4c6b-9d0e-2f6f1b1c0a11&bid=0"}]}],"cur":"USD"}"#
+        write_answer(alloc, &id, "", awards.as_slice())?.as_str(),
+        "{\"id\":\"a/1\",\"seatbid\":[],\"cur\":\"USD\"}"
     );
-    let two: [Row; 2] = [
-        (
-            7,
-            "i\"1",
-            "",
-            1,
-            r#"{"lurl":"x","id":"y","w":[1,{"id":2}],"price":3,"impid":null}"#,
-        ),
-        (4_294_967_295, "i2", "s\\2", 1_000_000_000_000, "[1]"),
-    ];
-    let text = answer(alloc, "a/1 \"é", "http://x\"y", &two)?;
+    awards.push(sold(
+        alloc,
+        0,
+        1_250_000,
+        "{\"cid\":\"c1\",\"lurl\":\"x\",\"adm\":\"<img src=\\\"x\\\">\",\"id\":\"y\"}",
+    )?)?;
+    awards.push(sold(alloc, 4_294_967_295, 1_000_000_000_000, "[1]")?)?;
     assert_eq!(rt;
-        text.as_str(),
-        r#"{"id":"a/1 \"é","seatbid":[{"seat":"","bid":[{"id":"7","impid":"i\"1","price":0.000001,"w":[1,{"id":2}],"nurl":"http://x\"y/notice/win?auction=a%2F1%20%22%C3%A9&bid=7","burl":"http://x\"y/notice/bill?auction=a%2F1%20%22%C3%A9&bid=7","lurl":"http://x\"y/notice/loss?auction=a%2F1%20%22%C3%A9&bid=7"}]},{"seat":"s\\2","bid":[{"id":"4294967295","impid":"i2","price":1000000,"nurl":"http://x\"y/notice/win?auction=a%2F1%20%22%C3%A9&bid=4294967295","burl":"http://x\"y/notice/bill?auction=a%2F1%20%22%C3%A9&bid=4294967295","lurl":"http://x\"y/notice/loss?auction=a%2F1%20%22%C3%A9&bid=4294967295"}]}],"cur":"USD"}"#
+        write_answer(alloc, &id, "http://x", awards.as_slice())?.as_str(),
+        "{\"id\":\"a/1\",\"seatbid\":[{\"seat\":\"s1\",\"bid\":[{\"id\":\"0\",\"impid\":\"i\\\"1\",\"price\":1.25,\"cid\":\"c1\",\"adm\":\"<img src=\\\"x\\\">\",\"nurl\":\"http://x/notice/win?auction=a%2F1&bid=0\",\"burl\":\"http://x/notice/bill?auction=a%2F1&bid=0\",\"lurl\":\"http://x/notice/loss?auction=a%2F1&bid=0\"}]},{\"seat\":\"s1\",\"bid\":[{\"id\":\"4294967295\",\"impid\":\"i\\\"1\",\"price\":1000000,\"nurl\":\"http://x/notice/win?auction=a%2F1&bid=4294967295\",\"burl\":\"http://x/notice/bill?auction=a%2F1&bid=4294967295\",\"lurl\":\"http://x/notice/loss?auction=a%2F1&bid=4294967295\"}]}],\"cur\":\"USD\"}"
     );
     Ok(())
 }
