@@ -6,8 +6,9 @@ use Rattle.std.proofs.lemmas.Bool.{and_parts, cases_lt, eqb-true, leb-true}
 use Rattle.day_machine.proofs.LedgerKept.{get_or_default}
 use Rattle.std.proofs.Math.ListN.{drop_of_length-le}
 use Rattle.std.proofs.Math.Seq.{drop-cons}
-use Rattle.std.proofs.lemmas.List.{append-nil, get_or_at, length-map, length-take, map-append, set_at, take_all, take_at, take_more}
-use Rattle.std.proofs.lemmas.List.Elements.{All-cons, All-from_get_or, All-get_or, All-nil}
+use Rattle.std.proofs.lemmas.List.{append-nil, get_or_append_left, get_or_at, get_or_push, length-map, length-take, length_push, map-append, set_at, take_all, take_at, take_more}
+use Rattle.std.proofs.lemmas.Option.{slice_get_within}
+use Rattle.std.proofs.lemmas.List.Elements.{All-append, All-cons, All-from_get_or, All-get_or, All-nil}
 use Rattle.adx_units.specs.declared.offer.Offer.{Offer}
 use Rattle.allocator_core.specs.declared.reason.TheConstants.{AWARDED}
 use Rattle.day_rules.specs.declared.ask.Ask.{Ask}
@@ -145,3 +146,33 @@ pub map_done : {X : Type 0} (f : X → X) (items start old : List X) (i n : ℕ)
 map_done {X} f items start old i n is past same long =
     let all : items ≡ map f start = is ∙ (ap (λ (t : List X). map f t ++ drop i start) (take_all i start past) ∙ (ap (λ (t : List X). map f start ++ t) (drop_of_length-le start {i = i} past) ∙ append-nil (map f start))) in
     whole items old n (ap length all ∙ (length-map start f ∙ ap length same)) long ∙ all
+
+-- texts of each bid, in their order, are those that a day wants
+pub each_text : (offers : List Offer) (kept : List Kept) (n : ℕ) → length offers ≡ n → length kept ≡ n → ((k : ℕ) (d : Kept) → k < n → (get_or kept k d).bid ≡ k) → All IsShort kept → AreKeptTexts offers kept
+each_text offers kept n many long bids short = record {
+  ordered = λ i j d before below.
+      let one : (get_or kept i d).bid ≡ i = bids i d (omega arith) in
+      let two : (get_or kept j d).bid ≡ j = bids j d (omega arith) in
+      omega arith;
+  placed = All-from_get_or (λ (k : Kept). k.bid < length offers) kept no_texts (λ i within.
+      let here : (get_or kept i no_texts).bid ≡ i = bids i no_texts (omega arith) in
+      omega arith);
+  needed = λ place o at needs.
+      let within : place < length kept = omega (arith, slice_get_within offers place o at) in
+      let k : Kept = get_or kept place no_texts in
+      (place, k, within, get_or_default kept place k no_texts within, (bids place no_texts (omega arith), All-get_or IsShort kept place no_texts within short));
+}
+
+-- one more text
+pub one_more_text : (kept : List Kept) (n : ℕ) (k : Kept) → length kept ≡ n → ((i : ℕ) (d : Kept) → i < n → (get_or kept i d).bid ≡ i) → All IsShort kept → k.bid ≡ n → IsShort k
+    → (length (kept ++ k ∷ []) ≡ n + 1) × ((i : ℕ) (d : Kept) → i < n + 1 → (get_or (kept ++ k ∷ []) i d).bid ≡ i) × All IsShort (kept ++ k ∷ [])
+one_more_text kept n k long bids short is fits = (
+  omega (arith, length_push kept k),
+  (λ i d below. elim (cases_lt i n) [
+    | inl less ↦ ap (λ (l : Kept). l.bid) (get_or_append_left kept (k ∷ []) d i (omega arith)) ∙ bids i d less
+    | inr more ↦
+        let last : i ≡ n = omega arith in
+        ap (λ (l : Kept). l.bid) (get_or_push kept k d i (long ∙ sym last)) ∙ (is ∙ sym last)
+  ]),
+  All-append IsShort kept (k ∷ []) short (All-cons IsShort k [] fits (All-nil IsShort)),
+)

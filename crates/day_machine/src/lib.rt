@@ -15,4 +15,12 @@ mod sales;
 mod totals;
 
 pub use day::Day;
-pub use day_rules::{Answer, Ask, DayLimits, Entry, Kept, Seen, Which};
+pub use day_rules::{
+    Answer, Ask, DayLimits, Entry, KEPT_OVERHEAD, Kept, MAX_AUCTIONS, MAX_BIDS, MAX_IMPS, MAX_KEPT,
+    MAX_LIFE, MAX_OFFERS, MAX_TEXT, NO_IMP, Seen, Which,
+};
+
+#[cfg(test)]
+mod plain;
+#[cfg(test)]
+mod tests;

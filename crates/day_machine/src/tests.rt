@@ -1,0 +1,359 @@
+ghost use Rattle.std.specs.Prelude.{◌≡◌, ◌≤◌, ◌^◌, ◌<◌, ℕ, All, IfOk, IfSome, length, slice_index_or};
+ghost use Rattle.adx_units.specs.declared.offer.TheConstants.{ADMITTED as ADMITTED_MARK};
+ghost use Rattle.day_rules.specs.Asks.{IsAdmittedOffer, IsUndecided, IsWellFormed};
+ghost use Rattle.day_rules.specs.declared.ask.Kept.{Kept as KeptValue};
+ghost use Rattle.day_rules.specs.Legal.{MayFollow};
+ghost use Rattle.day_machine.specs.KeptTexts.{IsShort};
+
+use super::*;
+use crate::plain;
+use adx_units::{ADMITTED, Id, Offer, OutOfMemory, Sequence, Text, Units};
+use notice_book::{End, NoticeKind};
+use std::alloc::Global;
+use std::process::Abort;
+use std::test::Fail;
+
+/// A bid: its campaign, charge and life.
+type Bid = (u32, u64, u32);
+
+/// The offer of a bid.
+fn offer(bid: Bid) -> Offer
+    ensures admitted { IsAdmittedOffer 2 1 result }
+    ensures undecided { result.reason ≡ ADMITTED_MARK }
+{
+    let (campaign, charge, life) = bid;
+    Offer {
+        imp: 0,
+        campaign: campaign.min(1),
+        charge: Units(charge.clamp(1, 1_000)),
+        life: life.clamp(1, 3_600),
+        reason: ADMITTED,
+    }
+}
+
+/// The offers of bids.
+fn offers(alloc: Global, bids: &[Bid]) -> Result<Vec<Offer>, OutOfMemory>
+    ensures admitted { IfOk result (λ v. All (IsAdmittedOffer 2 1) v.items) }
+    ensures undecided { IfOk result (λ v. All (λ o. o.reason ≡ ADMITTED_MARK) v.items) }
+    ensures long { IfOk result (λ v. length v.items ≡ length bids.now) }
+{
+    let mut offers = Vec::new(alloc);
+    for bid in bids {
+        offers.push(offer(*bid))?;
+    }
+    Ok(offers)
+}
+
+/// The texts of the bid at a place.
+fn texts_of(alloc: Global, place: u32) -> Result<Kept, OutOfMemory>
+    ensures bid { IfOk result (λ k. k.bid ≡ place) }
+    ensures short { IfOk result IsShort }
+{
+    Ok(Kept {
+        bid: place,
+        seat: Text::of(alloc, "s")?,
+        bidid: Text::of(alloc, "")?,
+        adid: Text::of(alloc, "")?,
+        nurl: Text::of(alloc, "n")?,
+        burl: Text::of(alloc, "")?,
+        lurl: Text::of(alloc, "l")?,
+        body: Text::of(alloc, "{}")?,
+    })
+}
+
+/// The texts of so many bids.
+fn texts(alloc: Global, count: u32) -> Result<Vec<Kept>, OutOfMemory>
+    ensures long { IfOk result (λ v. length v.items ≡ count) }
+    ensures bids { IfOk result (λ v. (k : ℕ) (d : KeptValue) → k < count → (slice_index_or v.items k d).bid ≡ k) }
+    ensures short { IfOk result (λ v. All IsShort v.items) }
+{
+    let mut kept = Vec::new(alloc);
+    for place in 0..count {
+        kept.push(texts_of(alloc, place)?)?;
+    }
+    Ok(kept)
+}
+
+/// An ask of one impression.
+fn ask(alloc: Global, auction: &str, digest: u8, now: u64, bids: &[Bid]) -> Result<Ask, OutOfMemory>
+    requires few { length bids.now ≤ 1024 }
+    requires now { now < 2 ^ 63 }
+    ensures formed { IfOk result (λ a. IsWellFormed 2 a) }
+    ensures undecided { IfOk result (λ a. IsUndecided a) }
+{
+    let mut imps = Vec::new(alloc);
+    imps.push(Id::of(alloc, "1")?.ok_or(OutOfMemory)?)?;
+    Ok(Ask {
+        auction: Id::of(alloc, auction)?.ok_or(OutOfMemory)?,
+        digest: [digest; 32],
+        now,
+        first: 0,
+        imps: Sequence::from(imps),
+        offers: Sequence::from(offers(alloc, bids)?),
+        kept: Sequence::from(texts(alloc, bids.len() as u32)?),
+    })
+}
+
+/// The budgets of the two campaigns.
+const BUDGETS: [u64; 2] = [100, 1_000];
+
+/// A day of the two campaigns.
+fn open(alloc: Global, auctions: u64, bids: u64, text: u64) -> Result<Day, OutOfMemory>
+    ensures budgets { IfOk result (λ d. length d.terms.budgets ≡ 2) }
+{
+    let limits = DayLimits {
+        auctions: auctions.min(1_000),
+        bids: bids.min(10_000),
+        text: text.min(1_000_000),
+    };
+    Day::new(alloc, &[Units(100), Units(1_000)], limits)
+}
+
+/// Adds the entry of a plan, if it gave one.
+fn take(day: &mut Day, planned: (Answer, Option<Entry>)) -> Result<Answer, OutOfMemory>
+    requires { IfSome planned.1 (MayFollow day.old.terms day.old.history) }
+    ensures { day.new.terms ≡ day.old.terms }
+{
+    let (answer, entry) = planned;
+    if let Some(entry) = entry {
+        day.prepare(&entry)?;
+        day.commit(entry);
+    }
+    Ok(answer)
+}
+
+/// A call of a table: an ask with the first so many of two bids, a notice, or a tick.
+#[derive(Clone, Copy)]
+enum Call {
+    Ask(&'static str, u8, u64, Bid, Bid, usize),
+    Notice(NoticeKind, &'static str, u32),
+    Tick(u64),
+}
+
+/// The day's answer to a call, whose entry it takes.
+fn answer(alloc: Global, day: &mut Day, call: Call) -> Result<Answer, OutOfMemory>
+    requires { length day.old.terms.budgets ≡ 2 }
+    ensures { day.new.terms ≡ day.old.terms }
+{
+    let planned = match call {
+        Call::Ask(auction, digest, now, first, second, count) => {
+            let both = [first, second];
+            let ask = ask(
+                alloc,
+                auction,
+                digest,
+                now % 1_000_000,
+                &both[..count.min(2)],
+            )?;
+            day.plan_ask(ask)
+        }
+        Call::Notice(kind, auction, award) => day.plan_notice(kind, auction, award),
+        Call::Tick(now) => day.plan_tick(now % 1_000_000),
+    };
+    take(day, planned)
+}
+
+/// Calls of a day, one after another, with their answers.
+fn rows() -> [(Call, Answer); 26] {
+    let reused = Answer::Reused {
+        kept_digest: [1; 32],
+        given: [2; 32],
+    };
+    let win = NoticeKind::Win;
+    let bill = NoticeKind::Bill;
+    let loss = NoticeKind::Loss;
+    let lost = Answer::Conflict { kept: End::Lost };
+    let billed = Answer::Conflict { kept: End::Billed };
+    let expired = Answer::Conflict { kept: End::Expired };
+    let many = |which, count| Answer::DayFull { which, count };
+    [
+        // Of equals the first is chosen; then the call again, and its id with another request.
+        (
+            Call::Ask("a", 1, 10, (0, 60, 50), (1, 60, 50), 2),
+            Answer::Awarded { entry: 0 },
+        ),
+        (
+            Call::Ask("a", 1, 99, (0, 60, 50), (1, 60, 50), 2),
+            Answer::Repeat { entry: 0 },
+        ),
+        (Call::Ask("a", 2, 10, (0, 60, 50), (1, 60, 50), 0), reused),
+        // At six tenths of a budget the discount is near one half.
+        (
+            Call::Ask("b", 3, 10, (0, 39, 50), (1, 30, 50), 2),
+            Answer::Awarded { entry: 1 },
+        ),
+        // What would pass the budget isn't chosen, and an ask without bids has no sale.
+        (
+            Call::Ask("c", 4, 10, (0, 41, 50), (0, 50, 50), 2),
+            Answer::NoSale { entry: 2 },
+        ),
+        (
+            Call::Ask("d", 5, 10, (0, 1, 50), (0, 1, 50), 0),
+            Answer::NoSale { entry: 3 },
+        ),
+        // A win counts once, a bill once, and a loss behind the bill releases nothing.
+        (Call::Notice(win, "b", 1), Answer::Counted),
+        (Call::Notice(win, "b", 1), Answer::Repeat { entry: 4 }),
+        (Call::Notice(bill, "b", 1), Answer::Counted),
+        (Call::Notice(bill, "b", 1), Answer::Repeat { entry: 5 }),
+        (Call::Notice(loss, "b", 1), billed),
+        // The auction is another one's, or not there; the number is past the end.
+        (Call::Notice(bill, "a", 1), Answer::Unknown),
+        (Call::Notice(bill, "z", 0), Answer::Unknown),
+        (Call::Notice(bill, "a", 2), Answer::Unknown),
+        // An award stands at its deadline and ends behind it; a late win is a conflict.
+        (Call::Tick(60), Answer::Ticked { ended: 0 }),
+        (
+            Call::Ask("e", 6, 20, (0, 40, 10), (0, 1, 10), 1),
+            Answer::Awarded { entry: 6 },
+        ),
+        (Call::Tick(31), Answer::Ticked { ended: 1 }),
+        (Call::Notice(win, "e", 2), expired),
+        (Call::Notice(bill, "e", 2), expired),
+        // A loss gives the money back; a bill behind it is a conflict, and so is a win.
+        (Call::Notice(loss, "a", 0), Answer::Counted),
+        (Call::Notice(loss, "a", 0), Answer::Repeat { entry: 8 }),
+        (Call::Notice(bill, "a", 0), lost),
+        (Call::Notice(win, "a", 0), lost),
+        // Each limit counts what the day would come to: asks, bids and kept text.
+        (
+            Call::Ask("f", 7, 10, (0, 100, 5), (1, 5, 5), 2),
+            many(Which::Bids, 9),
+        ),
+        (
+            Call::Ask("f", 7, 10, (0, 100, 5), (1, 5, 5), 1),
+            Answer::Awarded { entry: 9 },
+        ),
+        (
+            Call::Ask("g", 8, 10, (0, 1, 5), (1, 5, 5), 0),
+            many(Which::Auctions, 7),
+        ),
+    ]
+}
+
+#[test]
+fn plays_a_small_day(rt: HostRuntime) -> Result<(), Fail> {
+    let mut day = open(rt.alloc(), 6, 8, 100_000)?;
+    for (call, want) in rows() {
+        let given = answer(rt.alloc(), &mut day, call)?;
+        assert_eq!(rt; given, want);
+    }
+    assert_eq!(rt; day.seen("b", &[3; 32]), Seen::Same { entry: 1 });
+    assert_eq!(rt; day.seen("z", &[3; 32]), Seen::New);
+    assert_eq!(rt; day.book().count(), 2);
+    assert_eq!(rt;
+        (day.book().reserved(0), day.book().billed(0)),
+        (Units(100), Units(0))
+    );
+    assert_eq!(rt;
+        (day.book().reserved(1), day.book().billed(1)),
+        (Units(0), Units(30))
+    );
+    Ok(())
+}
+
+/// The next number of a fixed sequence (SplitMix64), below a bound.
+fn next(state: &mut u64, bound: u64) -> u64
+    requires { 1 ≤ bound }
+    ensures { result < bound }
+{
+    *state = state.wrapping_add(0x9e37_79b9_7f4a_7c15);
+    let first = (*state ^ (*state >> 30)).wrapping_mul(0xbf58_476d_1ce4_e5b9);
+    let second = (first ^ (first >> 27)).wrapping_mul(0x94d0_49bb_1331_11eb);
+    (second ^ (second >> 31)) % bound
+}
+
+/// A call of a small day.
+fn any_call(state: &mut u64) -> Call {
+    const NAMES: [&str; 6] = ["a", "b", "c", "d", "e", "f"];
+    let name = NAMES[next(state, 6) as usize];
+    let n = next(state, 6) as u32;
+    let kinds = [NoticeKind::Win, NoticeKind::Bill, NoticeKind::Loss];
+    let now = next(state, 90);
+    match next(state, 4) {
+        0 => {
+            let first = (
+                next(state, 2) as u32,
+                next(state, 120),
+                next(state, 30) as u32,
+            );
+            let second = (
+                next(state, 2) as u32,
+                next(state, 120),
+                next(state, 30) as u32,
+            );
+            let digest = next(state, 2) as u8;
+            Call::Ask(name, digest, now, first, second, next(state, 3) as usize)
+        }
+        1 | 2 => Call::Notice(kinds[next(state, 3) as usize], name, n),
+        _ => Call::Tick(now),
+    }
+}
+
+/// What the plain slow program answers to a call that passes no limit.
+fn plain_answer(alloc: Global, entries: &[Entry], call: Call) -> Result<Answer, OutOfMemory> {
+    match call {
+        Call::Ask(auction, digest, _now, first, second, count) => {
+            if let Some(answer) = plain::known(entries, auction, &[digest; 32]) {
+                return Ok(answer);
+            }
+            let entry = entries.len() as u64;
+            let both = [first, second];
+            let offers = offers(alloc, &both[..count.min(2)])?;
+            let settled = plain::settled(alloc, entries, &BUDGETS, &offers, 1)?;
+            if settled.iter().any(|offer| offer.reason == 0) {
+                return Ok(Answer::Awarded { entry });
+            }
+            Ok(Answer::NoSale { entry })
+        }
+        Call::Notice(kind, auction, award) => {
+            Ok(plain::notice(alloc, entries, kind, auction, award)?)
+        }
+        Call::Tick(now) => {
+            let awards = plain::awards_of(alloc, entries)?;
+            let ended = plain::due(&awards, plain::moment(entries, now));
+            Ok(Answer::Ticked { ended })
+        }
+    }
+}
+
+/// Compares the day's awards and money with those of the plain slow program.
+fn compare(rt: &impl Abort, alloc: Global, day: &Day) -> Result<(), OutOfMemory> {
+    let awards = plain::awards_of(alloc, day.entries())?;
+    for n in 0..=day.awards().len() {
+        assert_eq!(rt;
+            day.awards().get(n).copied(),
+            awards.get(n as usize).copied()
+        );
+    }
+    assert_eq!(rt; day.book().count(), 2);
+    for campaign in 0..2 {
+        let reserved = plain::money(&awards, campaign, None);
+        let billed = plain::money(&awards, campaign, Some(End::Billed));
+        assert_eq!(rt; day.book().reserved(campaign), Units(reserved));
+        assert_eq!(rt; day.book().billed(campaign), Units(billed));
+    }
+    Ok(())
+}
+
+/// Plays a small day of calls that look random.
+fn play(rt: &impl Abort, alloc: Global, seed: u64) -> Result<(), OutOfMemory> {
+    let mut state = seed;
+    let mut day = open(alloc, 1_000, 10_000, 1_000_000)?;
+    for _turn in 0..40 {
+        let call = any_call(&mut state);
+        let want = plain_answer(alloc, day.entries(), call)?;
+        let given = answer(alloc, &mut day, call)?;
+        assert_eq!(rt; given, want, "at seed {seed}");
+        compare(rt, alloc, &day)?;
+    }
+    Ok(())
+}
+
+#[test]
+fn plays_as_the_plain_program_does(rt: HostRuntime) -> Result<(), Fail> {
+    for seed in 0..60 {
+        play(&rt, rt.alloc(), seed)?;
+    }
+    Ok(())
+}
