@@ -261,7 +261,8 @@ fn the_first_broken_line_is_named(rt: HostRuntime) -> Result<(), Fail> {
         ),
     ];
     for (head, more, line, want) in rows {
-        let mut document = String::from_str(alloc, head)?;
+        let mut document = String::new(alloc);
+        document.push_str(head)?;
         document.push_str(more)?;
         document.push_str(line)?;
         let fault = read_record(alloc, document.as_bytes()).err();
