@@ -1,11 +1,8 @@
 -- What was put at the end, one piece behind the other.
-use Rattle.std.proofs.Common.{◌≡◌, ℕ, List, [], ◌∷◌, ◌++◌, refl, sym, ap, ◌∙◌, append_assoc, append-nil, decimal, codes}
-use Rattle.adx_json.specs.Tree.{Tree, text, number, object, Members, no_members, member}
-use Rattle.adx_json.specs.Spelling.{spelling, text_spelling, members_spelling, more_members_spelling}
-use Rattle.adx_units.specs.Money.{price_text}
+use Rattle.std.proofs.Common.{◌≡◌, ℕ, List, [], ◌∷◌, ◌++◌, refl, sym, ap, ◌∙◌, append_assoc, append-nil, codes}
+use Rattle.adx_json.specs.Tree.{Members, no_members, member}
+use Rattle.adx_json.specs.Spelling.{spelling, text_spelling, more_members_spelling}
 use Rattle.rtb_response.specs.ExchangeAnswer.{followed_by}
-use Rattle.rtb_response.specs.Parts.{own_members}
-use Rattle.rtb_response.specs.declared.sold.Sold.{Sold}
 
 -- three pieces, with nothing behind them
 pub three : (o a b c x y z : List ℕ) → x ≡ o ++ a → y ≡ x ++ b → z ≡ y ++ c → z ≡ o ++ (a ++ (b ++ (c ++ [])))

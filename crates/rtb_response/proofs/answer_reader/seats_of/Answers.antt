@@ -1,4 +1,4 @@
-use Rattle.std.proofs.Common.{◌+◌, ◌∙◌, drop, map}
+use Rattle.std.proofs.Common.{◌+◌, ◌∙◌, drop}
 use Rattle.adx_json.specs.View.{tree_of, trees_of}
 use Rattle.tree_view.proofs.Items.{left_is}
 use Rattle.rtb_response.specs.Answers.{seat_view}

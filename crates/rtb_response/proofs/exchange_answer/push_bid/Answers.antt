@@ -1,6 +1,5 @@
-use Rattle.std.proofs.Common.{◌≡◌, ◌++◌, ◌∷◌, [], ap, sym, ◌∙◌, string_bytes, decimal, append_assoc}
-use Rattle.adx_json.specs.Tree.{members_of}
-use Rattle.adx_json.specs.View.{tree_of, members_view}
+use Rattle.std.proofs.Common.{◌++◌, ◌∷◌, [], ap, sym, ◌∙◌, string_bytes, decimal, append_assoc}
+use Rattle.adx_json.specs.View.{tree_of}
 use Rattle.adx_json.specs.Spelling.{text_spelling, more_members_spelling}
 use Rattle.adx_units.specs.Money.{price_text}
 use Rattle.tree_view.specs.Walks.{members_by}

@@ -1,4 +1,4 @@
-use Rattle.std.proofs.Common.{◌++◌, ap, ◌∙◌, string_bytes}
+use Rattle.std.proofs.Common.{◌++◌, string_bytes}
 use Rattle.adx_json.specs.Spelling.{text_spelling}
 use Rattle.rtb_response.specs.Notices.{url_of}
 use Rattle.rtb_response.specs.Parts.{front_of}

@@ -1,4 +1,4 @@
-use Rattle.std.proofs.Common.{◌≡◌, ◌++◌, [], map, codes, ap, sym, ◌∙◌, string_bytes}
+use Rattle.std.proofs.Common.{◌≡◌, ◌++◌, map, codes, ap, sym, ◌∙◌, string_bytes}
 use Rattle.std.specs.List.{flat_map}
 use Rattle.adx_json.specs.Tree.{items_of}
 use Rattle.adx_json.specs.Spelling.{text_spelling, items_spelling}
