@@ -3,9 +3,9 @@ ghost use Rattle.hex.specs.Hex.{encode_lower};
 ghost use Rattle.adx.specs.Output.{refused_line, toolong_line, dayfull_line, which_text, reused_line};
 
 use adx_units::OutOfMemory;
-use narrow_day::Which;
 use hex::encode;
 use itoa::Buffer;
+use narrow_day::Which;
 use std::alloc::Global;
 
 /// Writes a text as it is.

@@ -8,8 +8,8 @@ use crate::output::{push, push_number};
 use crate::roster::Campaign;
 use adx_json::push_text;
 use adx_units::OutOfMemory;
-use narrow_day::Day;
 use discount_table::slab_of;
+use narrow_day::Day;
 
 /// Writes a campaign's row of the closing table.
 fn push_campaign(
