@@ -7,3 +7,7 @@ pub mod AskKept
 pub mod IdPlaces
 pub mod Planning
 pub mod Settled
+pub mod AskTests
+pub mod TextsNeeded
+pub mod AgainSettled
+pub mod LegalParts

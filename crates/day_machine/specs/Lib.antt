@@ -5,3 +5,5 @@ pub mod Sums
 pub mod KeptTexts
 pub mod Selling
 pub mod Answered
+pub mod OfferTests
+pub mod Again

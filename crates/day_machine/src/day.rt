@@ -31,11 +31,11 @@ use std::marker::Model;
 #[derive(Drop)]
 pub struct Day {
     alloc: Global,
-    limits: DayLimits,
+    pub(crate) limits: DayLimits,
     history: Vec<Entry>,
     ledger: Ledger,
     ids: IndexMap<String, u32>,
-    totals: Totals,
+    pub(crate) totals: Totals,
 }
 
 impl Model for Day {

@@ -6,10 +6,14 @@
 //! Stands on `day_rules`, `allocator_core`, `campaign_book`, `notice_book` and `indexmap`.
 #![tactic(auto)]
 
+mod again;
 mod day;
+mod formed;
 mod ids;
 mod kept;
 mod ledger;
+mod legal;
+mod needed;
 mod places;
 mod sales;
 mod totals;
@@ -20,6 +24,8 @@ pub use day_rules::{
     MAX_LIFE, MAX_OFFERS, MAX_TEXT, NO_IMP, Seen, Which,
 };
 
+#[cfg(test)]
+mod legal_tests;
 #[cfg(test)]
 mod plain;
 #[cfg(test)]

@@ -98,7 +98,7 @@ fn ask(alloc: Global, auction: &str, digest: u8, now: u64, bids: &[Bid]) -> Resu
 const BUDGETS: [u64; 2] = [100, 1_000];
 
 /// A day of the two campaigns.
-fn open(alloc: Global, auctions: u64, bids: u64, text: u64) -> Result<Day, OutOfMemory>
+pub(crate) fn open(alloc: Global, auctions: u64, bids: u64, text: u64) -> Result<Day, OutOfMemory>
     ensures budgets { IfOk result (λ d. length d.terms.budgets ≡ 2) }
 {
     let limits = DayLimits {
