@@ -1,0 +1,29 @@
+-- The bytes of a record behind its gate, and the frame that holds them. This project's own.
+use Rattle.std.specs.Prelude.{◌≡◌, ℕ, ◌-◌, ◌≤◌, List, [], ◌∷◌, ◌++◌, length, take, drop}
+use Rattle.std.specs.Int.{w32, to_le_bytes}
+
+-- the longest payload of a record, in bytes
+abbrev pub longest_payload : ℕ
+longest_payload = 67108864
+
+-- a payload behind its length
+abbrev pub body : List ℕ → List ℕ
+body payload = to_le_bytes w32 (length payload) ++ payload
+
+-- the same, and a closed gate behind it
+abbrev pub record_of : List ℕ → List ℕ
+record_of payload = body payload ++ 0 ∷ []
+
+-- a payload, and for how many bytes more the frame has room without memory
+pub record FrameState : Type 0 where
+  pub payload : List ℕ
+  pub spare : ℕ
+
+-- the bytes between the length and the gate
+abbrev pub payload_in : List ℕ → List ℕ
+payload_in bytes = take (length bytes - 5) (drop 4 bytes)
+
+-- the bytes are a record
+pub record IsRecord (bytes : List ℕ) : Type 0 where
+  pub whole : bytes ≡ record_of (payload_in bytes)
+  pub fits : length (payload_in bytes) ≤ longest_payload
