@@ -1,3 +1,4 @@
+//! An opened file of std as a disk.
 ghost use Rattle.std.specs.Prelude.{◌≡◌, ◌≤◌, length, IfSome};
 ghost use Rattle.adx_io.specs.FileDisks.{disk_faults, file_of};
 

@@ -1,3 +1,4 @@
+//! The bytes of one record of a journal.
 ghost use Rattle.adx_io.specs.Frames.{record_of};
 ghost use Rattle.std.specs.Int.{to_le_bytes, w32};
 ghost use Rattle.std.specs.Prelude.{◌≡◌, ◌≤◌, ◌+◌, ◌++◌, [], length, min, take, drop, vec_len, vec_capacity, IfOk, IsOk, OnOk, OnErr};

@@ -1,3 +1,4 @@
+//! A disk in memory, with the images that a crash may leave of it.
 ghost use Rattle.adx_io.specs.Disks.{Shows, reaching, written};
 ghost use Rattle.adx_io.specs.Fakes.{counted};
 ghost use Rattle.adx_io.specs.MemoryDisks.{HasCome};

@@ -1,3 +1,4 @@
+//! A source in memory.
 ghost use Rattle.std.specs.Prelude.{◌≡◌, ◌≤◌, ◌==◌, ℕ, [], length, min, take, IfOk, if◌then◌else◌};
 
 use crate::failed::Failed;
