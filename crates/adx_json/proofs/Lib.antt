@@ -24,10 +24,12 @@ pub mod Judged
 pub mod FaultKinds
 pub mod Scans
 pub mod TextParts
+pub mod Unescaped
 pub mod Breaks
 pub mod ReaderParts
 pub mod ReadItems
 pub mod ReadMembers
+pub mod PendingParts
 pub mod KeptMembers
 pub mod WellFormedTrees
 pub mod NamedMembers

@@ -108,5 +108,5 @@ pub(crate) fn ascii_text(alloc: Global, bytes: &[u8]) -> Result<Text, OutOfMemor
     requires { IsAscii bytes.now }
     ensures { IfOk result (λ t. t ≡ bytes.now) }
 {
-    Text::of(alloc, str::from_utf8(bytes).unwrap())
+    Text::of(alloc, unsafe { str::from_utf8_unchecked(bytes) })
 }

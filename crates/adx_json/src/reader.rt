@@ -1,5 +1,5 @@
 //! JSON texts (RFC 8259) in one pass over their bytes.
-ghost use Rattle.std.specs.Prelude.{◌≡◌, ◌++◌, ◌∷◌, ◌+◌, ◌≤◌, [], List, ℕ, suc, length, IfOk, IfErr, true};
+ghost use Rattle.std.specs.Prelude.{◌≡◌, ◌++◌, ◌∷◌, ◌+◌, ◌≤◌, [], List, ℕ, suc, length, IfOk, IfErr, OnOk, true};
 ghost use Rattle.std.specs.List.{prefix_len};
 ghost use Rattle.adx_json.specs.Tree.{Tree, items_of, members_of, levels};
 ghost use Rattle.adx_json.specs.WellFormed.{IsWellFormed, HasUtf8};
@@ -22,6 +22,14 @@ use std::alloc::Global;
 
 /// How many lists and objects may stand one within the other.
 const LEVELS: usize = 64;
+
+/// The items and members of the lists and objects whose end is still to come, those of the innermost last. Each takes its
+/// own at its end: it is allocated once, as long as it is.
+#[derive(Drop)]
+struct Pending {
+    items: Vec<Json>,
+    members: Vec<Member>,
+}
 
 fn is_space(byte: u8) -> bool
     ensures { result ≡ is_space_byte byte }
@@ -63,10 +71,16 @@ fn word_at<'a>(bytes: &'a [u8], word: &[u8]) -> Result<&'a [u8], Stop>
 
 /// The value of at most so many levels at the front, and the bytes behind it.
 #[cycle(json)]
-fn value_at(alloc: Global, bytes: &[u8], levels: usize) -> Result<(Json, &[u8]), Stop>
+fn value_at<'a>(
+    alloc: Global,
+    pending: &mut Pending,
+    bytes: &'a [u8],
+    levels: usize,
+) -> Result<(Json, &'a [u8]), Stop>
     requires { Stops is_space_byte bytes.now }
     ensures found { IfOk result (λ x. FoundValue levels bytes.now (tree_of x.0) x.1.now) }
     ensures stops { IfErr result (λ e. StopsAt e levels at_value bytes.now) }
+    ensures kept { OnOk result ((pending.new.items.items ≡ pending.old.items.items) × (pending.new.members.items ≡ pending.old.members.items)) }
 {
     let Some((byte, rest)) = bytes.split_first() else {
         return Err(Stop::Syntax(0));
@@ -80,14 +94,14 @@ fn value_at(alloc: Global, bytes: &[u8], levels: usize) -> Result<(Json, &[u8]),
             if levels == 0 {
                 return Err(Stop::Depth(bytes.len()));
             }
-            let (items, rest) = items_at(alloc, rest, levels - 1)?;
+            let (items, rest) = items_at(alloc, pending, rest, levels - 1)?;
             Ok((Json::List(items), rest))
         }
         b'{' => {
             if levels == 0 {
                 return Err(Stop::Depth(bytes.len()));
             }
-            let (members, rest) = members_at(alloc, rest, levels - 1)?;
+            let (members, rest) = members_at(alloc, pending, rest, levels - 1)?;
             let kept = without_repeats(alloc, members)?;
             Ok((Json::Object(kept), rest))
         }
@@ -112,33 +126,46 @@ fn value_at(alloc: Global, bytes: &[u8], levels: usize) -> Result<(Json, &[u8]),
 
 /// The value at the front with the white space around it, and the bytes behind.
 #[cycle(json)]
-fn element_at(alloc: Global, bytes: &[u8], levels: usize) -> Result<(Json, &[u8]), Stop>
+fn element_at<'a>(
+    alloc: Global,
+    pending: &mut Pending,
+    bytes: &'a [u8],
+    levels: usize,
+) -> Result<(Json, &'a [u8]), Stop>
     ensures found { IfOk result (λ x. FoundElement levels bytes.now (tree_of x.0) x.1.now) }
     ensures stops { IfErr result (λ e. StopsAt e levels at_value bytes.now) }
+    ensures kept { OnOk result ((pending.new.items.items ≡ pending.old.items.items) × (pending.new.members.items ≡ pending.old.members.items)) }
 {
     let start = after_space(bytes);
-    let (value, rest) = value_at(alloc, start, levels)?;
+    let (value, rest) = value_at(alloc, pending, start, levels)?;
     let end = after_space(rest);
     Ok((value, end))
 }
 
 /// The items behind a list's opening bracket, and the bytes behind its closing one.
 #[cycle(json)]
-fn items_at(alloc: Global, bytes: &[u8], levels: usize) -> Result<(Vec<Json>, &[u8]), Stop>
+fn items_at<'a>(
+    alloc: Global,
+    pending: &mut Pending,
+    bytes: &'a [u8],
+    levels: usize,
+) -> Result<(Vec<Json>, &'a [u8]), Stop>
     ensures found { IfOk result (λ x. FoundItems levels bytes.now (items_of (trees_of x.0.items)) x.1.now) }
     ensures stops { IfErr result (λ e. StopsInside e levels at_first_item bytes.now) }
+    ensures kept { OnOk result ((pending.new.items.items ≡ pending.old.items.items) × (pending.new.members.items ≡ pending.old.members.items)) }
 {
-    let mut found = Vec::new(alloc);
+    let begun = pending.items.len();
     let start = after_space(bytes);
     if let Some(rest) = after(start, b']') {
-        return Ok((found, rest));
+        return Ok((Vec::new(alloc), rest));
     }
     let mut left = bytes;
     'items: loop {
-        let (item, rest) = element_at(alloc, left, levels)?;
-        found.push(item)?;
+        let (item, rest) = element_at(alloc, pending, left, levels)?;
+        pending.items.push(item)?;
         if let Some(end) = after(rest, b']') {
-            return Ok((found, end));
+            let items = pending.items.split_off(begun)?;
+            return Ok((items, end));
         }
         let Some(more) = after(rest, b',') else {
             return Err(Stop::Syntax(rest.len()));
@@ -149,21 +176,28 @@ fn items_at(alloc: Global, bytes: &[u8], levels: usize) -> Result<(Vec<Json>, &[
 
 /// The members behind an object's opening brace as they stand, and the bytes behind its closing one.
 #[cycle(json)]
-fn members_at(alloc: Global, bytes: &[u8], levels: usize) -> Result<(Vec<Member>, &[u8]), Stop>
+fn members_at<'a>(
+    alloc: Global,
+    pending: &mut Pending,
+    bytes: &'a [u8],
+    levels: usize,
+) -> Result<(Vec<Member>, &'a [u8]), Stop>
     ensures found { IfOk result (λ x. FoundMembers levels bytes.now (members_of (members_view x.0.items)) x.1.now) }
     ensures stops { IfErr result (λ e. StopsInside e levels at_first_name bytes.now) }
+    ensures kept { OnOk result ((pending.new.items.items ≡ pending.old.items.items) × (pending.new.members.items ≡ pending.old.members.items)) }
 {
-    let mut found = Vec::new(alloc);
+    let begun = pending.members.len();
     let start = after_space(bytes);
     if let Some(rest) = after(start, b'}') {
-        return Ok((found, rest));
+        return Ok((Vec::new(alloc), rest));
     }
     let mut left = bytes;
     'members: loop {
-        let (member, rest) = member_at(alloc, left, levels)?;
-        found.push(member)?;
+        let (member, rest) = member_at(alloc, pending, left, levels)?;
+        pending.members.push(member)?;
         if let Some(end) = after(rest, b'}') {
-            return Ok((found, end));
+            let members = pending.members.split_off(begun)?;
+            return Ok((members, end));
         }
         let Some(more) = after(rest, b',') else {
             return Err(Stop::Syntax(rest.len()));
@@ -174,12 +208,18 @@ fn members_at(alloc: Global, bytes: &[u8], levels: usize) -> Result<(Vec<Member>
 
 /// A member at the front with the white space around it, and the bytes behind.
 #[cycle(json)]
-fn member_at(alloc: Global, bytes: &[u8], levels: usize) -> Result<(Member, &[u8]), Stop>
+fn member_at<'a>(
+    alloc: Global,
+    pending: &mut Pending,
+    bytes: &'a [u8],
+    levels: usize,
+) -> Result<(Member, &'a [u8]), Stop>
     ensures found { IfOk result (λ x. FoundMember levels bytes.now (member_of x.0).0 (member_of x.0).1 x.1.now) }
     ensures stops { IfErr result (λ e. StopsInside e levels at_name bytes.now) }
+    ensures kept { OnOk result ((pending.new.items.items ≡ pending.old.items.items) × (pending.new.members.items ≡ pending.old.members.items)) }
 {
     let (name, rest) = name_at(alloc, bytes)?;
-    let (value, rest) = element_at(alloc, rest, levels)?;
+    let (value, rest) = element_at(alloc, pending, rest, levels)?;
     Ok((Member { name, value }, rest))
 }
 
@@ -205,7 +245,11 @@ fn whole(alloc: Global, bytes: &[u8]) -> Result<Json, Stop>
     ensures found { IfOk result (λ j. IsJson bytes.now (tree_of j)) }
     ensures stops { IfErr result (λ e. Tells e (stop_of 64 at_value [] bytes.now)) }
 {
-    let (value, rest) = element_at(alloc, bytes, LEVELS)?;
+    let mut pending = Pending {
+        items: Vec::new(alloc),
+        members: Vec::new(alloc),
+    };
+    let (value, rest) = element_at(alloc, &mut pending, bytes, LEVELS)?;
     if !rest.is_empty() {
         return Err(Stop::Syntax(rest.len()));
     }

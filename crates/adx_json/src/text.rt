@@ -1,5 +1,5 @@
 //! A text between quotation marks (RFC 8259, section 7), as it is read.
-ghost use Rattle.std.specs.Prelude.{◌≡◌, ◌++◌, ◌∷◌, ◌<◌, ◌+◌, ◌*◌, ◌^◌, List, ℕ, length, IsTrue, IfOk, IfErr, IfSome, MatchOption, OnOk, true, false, Some, None, string_bytes};
+ghost use Rattle.std.specs.Prelude.{◌≡◌, ◌++◌, ◌∷◌, ◌<◌, ◌+◌, ◌*◌, ◌^◌, List, ℕ, length, IsTrue, IsAscii, IfOk, IfErr, IfSome, MatchOption, OnOk, true, false, Some, None, string_bytes};
 ghost use Rattle.std.specs.List.{list_all, prefix_len};
 ghost use Rattle.std.specs.Char.Utf16.{is_high_surrogate, is_low_surrogate};
 ghost use Rattle.adx_json.specs.Reading.{Stops, is_bare as is_bare_byte};
@@ -9,13 +9,38 @@ ghost use Rattle.adx_json.specs.Found.{FoundDigit, FoundEscape, FoundText, AddsR
 
 use crate::escape::is_bare;
 use crate::fault::Stop;
+use crate::front::{after, ascii_text};
 use crate::utf8::broken;
 use adx_units::{OutOfMemory, Text};
+use byte_runs::unescaped_len;
 use std::alloc::Global;
 use std::str;
 
 /// The text behind its opening quotation mark, and the bytes behind its closing one.
 pub(crate) fn text_at(alloc: Global, bytes: &[u8]) -> Result<(Text, &[u8]), Stop>
+    ensures found { IfOk result (λ x. FoundText bytes.now x.0 x.1.now) }
+    ensures stops { IfErr result (λ e. (role : Role) (fs : List Frame) → Tells e (stop_of 64 (in_text role (characters None)) fs bytes.now)) }
+{
+    // Most texts are ASCII with no escape.
+    let (run, behind) = unescaped_run(bytes);
+    if let Some(rest) = after(behind, b'"') {
+        return Ok((ascii_text(alloc, run)?, rest));
+    }
+    pieces_at(alloc, bytes)
+}
+
+/// The ASCII with no escape at the front, and what stands behind it.
+fn unescaped_run(bytes: &[u8]) -> (&[u8], &[u8])
+    ensures whole { bytes.now ≡ result.0.now ++ result.1.now }
+    ensures bare { IsTrue (list_all is_bare_byte result.0.now) }
+    ensures ascii { IsAscii result.0.now }
+{
+    let len = unescaped_len(bytes);
+    bytes.split_at(len)
+}
+
+/// A text piece by piece: runs of bytes that stand for themselves, and escapes between them.
+fn pieces_at(alloc: Global, bytes: &[u8]) -> Result<(Text, &[u8]), Stop>
     ensures found { IfOk result (λ x. FoundText bytes.now x.0 x.1.now) }
     ensures stops { IfErr result (λ e. (role : Role) (fs : List Frame) → Tells e (stop_of 64 (in_text role (characters None)) fs bytes.now)) }
 {

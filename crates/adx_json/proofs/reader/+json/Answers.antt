@@ -2,15 +2,16 @@ use Rattle.std.proofs.Common.{◌≡◌, [], ◌∷◌, ◌++◌, true, false, r
 use Rattle.std.proofs.lemmas.List.{map-append}
 use Rattle.std.proofs.lemmas.Result.{err_from_is_err_and}
 use Rattle.adx_json.specs.Tree.{null, boolean, items_of, members_of}
-use Rattle.adx_json.specs.Machine.{at_value}
-use Rattle.adx_json.specs.Found.{StopsAt}
+use Rattle.adx_json.specs.Machine.{at_value, at_first_item, at_first_name}
+use Rattle.adx_json.specs.Found.{StopsAt, StopsInside}
 use Rattle.adx_json.specs.View.{tree_of, trees_of, member_of, members_view}
 use Rattle.adx_json.proofs.TextParts.{handed, at_byte}
 use Rattle.adx_json.proofs.Views.{tree_of-Null, tree_of-Bool, tree_of-Number, tree_of-Text, tree_of-List, tree_of-Object}
 use Rattle.adx_json.proofs.ReaderParts.{element_found, element_refused, value_empty, text_value, text_refused, list_value, list_refused, list_deep, object_value, object_refused, object_deep, word_value, word_refused, other_byte, number_value, number_refused}
 use Rattle.adx_json.proofs.Stops.{true_step, false_step, null_step, OtherByte}
-use Rattle.adx_json.proofs.ReadItems.{items_start, items_none, items_more, items_end, items_unended}
-use Rattle.adx_json.proofs.ReadMembers.{members_start, members_none, members_more, members_end, members_unended}
+use Rattle.adx_json.proofs.ReadItems.{items_start, items_none}
+use Rattle.adx_json.proofs.ReadMembers.{members_start, members_none}
+use Rattle.adx_json.proofs.PendingParts.{items_begin, items_go_on, items_taken, items_left, items_within, items_stop, items_lack, members_begin, members_go_on, members_taken, members_left, members_within, members_stop, members_lack}
 use Rattle.adx_json.proofs.reader.+json.Goals as goal
 
 pub element_at-returns-in_err-value-clause-stops : goal.element_at-returns-in_err-value-clause-stops
@@ -25,54 +26,75 @@ element_at-returns-clause-found t c =
 
 pub items_at-returns-in-Some-clause-found : goal.items_at-returns-in-Some-clause-found
 items_at-returns-in-Some-clause-found t c =
-    rw c.new-found.ensures.items (items_none c.args.levels c.args.bytes.now c.after_space-start.result.now c.in-Some.rest.now c.after_space-start.ensures c.in-Some.ensures)
+    rw c.new.ensures.items (items_none c.args.levels c.args.bytes.now c.after_space-start.result.now c.in-Some.rest.now c.after_space-start.ensures c.in-Some.ensures)
 
 pub items_at-items-init : goal.items_at-items-init
 items_at-items-init t c =
-    rw c.new-found.ensures.items (items_start c.args.levels c.args.bytes.now c.after_space-start.result.now c.after_space-start.ensures c.in_default.ensures)
+    (items_begin c.args.levels c.args.bytes.now c.args.pending.now.items.items c.args.bytes.now (items_start c.args.levels c.args.bytes.now c.after_space-start.result.now c.after_space-start.ensures c.in_default.ensures), refl, c.len-begun.ensures ∙ c.args.pending.now.items.ok.0)
+
+pub items_at-split_off-requires : goal.items_at-split_off-requires
+items_at-split_off-requires t c =
+    let within = items_within c.args.levels c.args.bytes.now c.args.pending.now.items.items c.items.pending.items.items c.element_at.new.pending.items.items c.push.new.self.items c.len-begun.result c.items.left.now c.in_ok-item.item c.items.invariant.0 c.in_ok-item.ensures.kept.0 c.in_ok-push.ensures.items c.items.invariant.2 in
+    omega (arith, within, c.push.new.self.ok.0)
+
+pub items_at-returns-in_err-item-clause-stops : goal.items_at-returns-in_err-item-clause-stops
+items_at-returns-in_err-item-clause-stops t c =
+    let p = err_from_is_err_and c.from_residual.result c.from_residual.ensures.1 in
+    let e = c.in_err-item.field-0.0 in
+    handed c.from_residual.result p.0 e (λ x. StopsInside x c.args.levels at_first_item c.args.bytes.now) p.1 p.2 (items_stop c.args.levels c.args.bytes.now c.args.pending.now.items.items c.items.pending.items.items c.items.left.now e c.items.invariant.0 c.in_err-item.ensures.stops)
 
 pub items_at-returns-in-Some-after-clause-found : goal.items_at-returns-in-Some-after-clause-found
 items_at-returns-in-Some-after-clause-found t c =
-    let whole : trees_of c.push.new.self.items ≡ trees_of c.items.found.items ++ tree_of c.in_ok-item.item ∷ [] =
-    ap trees_of c.in_ok-push.ensures.items ∙ map-append tree_of c.items.found.items (c.in_ok-item.item ∷ []) in
-    rw whole (items_end c.args.levels c.args.bytes.now (trees_of c.items.found.items) c.items.left.now (tree_of c.in_ok-item.item) c.in_ok-item.rest.now c.in-Some-after.end.now c.items.invariant c.in_ok-item.ensures.found c.in-Some-after.ensures)
+    items_taken c.args.levels c.args.bytes.now c.args.pending.now.items.items c.items.pending.items.items c.element_at.new.pending.items.items c.push.new.self.items c.in_ok-items.items.items c.len-begun.result c.items.left.now c.in_ok-item.item c.in_ok-item.rest.now c.in-Some-after.end.now c.items.invariant.0 c.in_ok-item.ensures.kept.0 c.in_ok-push.ensures.items c.in_ok-item.ensures.found c.in-Some-after.ensures c.items.invariant.2 c.in_ok-items.ensures.tail
+
+pub items_at-returns-in-Some-after-clause-kept : goal.items_at-returns-in-Some-after-clause-kept
+items_at-returns-in-Some-after-clause-kept t c =
+    (c.in_ok-items.ensures.items ∙ items_left c.args.levels c.args.bytes.now c.args.pending.now.items.items c.items.pending.items.items c.element_at.new.pending.items.items c.push.new.self.items c.len-begun.result c.items.left.now c.in_ok-item.item c.items.invariant.0 c.in_ok-item.ensures.kept.0 c.in_ok-push.ensures.items c.items.invariant.2,
+     c.in_ok-item.ensures.kept.1 ∙ c.items.invariant.1)
 
 pub items_at-returns-in_default-after-2-clause-stops : goal.items_at-returns-in_default-after-2-clause-stops
 items_at-returns-in_default-after-2-clause-stops t c =
-    items_unended c.args.levels c.args.bytes.now (trees_of c.items.found.items) c.items.left.now (tree_of c.in_ok-item.item) c.in_ok-item.rest.now c.items.invariant c.in_ok-item.ensures.found c.in_default-after-2.ensures c.in_default-after.ensures
+    items_lack c.args.levels c.args.bytes.now c.args.pending.now.items.items c.items.pending.items.items c.items.left.now c.in_ok-item.item c.in_ok-item.rest.now c.items.invariant.0 c.in_ok-item.ensures.found c.in_default-after-2.ensures c.in_default-after.ensures
 
 pub items_at-items-preserved : goal.items_at-items-preserved
 items_at-items-preserved t c =
-    let whole : trees_of c.push.new.self.items ≡ trees_of c.items.found.items ++ tree_of c.in_ok-item.item ∷ [] =
-    ap trees_of c.in_ok-push.ensures.items ∙ map-append tree_of c.items.found.items (c.in_ok-item.item ∷ []) in
-    rw whole (items_more c.args.levels c.args.bytes.now (trees_of c.items.found.items) c.items.left.now (tree_of c.in_ok-item.item) c.in_ok-item.rest.now c.in-Some-after-2.more.now c.items.invariant c.in_ok-item.ensures.found c.in-Some-after-2.ensures)
+    (items_go_on c.args.levels c.args.bytes.now c.args.pending.now.items.items c.items.pending.items.items c.element_at.new.pending.items.items c.push.new.self.items c.items.left.now c.in_ok-item.item c.in_ok-item.rest.now c.in-Some-after-2.more.now c.items.invariant.0 c.in_ok-item.ensures.kept.0 c.in_ok-push.ensures.items c.in_ok-item.ensures.found c.in-Some-after-2.ensures, c.in_ok-item.ensures.kept.1 ∙ c.items.invariant.1, c.items.invariant.2)
 
 pub members_at-returns-in-Some-clause-found : goal.members_at-returns-in-Some-clause-found
 members_at-returns-in-Some-clause-found t c =
-    rw c.new-found.ensures.items (members_none c.args.levels c.args.bytes.now c.after_space-start.result.now c.in-Some.rest.now c.after_space-start.ensures c.in-Some.ensures)
+    rw c.new.ensures.items (members_none c.args.levels c.args.bytes.now c.after_space-start.result.now c.in-Some.rest.now c.after_space-start.ensures c.in-Some.ensures)
 
 pub members_at-members-init : goal.members_at-members-init
 members_at-members-init t c =
-    rw c.new-found.ensures.items (members_start c.args.levels c.args.bytes.now c.after_space-start.result.now c.after_space-start.ensures c.in_default.ensures)
+    (members_begin c.args.levels c.args.bytes.now c.args.pending.now.members.items c.args.bytes.now (members_start c.args.levels c.args.bytes.now c.after_space-start.result.now c.after_space-start.ensures c.in_default.ensures), refl, c.len-begun.ensures ∙ c.args.pending.now.members.ok.0)
+
+pub members_at-split_off-requires : goal.members_at-split_off-requires
+members_at-split_off-requires t c =
+    let within = members_within c.args.levels c.args.bytes.now c.args.pending.now.members.items c.members.pending.members.items c.member_at.new.pending.members.items c.push.new.self.items c.len-begun.result c.members.left.now c.in_ok-member.member c.members.invariant.0 c.in_ok-member.ensures.kept.1 c.in_ok-push.ensures.items c.members.invariant.2 in
+    omega (arith, within, c.push.new.self.ok.0)
+
+pub members_at-returns-in_err-member-clause-stops : goal.members_at-returns-in_err-member-clause-stops
+members_at-returns-in_err-member-clause-stops t c =
+    let p = err_from_is_err_and c.from_residual.result c.from_residual.ensures.1 in
+    let e = c.in_err-member.field-0.0 in
+    handed c.from_residual.result p.0 e (λ x. StopsInside x c.args.levels at_first_name c.args.bytes.now) p.1 p.2 (members_stop c.args.levels c.args.bytes.now c.args.pending.now.members.items c.members.pending.members.items c.members.left.now e c.members.invariant.0 c.in_err-member.ensures.stops)
 
 pub members_at-returns-in-Some-after-clause-found : goal.members_at-returns-in-Some-after-clause-found
 members_at-returns-in-Some-after-clause-found t c =
-    let m = c.in_ok-member.member in
-    let whole : members_view c.push.new.self.items ≡ members_view c.members.found.items ++ member_of m ∷ [] =
-    ap members_view c.in_ok-push.ensures.items ∙ map-append member_of c.members.found.items (m ∷ []) in
-    rw whole (members_end c.args.levels c.args.bytes.now (members_view c.members.found.items) c.members.left.now (member_of m).0 (member_of m).1 c.in_ok-member.rest.now c.in-Some-after.end.now c.members.invariant c.in_ok-member.ensures.found c.in-Some-after.ensures)
+    members_taken c.args.levels c.args.bytes.now c.args.pending.now.members.items c.members.pending.members.items c.member_at.new.pending.members.items c.push.new.self.items c.in_ok-members.members.items c.len-begun.result c.members.left.now c.in_ok-member.member c.in_ok-member.rest.now c.in-Some-after.end.now c.members.invariant.0 c.in_ok-member.ensures.kept.1 c.in_ok-push.ensures.items c.in_ok-member.ensures.found c.in-Some-after.ensures c.members.invariant.2 c.in_ok-members.ensures.tail
+
+pub members_at-returns-in-Some-after-clause-kept : goal.members_at-returns-in-Some-after-clause-kept
+members_at-returns-in-Some-after-clause-kept t c =
+    (c.in_ok-member.ensures.kept.0 ∙ c.members.invariant.1,
+     c.in_ok-members.ensures.items ∙ members_left c.args.levels c.args.bytes.now c.args.pending.now.members.items c.members.pending.members.items c.member_at.new.pending.members.items c.push.new.self.items c.len-begun.result c.members.left.now c.in_ok-member.member c.members.invariant.0 c.in_ok-member.ensures.kept.1 c.in_ok-push.ensures.items c.members.invariant.2)
 
 pub members_at-returns-in_default-after-2-clause-stops : goal.members_at-returns-in_default-after-2-clause-stops
 members_at-returns-in_default-after-2-clause-stops t c =
-    let m = c.in_ok-member.member in
-    members_unended c.args.levels c.args.bytes.now (members_view c.members.found.items) c.members.left.now (member_of m).0 (member_of m).1 c.in_ok-member.rest.now c.members.invariant c.in_ok-member.ensures.found c.in_default-after-2.ensures c.in_default-after.ensures
+    members_lack c.args.levels c.args.bytes.now c.args.pending.now.members.items c.members.pending.members.items c.members.left.now c.in_ok-member.member c.in_ok-member.rest.now c.members.invariant.0 c.in_ok-member.ensures.found c.in_default-after-2.ensures c.in_default-after.ensures
 
 pub members_at-members-preserved : goal.members_at-members-preserved
 members_at-members-preserved t c =
-    let m = c.in_ok-member.member in
-    let whole : members_view c.push.new.self.items ≡ members_view c.members.found.items ++ member_of m ∷ [] =
-    ap members_view c.in_ok-push.ensures.items ∙ map-append member_of c.members.found.items (m ∷ []) in
-    rw whole (members_more c.args.levels c.args.bytes.now (members_view c.members.found.items) c.members.left.now (member_of m).0 (member_of m).1 c.in_ok-member.rest.now c.in-Some-after-2.more.now c.members.invariant c.in_ok-member.ensures.found c.in-Some-after-2.ensures)
+    (members_go_on c.args.levels c.args.bytes.now c.args.pending.now.members.items c.members.pending.members.items c.member_at.new.pending.members.items c.push.new.self.items c.members.left.now c.in_ok-member.member c.in_ok-member.rest.now c.in-Some-after-2.more.now c.members.invariant.0 c.in_ok-member.ensures.kept.1 c.in_ok-push.ensures.items c.in_ok-member.ensures.found c.in-Some-after-2.ensures, c.in_ok-member.ensures.kept.0 ∙ c.members.invariant.1, c.members.invariant.2)
 
 pub value_at-returns-in_default-clause-stops : goal.value_at-returns-in_default-clause-stops
 value_at-returns-in_default-clause-stops t c = value_empty c.args.levels c.args.bytes.now c.in_default.ensures.cases
