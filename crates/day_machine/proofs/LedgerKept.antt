@@ -193,10 +193,6 @@ pub notice_reserved : (accounts : List Account) (ws : List Award) (ps : List Pla
     → kind ≢ NoticeKind.Win → w.charge.0 ≤ (account_at accounts w.campaign).reserved
 notice_reserved accounts ws ps m kind n w h at counted other = (open_reserved accounts ws ps m n w h at (counted_open kind w counted other)).1
 
--- within a list the default isn't read
-pub get_or_default : {X : Type 0} (xs : List X) (n : ℕ) (d e : X) → n < length xs → get_or xs n d ≡ get_or xs n e
-get_or_default xs n d e within = get_or_from_slice_get xs n (get_or xs n e) d (slice_get-get_or xs n e within)
-
 -- the award that was changed
 pub changed_here : {X : Type 0} (f : X → X) (n : ℕ) (xs : List X) (x : X) → slice_get xs n ≡ Some x → slice_get (changed_at f n xs) n ≡ Some (f x)
 changed_here f n xs x at =

@@ -18,9 +18,9 @@ use Rattle.day_rules.specs.Replies.{ask_of, asks_with, bids_with, seen_as, text_
 use Rattle.day_rules.specs.Terms.{Terms, budgets_after}
 use Rattle.day_rules.proofs.Asking.{awards_length}
 use Rattle.day_rules.proofs.Selling.{book_budgets, book_standing}
-use Rattle.day_machine.specs.Again.{IsSettledBy, are_within}
+use Rattle.day_asks.specs.Again.{IsSettledBy}
 use Rattle.day_machine.specs.DayFields.{AreSums}
-use Rattle.day_machine.specs.Sums.{totals_with_ask}
+use Rattle.day_machine.specs.Sums.{are_within, totals_with_ask}
 use Rattle.day_machine.specs.declared.totals.Totals.{Totals}
 use Rattle.day_machine.proofs.Settled.{settled_by}
 

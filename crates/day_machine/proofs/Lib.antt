@@ -2,12 +2,8 @@ pub mod Pointed
 pub mod LedgerKept
 pub mod DayKept
 pub mod SalesKept
-pub mod Texts
+pub mod Settled
 pub mod AskKept
 pub mod IdPlaces
 pub mod Planning
-pub mod Settled
-pub mod AskTests
-pub mod TextsNeeded
-pub mod AgainSettled
 pub mod LegalParts

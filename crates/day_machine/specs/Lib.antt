@@ -2,8 +2,5 @@ pub mod LedgerState
 pub mod Moved
 pub mod DayFields
 pub mod Sums
-pub mod KeptTexts
 pub mod Selling
 pub mod Answered
-pub mod OfferTests
-pub mod Again

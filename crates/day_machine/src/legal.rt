@@ -5,13 +5,11 @@ ghost use Rattle.day_rules.specs.Asks.{IsWellFormed, settled, undecided};
 ghost use Rattle.day_rules.specs.Books.{awards_of};
 ghost use Rattle.day_rules.specs.Legal.{AskMayFollow, ExpireMayFollow, MayFollow};
 ghost use Rattle.day_rules.specs.Replies.{ask_of};
-ghost use Rattle.day_machine.specs.Again.{are_within as within};
-ghost use Rattle.day_machine.specs.KeptTexts.{IsShort};
-ghost use Rattle.day_machine.specs.Sums.{totals_with_ask};
+ghost use Rattle.day_asks.specs.KeptTexts.{IsShort};
+ghost use Rattle.day_machine.specs.Sums.{are_within as within, totals_with_ask};
 
 use crate::day::Day;
-use crate::totals::Totals;
-use crate::{again, formed, kept, totals};
+use crate::totals::{self, Totals};
 use day_rules::{Ask, DayLimits, Entry, Seen};
 use notice_book::{NoticeKind, Ruling};
 
@@ -25,7 +23,7 @@ fn are_within(limits: DayLimits, totals: Totals, ask: &Ask) -> bool
     requires short { All IsShort ask.now.kept }
     ensures { result ≡ within limits (totals_with_ask totals ask.entry.now) }
 {
-    let text = kept::size_of_all(ask.kept.as_slice());
+    let text = day_asks::size_of_all(ask.kept.as_slice());
     let after = totals::with_ask(totals, ask, text);
     after.asks <= limits.auctions && after.bids <= limits.bids && after.text <= limits.text
 }
@@ -49,7 +47,7 @@ impl Day {
     fn is_legal_ask(&self, ask: &Ask) -> bool
         ensures { IsTrue result ↔ AskMayFollow self.now.terms self.now.history ask.entry.now }
     {
-        if !formed::is_well_formed(self.book().count(), ask) {
+        if !day_asks::is_well_formed(self.book().count(), ask) {
             return false;
         }
         if !self.is_new(ask) {
@@ -76,7 +74,7 @@ impl Day {
         requires { IsWellFormed (length self.now.terms.budgets) ask.now }
         ensures { IsTrue result ↔ (settled self.now.terms self.now.history (undecided ask.entry.now) ≡ ask.entry.now) }
     {
-        again::is_settled(self.book(), self.totals.moment, self.awards().len(), ask)
+        day_asks::is_settled(self.book(), self.totals.moment, self.awards().len(), ask)
     }
 
     /// Whether the notice of an award counts.

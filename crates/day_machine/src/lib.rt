@@ -3,17 +3,13 @@
 //! A contract sees a `Day` as its terms, its history and what there is memory for. A plan answers a
 //! call by the history and changes nothing; a commit extends the history by one entry. The running
 //! totals behind the answers stand in invariants alone.
-//! Stands on `day_rules`, `allocator_core`, `campaign_book`, `notice_book` and `indexmap`.
+//! Stands on `day_asks`, `day_rules`, `allocator_core`, `campaign_book`, `notice_book` and `indexmap`.
 #![tactic(auto)]
 
-mod again;
 mod day;
-mod formed;
 mod ids;
-mod kept;
 mod ledger;
 mod legal;
-mod needed;
 mod places;
 mod sales;
 mod totals;

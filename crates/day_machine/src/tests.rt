@@ -3,7 +3,7 @@ ghost use Rattle.adx_units.specs.declared.offer.TheConstants.{ADMITTED as ADMITT
 ghost use Rattle.day_rules.specs.Asks.{IsAdmittedOffer, IsUndecided, IsWellFormed};
 ghost use Rattle.day_rules.specs.declared.ask.Kept.{Kept as KeptValue};
 ghost use Rattle.day_rules.specs.Legal.{MayFollow};
-ghost use Rattle.day_machine.specs.KeptTexts.{IsShort};
+ghost use Rattle.day_asks.specs.KeptTexts.{IsShort};
 
 use super::*;
 use crate::plain;

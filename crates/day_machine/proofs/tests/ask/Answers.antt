@@ -5,7 +5,7 @@ use Rattle.std.proofs.lemmas.List.Elements.{All-weaker}
 use Rattle.adx_units.specs.declared.offer.Offer.{Offer}
 use Rattle.day_rules.specs.declared.ask.Kept.{Kept}
 use Rattle.day_rules.specs.Asks.{AreKeptTexts, IsAdmittedOffer, IsOffer}
-use Rattle.day_machine.proofs.Texts.{each_text}
+use Rattle.day_asks.proofs.Texts.{each_text}
 use Rattle.day_machine.proofs.tests.ask.Goals as goal
 
 pub returns-clause-formed : goal.returns-clause-formed

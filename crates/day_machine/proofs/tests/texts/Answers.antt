@@ -1,5 +1,5 @@
 use Rattle.std.proofs.Common.{◌≡◌, length}
-use Rattle.day_machine.proofs.Texts.{one_more_text}
+use Rattle.day_asks.proofs.Texts.{one_more_text}
 use Rattle.day_machine.proofs.tests.texts.Goals as goal
 
 pub loop-place-preserved : goal.loop-place-preserved

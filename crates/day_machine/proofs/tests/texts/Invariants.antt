@@ -1,7 +1,7 @@
 use Rattle.std.proofs.Common.{◌≡◌, ◌<◌, ℕ, length, get_or}
 use Rattle.std.specs.List.{All}
 use Rattle.day_rules.specs.declared.ask.Kept.{Kept}
-use Rattle.day_machine.specs.KeptTexts.{IsShort}
+use Rattle.day_asks.specs.KeptTexts.{IsShort}
 use Rattle.day_machine.proofs.tests.texts.Given as goal
 
 abbrev pub invariant-loop-place : goal.invariant-loop-place

@@ -11,11 +11,11 @@ use Rattle.day_rules.specs.Legal.{AskMayFollow}
 use Rattle.day_rules.specs.Terms.{terms_of}
 use Rattle.day_rules.proofs.Counting.{day_entries}
 use Rattle.day_machine.specs.DayFields.{AreFields, id_entries}
-use Rattle.day_machine.specs.KeptTexts.{IsShort}
+use Rattle.day_asks.specs.KeptTexts.{IsShort}
 use Rattle.day_machine.specs.LedgerState.{committed_in}
 use Rattle.day_machine.specs.Selling.{ask_awards}
 use Rattle.day_machine.proofs.AskKept.{ask_few, ask_fits, fields_ask}
-use Rattle.day_machine.proofs.Texts.{few_texts, settled_short}
+use Rattle.day_asks.proofs.Texts.{few_texts, settled_short}
 use Rattle.day_machine.proofs.day.Day.commit_ask.Goals as goal
 
 pub overflow_cast-place : goal.overflow_cast-place

@@ -9,11 +9,10 @@ use Rattle.day_rules.specs.DayState.{DayState}
 use Rattle.day_rules.specs.Terms.{Terms, budgets_after}
 use Rattle.day_rules.proofs.Counting.{day_asks, day_bids, day_text}
 use Rattle.day_rules.proofs.Money.{accounts_length}
-use Rattle.day_machine.specs.Again.{are_within}
 use Rattle.day_machine.specs.DayFields.{AreSums}
-use Rattle.day_machine.specs.Sums.{totals_with_ask}
+use Rattle.day_machine.specs.Sums.{are_within, totals_with_ask}
 use Rattle.day_machine.proofs.LegalParts.{within_decided}
-use Rattle.day_machine.proofs.Texts.{few_texts, settled_short}
+use Rattle.day_asks.proofs.Texts.{few_texts, settled_short}
 use Rattle.day_machine.proofs.day.Day.is_legal_ask.Goals as goal
 
 -- the campaigns are those of the book

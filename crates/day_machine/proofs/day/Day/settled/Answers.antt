@@ -9,7 +9,7 @@ use Rattle.day_rules.specs.Books.{accounts_in, committed}
 use Rattle.day_rules.specs.DayState.{DayState}
 use Rattle.day_rules.specs.Terms.{Terms, budgets_after, terms_of}
 use Rattle.day_machine.proofs.Settled.{chosen_offers, first_is, offers_long, settled_by}
-use Rattle.day_machine.proofs.Texts.{whole}
+use Rattle.day_asks.proofs.Items.{whole}
 use Rattle.day_machine.proofs.day.Day.settled.Goals as goal
 
 pub returns : goal.returns

@@ -1,11 +1,11 @@
 use Rattle.std.proofs.Common.{◌≡◌, ◌<◌, List, length, set, get_or, slice_get, Some, ap, ◌∙◌, arith}
-use Rattle.std.proofs.lemmas.List.{get_or-set_other, get_or-set_same, length-set}
+use Rattle.std.proofs.lemmas.List.{get_or-set_other, get_or-set_same, get_or_default, length-set}
 use Rattle.std.proofs.lemmas.Option.{slice_get_within}
 use Rattle.notice_book.specs.declared.award.Award.{Award}
 use Rattle.notice_book.specs.Rules.{noticed_award}
 use Rattle.day_machine.specs.LedgerState.{LedgerState, no_places, placed, to_come_of}
 use Rattle.day_machine.specs.declared.places.Places.{Places}
-use Rattle.day_machine.proofs.LedgerKept.{changed_here, get_or_default, kept_notice, notice_budgets, notice_reserved, part_to_come}
+use Rattle.day_machine.proofs.LedgerKept.{changed_here, kept_notice, notice_budgets, notice_reserved, part_to_come}
 use Rattle.day_machine.proofs.Pointed.{pointed, there}
 use Rattle.day_machine.proofs.ledger.Ledger.apply.Goals as goal
 
