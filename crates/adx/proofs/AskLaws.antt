@@ -4,7 +4,8 @@ use Rattle.std.proofs.lemmas.Bool.{and_parts, leb-true, le-leb}
 use Rattle.std.proofs.lemmas.List.{length-map}
 use Rattle.std.proofs.lemmas.List.Elements.{All-map}
 use Rattle.std.proofs.lemmas.List.Quantifiers.{position-Some}
-use Rattle.std.proofs.lemmas.Option.{same_Some, cond_some}
+use Rattle.std.proofs.lemmas.Option.{same_Some, cond_some, get_or_from_slice_get, slice_get_within}
+use Rattle.std.specs.List.{All}
 use Rattle.adx_units.specs.Number.{is_whole, is_whole_up_to, digits_value}
 use Rattle.adx_units.specs.Money.{units, floor_of, price_of}
 use Rattle.adx_units.specs.declared.units.Units.{Units}
@@ -13,13 +14,14 @@ use Rattle.adx_units.specs.declared.offer.Offer.{Offer}
 use Rattle.adx.specs.declared.ask_form.TheConstants.{LATEST_MOMENT}
 use Rattle.adx_json.specs.Tree.{Tree, text, number}
 use Rattle.adx_json.specs.Plain.{IsPlain}
-use Rattle.narrow_day.specs.declared.ask.Ask.{Ask}
-use Rattle.narrow_day.specs.Asks.{IsRefusal, IsOffer, IsWellFormed, IsUndecided}
+use Rattle.day_rules.specs.declared.ask.Ask.{Ask}
+use Rattle.day_rules.specs.Asks.{IsRefusal, IsOffer, IsWellFormed, IsUndecided}
 use Rattle.adx.specs.declared.roster.Campaign.{Campaign}
 use Rattle.adx.specs.Parts.{◌>>=◌, Fields, fields_in, end_in, next_in, next_text_in, next_number_in, next_only_in, next_items_in}
 use Rattle.adx.specs.RosterParts.{is_id}
 use Rattle.adx.specs.AskParts.{floor_in, imp_in, request_in, seat_in, answer_in, AskOutline, joined, ask_in, bid_form, bid_in, bids_in, is_floor, is_outline, ask_by, ask_of_outline, ask_made}
-use Rattle.adx.specs.Forms.{members, items, BidForm, AskForm, floor_members, request_tree, bid_tree, ask_tree, IsAsk, floor_units_of, refused, admitted, campaign_place, offer_by, offer_of, ask_of_form}
+use Rattle.adx.specs.Forms.{members, items, BidForm, AskForm, floor_members, request_tree, bid_tree, ask_tree, IsAsk, floor_units_of, refused, admitted, campaign_place, offer_by, offer_of, offers_of, ask_of_form}
+use Rattle.adx.proofs.KeptLaws.{kept_texts}
 use Rattle.adx.proofs.PartsSteps.{fields_of-members_of, list_of-items_of}
 use Rattle.adx.proofs.AmountLaws.{price_range}
 use Rattle.adx.proofs.PartsLaws.{bind_some, tested_some, bytes_same, bytes_itself, fields_are, next_is, next_text_is, next_number_is, next_only_is, next_items_are, end_is, behind, plain_id}
@@ -49,7 +51,7 @@ bid_complete : (imp : List ℕ) (b : BidForm) → bid_in imp (bid_tree imp b) �
 unfolding bid_in
 bid_complete imp b = ap (λ (same : Bool). if same then Some b else None) (bytes_itself imp)
 
-bids_sound : (imp : List ℕ) (ts : List Tree) (bs : List BidForm) → bids_in imp ts ≡ Some bs → ts ≡ map (bid_tree imp) bs
+pub bids_sound : (imp : List ℕ) (ts : List Tree) (bs : List BidForm) → bids_in imp ts ≡ Some bs → ts ≡ map (bid_tree imp) bs
 bids_sound imp [] bs h = ap (map (bid_tree imp)) (same_Some [] bs h)
 bids_sound imp (t ∷ ts) bs h =
     let b = bind_some (bid_in imp t) (λ (b : BidForm). bids_in imp ts >>= λ (bs : List BidForm). Some (b ∷ bs)) bs h in
@@ -290,7 +292,7 @@ refused_is n reason why = inr (record { reason = why; imp = inl (omega arith); c
 
 admitted_is : (n campaign : ℕ) (price : Units) → campaign < n → 1 ≤ price.0 → price.0 ≤ 10 ^ 12 → IsOffer n 1 (admitted campaign price)
 admitted_is n campaign price known some most = inl (record {
-  reason = inr (inr (inr refl));
+  reason = inr refl;
   imp = omega arith;
   campaign = known;
   positive = some;
@@ -319,14 +321,20 @@ bid_offer_is : (campaigns : List Campaign) (floor : ℕ) (seat : List ℕ) (b : 
 bid_offer_is campaigns floor seat b =
     offer_is (length campaigns) floor (price_of b.price) (campaign_place campaigns seat b.cid) (price_range b.price) (place_within campaigns seat b.cid)
 
+-- a plain seat is short
+pub seat_short : (f : AskForm) → IsPlain (ask_tree f) → length f.seat ≤ 128
+seat_short f plain =
+    leb-true (length f.seat) 128 (and_parts (nat_le 1 (length f.seat)) (nat_le (length f.seat) 128) (plain_id f.seat plain.parts.1.2.1.0.1.2.1.0.1.1)).1
+
 -- a day takes the ask of each form
-pub ask_well_formed : (campaigns : List Campaign) (f : AskForm) → length campaigns ≤ 1024 → IsAsk f → IsWellFormed (length campaigns) (ask_of_form campaigns f) × IsUndecided (ask_of_form campaigns f)
-ask_well_formed campaigns f few good =
+pub ask_well_formed : (campaigns : List Campaign) (f : AskForm) → IsAsk f → length f.seat ≤ 128 → IsWellFormed (length campaigns) (ask_of_form campaigns f) × IsUndecided (ask_of_form campaigns f)
+ask_well_formed campaigns f good short =
     let offer = offer_of campaigns (floor_units_of f.bidfloor) f.seat in
     let is = bid_offer_is campaigns (floor_units_of f.bidfloor) f.seat in
     let moment = leb-true (digits_value f.now) LATEST_MOMENT (and_parts (is_whole f.now) (nat_le (digits_value f.now) LATEST_MOMENT) good.now).1 in
     let many = length-map f.bids offer in
-    let few_bids = good.few_bids in (
+    let few_bids = good.few_bids in
+    let undecided : All IsOpen (offers_of campaigns f) = All-map IsOpen offer f.bids (λ k d below. (is (get_or f.bids k d)).1) in (
       record {
         some_imp = omega arith;
         few_imps = omega arith;
@@ -334,6 +342,7 @@ ask_well_formed campaigns f few good =
         few_offers = omega arith;
         now = omega arith;
         offers = All-map (IsOffer (length campaigns) 1) offer f.bids (λ k d below. (is (get_or f.bids k d)).0);
+        kept = kept_texts f.seat (offers_of campaigns f) short (λ place o at. (subst IsOpen (get_or_from_slice_get (offers_of campaigns f) place o o at) (undecided place o (slice_get_within (offers_of campaigns f) place o at))).0);
       },
-      All-map IsOpen offer f.bids (λ k d below. (is (get_or f.bids k d)).1),
+      undecided,
     )

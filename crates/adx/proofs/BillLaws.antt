@@ -1,6 +1,5 @@
 -- The bill reader tells exactly the bills: what it reads is one, and it reads each one.
-use Rattle.std.proofs.Common.{◌≡◌, ℕ, ◌<◌, ◌≤◌, List, [], ◌∷◌, length, Bool, true, ◌&&◌, if◌then◌else◌, nat_le, nat_lt, Option, Some, None, bytes_eq, codes, refl, sym, ap, subst, ◌∙◌}
-use Rattle.std.proofs.lemmas.Bool.{and_parts, leb-true, le-leb, ltb-true, lt-ltb}
+use Rattle.std.proofs.Common.{◌≡◌, ℕ, List, [], ◌∷◌, Bool, if◌then◌else◌, Option, Some, None, bytes_eq, codes, refl, sym, ap, ◌∙◌}
 use Rattle.std.proofs.lemmas.Option.{same_Some, cond_some}
 use Rattle.adx_units.specs.Number.{is_whole_up_to, digits_value}
 use Rattle.adx.specs.declared.bill.TheConstants.{LAST_AWARD}

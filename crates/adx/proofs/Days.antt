@@ -1,211 +1,274 @@
 -- A day from its first line: what the ends of its parts make of the whole input.
-use Rattle.std.proofs.Common.{◌≡◌, ◌≢◌, inl, inr, ℕ, List, [], ◌∷◌, ◌++◌, length, false, Option, Some, None, refl, sym, ap, ◌∙◌, append_assoc, append-nil, length-append, arith, subst, zero-le}
+use Rattle.std.proofs.Common.{◌≡◌, ◌≢◌, inl, inr, ℕ, ◌+◌, ◌≤◌, List, [], ◌∷◌, ◌++◌, length, Option, Some, None, Result, Ok, Err, refl, sym, ap, ◌∙◌, append_assoc, append-nil, length-append, arith, subst}
 use Rattle.std.proofs.lemmas.List.Elements.{All-nil}
-use Rattle.adx_io.specs.Streams.{Tape}
+use Rattle.adx_io.specs.Lines.{HasNoNewline, Keeps, tape_behind, with_pending}
+use Rattle.adx_io.specs.Streams.{Tape, WhereTold, Took}
+use Rattle.adx_io.specs.Talk.{TalkState, ReadsNext, Puts, PutsAll, PutsNext, ended}
+use Rattle.adx_io.specs.declared.line_buffer.TheConstants.{CHUNK}
+use Rattle.adx_io.specs.declared.stop.Stop.{Stop}
+use Rattle.adx_io.specs.declared.talk.Next.{Next}
+use Rattle.adx_io.proofs.Moved.{took_none}
+use Rattle.day_rules.specs.declared.entry.Entry.{Entry}
 use Rattle.adx.specs.declared.ending.Ending.{Ending}
-use Rattle.adx.specs.declared.reading.Next.{Next}
+use Rattle.adx.specs.declared.limits.TheConstants.{INPUT_LIMIT, LINE_LIMIT}
 use Rattle.adx.specs.declared.roster.Campaign.{Campaign}
-use Rattle.adx.specs.FirstLine.{EndsBehind, TellsOn}
+use Rattle.adx.specs.Endings.{Command, EndsWith, EndsAt, Ends, TookDue, TookFront, LeftBehind, LeftOver, IsDue, IsWhole}
 use Rattle.adx.specs.Forms.{RosterForm, IsRosterLine, campaigns_of}
-use Rattle.adx.specs.Lines.{HasNoNewline, ended, InputState, Keeps, unread}
 use Rattle.adx.specs.Output.{roster_refused_line}
-use Rattle.adx.specs.Reading.{ReadsLine, ToldNext, PutsOn, Puts, TookFront}
-use Rattle.adx.specs.Running.{IsScriptDue, ScriptEnds, ScriptEndsTold, EndsAs, IsAborted}
-use Rattle.adx.specs.Script.{HasRoster, HasRosterLine, IsDue, TookDue, Ends}
+use Rattle.adx.specs.Reads.{ReadsRoster}
+use Rattle.adx.specs.Running.{EndsTalk, EndsBehind, Unasked, TellsOn, PutsEnd}
+use Rattle.adx.specs.Script.{script_of, day, BehindRoster, HasRosterLine, RefusesRoster, WritesRun, closing, nothing, toolong}
 use Rattle.adx.proofs.OneOutput.{due_front}
-use Rattle.adx.proofs.FirstLine.{first_longer, first_same, no_first}
-use Rattle.adx.proofs.Putting.{puts_all, took_nothing, took_behind, front_behind}
-
--- an input of which nothing was read
-abbrev pub fresh : InputState
-fresh = record { line = []; overlong = false; pending = []; taken = 0 }
+use Rattle.adx.proofs.Putting.{took_nothing, front_of_more, ends_put, puts_nothing, puts_on, some_behind, front_put}
+use Rattle.adx.proofs.Told.{told_first, told_source, told_ahead}
 
 -- the input is its first line, and then what is unread
-first_line : (after : InputState) (old new : Tape) (line : List ℕ) → ReadsLine fresh after old new line (ended line) → old.left ≡ line ++ 10 ∷ unread after new
-first_line after old new line read = read.reads.next ∙ append_assoc line (10 ∷ []) (unread after new)
+first_is : (line rest input : List ℕ) → input ≡ ended line ++ rest → input ≡ line ++ 10 ∷ rest
+first_is line rest input is = is ∙ append_assoc line (10 ∷ []) rest
 
 -- it has the roster of that line
-has_line : (input script line : List ℕ) (r : RosterForm) → input ≡ line ++ 10 ∷ script → HasNoNewline line → IsRosterLine line r → HasRosterLine input r script
-has_line input script line r is no_newline roster = record { first = line; begins = record { bytes = is; no_newline = no_newline }; roster = roster }
+has_line : (line rest : List ℕ) (r : RosterForm) → HasNoNewline line → IsRosterLine line r → HasRosterLine (ended line ++ rest) r rest
+has_line line rest r piece roster = record { first = line; begins = record { bytes = append_assoc line (10 ∷ []) rest; no_newline = piece }; roster = roster }
 
--- what was to be written is a front of the output
-took_due : (input due : List ℕ) (held now : Option (List ℕ)) → TookFront held now due → IsDue input due → TookDue input held now
-took_due input due held now took is_due = (
-  due,
-  took,
-  is_due,
-  λ whole is.
-      let front = due_front input due whole is_due is in (
-        took.0 ++ front.0,
-        record { front = took.1.front; took = took.1.took; split = front.1 ∙ ap (λ d. d ++ front.0) took.1.split ∙ append_assoc took.1.front took.0 front.0 },
-      ),
-)
+behind : (line rest : List ℕ) (r : RosterForm) (write : List Campaign → ℕ → List ℕ → List Entry → List ℕ) (out : List ℕ) → HasNoNewline line → IsRosterLine line r → WritesRun (campaigns_of r) [] (write (campaigns_of r)) rest out
+    → BehindRoster (λ campaigns. WritesRun campaigns [] (write campaigns)) (ended line ++ rest) out
+behind line rest r write out piece roster writes = record { roster = r; script = rest; begins = has_line line rest r piece roster; writes = writes }
 
 -- what was to be written for a script was to be written for its input
-script_due : (after : InputState) (old cur : Tape) (line : List ℕ) (r : RosterForm) (produced : List ℕ) → ReadsLine fresh after old cur line (ended line) → IsRosterLine line r
-    → IsScriptDue (campaigns_of r) after cur produced → IsDue old.left produced
-script_due after old cur line r produced read roster (inl due) =
-    let front = due.0 in
-    let back = due.1 in
-    inl (
-      line ++ 10 ∷ front,
-      back,
-      first_line after old cur line read ∙ ap (λ b. line ++ 10 ∷ b) due.2 ∙ sym (append_assoc line (10 ∷ front) back),
-      omega (arith, due.3, read.reads.count, ap length (first_line after old cur line read), length-append line (10 ∷ unread after cur), length-append after.pending cur.left, length-append line (10 ∷ front)),
-      inr (r, front, has_line (line ++ 10 ∷ front) front line r refl read.no_newline roster, due.4),
-    )
-script_due after old cur line r produced read roster (inr (inl due)) = inr (inl (
-  omega (arith, due.0, read.reads.count),
-  (r, unread after cur, has_line old.left (unread after cur) line r (first_line after old cur line read) read.no_newline roster, due.1),
-))
-script_due after old cur line r produced read roster (inr (inr due)) =
-    let part = due.0 in
-    let left = due.1 in
-    let more = due.2 in
-    let is : old.left ≡ (line ++ 10 ∷ part) ++ more ∷ left =
-    first_line after old cur line read ∙ ap (λ b. line ++ 10 ∷ b) due.3 ∙ sym (append_assoc line (10 ∷ part) (more ∷ left)) in
+due_up : (line read rest due : List ℕ) (r : RosterForm) (limit : ℕ) → HasNoNewline line → IsRosterLine line r → length (ended line) + limit ≡ INPUT_LIMIT
+    → IsDue limit (script_of (campaigns_of r) []) read rest due → IsDue INPUT_LIMIT day (ended line ++ read) rest due
+due_up line read rest due r limit piece roster counted (inl (short, writes)) =
+    inl (omega (arith, counted, short, length-append (ended line) read), inr (behind line read r (λ campaigns. nothing) due piece roster writes))
+due_up line read rest due r limit piece roster counted (inr (inl refused)) = absurd refused
+due_up line read rest due r limit piece roster counted (inr (inr (inl (none, short, writes)))) =
+    inr (inr (inl (none, omega (arith, counted, short, length-append (ended line) read), behind line read r closing due piece roster writes)))
+due_up line read rest due r limit piece roster counted (inr (inr (inr (part, more, is, long, writes)))) =
     inr (inr (inr (
-      line ++ 10 ∷ part,
-      more ∷ left,
-      r,
-      part,
-      is,
-      omega (arith, due.4, read.reads.count, ap length is, length-append (line ++ 10 ∷ part) (more ∷ left)),
-      omega arith,
-      has_line (line ++ 10 ∷ part) part line r refl read.no_newline roster,
-      due.5,
+      ended line ++ part,
+      more,
+      ap (λ b. ended line ++ b) is ∙ sym (append_assoc (ended line) part (more ∷ [])),
+      omega (arith, counted, long, length-append (ended line) part),
+      behind line part r (λ campaigns. toolong) due piece roster writes,
     )))
 
--- the script's end is the input's
-served : (after : InputState) (old cur new : Tape) (held mid now : Option (List ℕ)) (out line : List ℕ) (r : RosterForm) (result : Ending)
-    → ReadsLine fresh after old cur line (ended line) → IsRosterLine line r → Puts held mid [] out
-    → ScriptEnds (campaigns_of r) after cur new mid out now result → Ends (Some old) (Some new) held now result
-served after old cur new held mid now out line r Ending.Done read roster puts ends = (
-  ends.0,
-  took_behind held mid now [] out ends.0 puts ends.1,
-  ends.2,
-  omega (arith, ends.3, read.reads.count),
-  (r, unread after cur, has_line old.left (unread after cur) line r (first_line after old cur line read) read.no_newline roster, ends.4),
+took_up : (line script left : List ℕ) (r : RosterForm) (limit : ℕ) (held now : Option (List ℕ)) → HasNoNewline line → IsRosterLine line r → length (ended line) + limit ≡ INPUT_LIMIT
+    → TookDue limit (script_of (campaigns_of r) []) script left held now → TookDue INPUT_LIMIT day (ended line ++ script) left held now
+took_up line script left r limit held now piece roster counted (read, rest, due, is, over, is_due, took) = (
+  ended line ++ read,
+  rest,
+  due,
+  ap (λ b. ended line ++ b) is ∙ sym (append_assoc (ended line) read rest),
+  over,
+  due_up line read rest due r limit piece roster counted is_due,
+  took,
 )
-served after old cur new held mid now out line r Ending.Refused read roster puts ends =
-    let part = ends.1 in
-    let more = ends.2 in
-    let is : old.left ≡ (line ++ 10 ∷ part) ++ more ∷ new.left =
-    first_line after old cur line read ∙ ap (λ b. line ++ 10 ∷ b) ends.4 ∙ sym (append_assoc line (10 ∷ part) (more ∷ new.left)) in (
-      ends.0,
-      took_behind held mid now [] out ends.0 puts ends.3,
-      inr (
-        line ++ 10 ∷ part,
-        more ∷ new.left,
-        r,
-        part,
-        is,
-        omega (arith, ends.5, read.reads.count, ap length is, length-append (line ++ 10 ∷ part) (more ∷ new.left)),
-        omega arith,
-        has_line (line ++ 10 ∷ part) part line r refl read.no_newline roster,
-        ends.6,
-      ),
-    )
-served after old cur new held mid now out line r Ending.ReadFault read roster puts ends =
-    let part = ends.1 in (
-      ends.0,
-      took_behind held mid now [] out ends.0 puts ends.2,
-      (
-        line ++ 10 ∷ part,
-        first_line after old cur line read ∙ ap (λ b. line ++ 10 ∷ b) ends.3 ∙ sym (append_assoc line (10 ∷ part) new.left),
-        inr (r, part, has_line (line ++ 10 ∷ part) part line r refl read.no_newline roster, ends.4),
-      ),
-    )
-served after old cur new held mid now out line r Ending.WriteFault read roster puts ends =
-    took_due old.left ends.0 held now (front_behind held mid now [] out ends.0 puts ends.1) (script_due after old cur line r ends.0 read roster ends.2)
-served after old cur new held mid now out line r Ending.OutOfMemory read roster puts ends =
-    took_due old.left ends.0 held now (front_behind held mid now [] out ends.0 puts ends.1) (script_due after old cur line r ends.0 read roster ends.2)
 
--- the run was aborted, by what was to be written
-aborted_told : (old new : Tape) (held now : Option (List ℕ)) (due : List ℕ) (result : Ending) → IsAborted result → TookFront held now due → IsDue old.left due → Ends (Some old) (Some new) held now result
-aborted_told old new held now due result (inl is) took is_due = subst (λ e. Ends (Some old) (Some new) held now e) (sym is) (took_due old.left due held now took is_due)
-aborted_told old new held now due result (inr is) took is_due = subst (λ e. Ends (Some old) (Some new) held now e) (sym is) (took_due old.left due held now took is_due)
+-- the script's end is the input's
+served : (line script left : List ℕ) (r : RosterForm) (limit : ℕ) (held now : Option (List ℕ)) (result : Result (Unit {0}) Ending) → HasNoNewline line → IsRosterLine line r → length (ended line) + limit ≡ INPUT_LIMIT
+    → EndsWith limit (script_of (campaigns_of r) []) held now result script left → EndsWith INPUT_LIMIT day held now result (ended line ++ script) left
+served line script left r limit held now (Ok done) piece roster counted (out, none, short, writes, took) =
+    (out, none, omega (arith, counted, short, length-append (ended line) script), behind line script r closing out piece roster writes, took)
+served line script left r limit held now (Err Ending.Refused) piece roster counted (inl (first, rest, out, is, over, refused, took)) = absurd refused
+served line script left r limit held now (Err Ending.Refused) piece roster counted (inr (part, more, out, is, long, writes, took)) = inr (
+  ended line ++ part,
+  more,
+  out,
+  ap (λ b. ended line ++ b) is ∙ sym (append_assoc (ended line) part (more ∷ left)),
+  omega (arith, counted, long, length-append (ended line) part),
+  behind line part r (λ campaigns. toolong) out piece roster writes,
+  took,
+)
+served line script left r limit held now (Err (Ending.Stopped Stop.ReadFault)) piece roster counted (read, out, is, short, writes, took) = (
+  ended line ++ read,
+  out,
+  ap (λ b. ended line ++ b) is ∙ sym (append_assoc (ended line) read left),
+  omega (arith, counted, short, length-append (ended line) read),
+  inr (behind line read r (λ campaigns. nothing) out piece roster writes),
+  took,
+)
+served line script left r limit held now (Err (Ending.Stopped Stop.WriteFault)) piece roster counted due = took_up line script left r limit held now piece roster counted due
+served line script left r limit held now (Err (Ending.Stopped Stop.OutOfMemory)) piece roster counted due = took_up line script left r limit held now piece roster counted due
 
--- before the first line is whole nothing is to be written
-nothing_due : (input : List ℕ) → IsDue input []
-nothing_due input = inl ([], input, refl, zero-le, inl (All-nil (λ b. b ≢ 10), refl))
+-- a first line that is no roster was refused
+refused_line : (first rest left : List ℕ) (held now : Option (List ℕ)) (result : Result (Unit {0}) Ending) → LeftBehind rest left → RefusesRoster first rest roster_refused_line
+    → PutsEnd held now roster_refused_line (Err Ending.Refused) result → EndsWith INPUT_LIMIT day held now result (first ++ rest) left
+refused_line first rest left held now result over refused ends =
+    ends_put INPUT_LIMIT day held now (Err Ending.Refused) result (first ++ rest) left roster_refused_line ends
+    (λ took. inl (first, rest, roster_refused_line, refl, over, refused, took))
+    (λ took. (first, rest, roster_refused_line, refl, ([], rest, inl refl, refl, over), inr (inl refused), took))
 
--- the first line was refused
-refused : (old new : Tape) (held mid now : Option (List ℕ)) (out : List ℕ) (result : Ending) → (HasRoster old.left → ⊥) → Puts held mid [] out
-    → EndsAs result Ending.Refused mid out roster_refused_line now → Ends (Some old) (Some new) held now result
-refused old new held mid now out result none puts (inl is) =
-    subst (λ e. Ends (Some old) (Some new) held now e) (sym is.0) (roster_refused_line, took_behind held mid now [] out roster_refused_line puts is.1, inl (none, refl))
-refused old new held mid now out result none puts (inr aborted) =
-    aborted_told old new held now roster_refused_line result aborted.0 (front_behind held mid now [] out roster_refused_line puts aborted.1) (inr (inr (inl (none, refl))))
+-- the run was given up before the roster's line was answered
+unanswered : (taken over left : List ℕ) (held now : Option (List ℕ)) → HasNoNewline taken → length taken ≤ INPUT_LIMIT → LeftOver over left → (bytes : List ℕ) → bytes ≡ [] → TookFront held now bytes
+    → TookDue INPUT_LIMIT day (taken ++ over) left held now
+unanswered taken over left held now piece short left_over bytes none took = (taken, over, bytes, refl, left_over, inl (short, inl (piece, none)), took)
 
--- the first line is the only one that could be a roster
-not_roster : (input line rest : List ℕ) → input ≡ line ++ 10 ∷ rest → HasNoNewline line → ((r : RosterForm) → IsRosterLine line r → ⊥) → HasRoster input → ⊥
-not_roster input line rest is no_newline none has =
-    let first = has.2.first in
-    let same : line ≡ first = first_same line first rest has.1 no_newline has.2.begins.no_newline (sym is ∙ has.2.begins.bytes) in
-    none has.0 (subst (λ l. IsRosterLine l has.0) (sym same) has.2.roster)
+-- nothing was to be put, and nothing was
+same_held : (held now : Option (List ℕ)) → Took held now [] → now ≡ held
+same_held held now took = took ∙ sym (took_none held)
 
--- behind a first line
-pub behind_line : (after : InputState) (old cur new : Option Tape) (held mid now : Option (List ℕ)) (out : List ℕ) (result : Ending)
-    → ToldNext fresh after old cur Next.Line → Puts held mid [] out
-    → ((line : List ℕ) → Keeps after.overlong after.line line → EndsBehind line after cur new mid out now result)
-    → TellsOn cur new → Ends old new held now result
-behind_line after None None new held mid now out result told puts ends tells = tells
-behind_line after None (Some cur) new held mid now out result told puts ends tells = absurd (cc)
-behind_line after (Some old) None new held mid now out result told puts ends tells = absurd told
-behind_line after (Some old) (Some cur) None held mid now out result told puts ends tells = tells
-behind_line after (Some old) (Some cur) (Some new) held mid now out result told puts ends tells =
-    by_case (ends told.0 told.1.keeps)
-  where
-    by_case : EndsBehind told.0 after (Some cur) (Some new) mid out now result → Ends (Some old) (Some new) held now result
-    by_case (inl day) = served after old cur new held mid now out told.0 day.0 result told.1 day.1 puts day.2
-    by_case (inr (inl none)) =
-        refused old new held mid now out result (not_roster old.left told.0 (unread after cur) (first_line after old cur told.0 told.1) told.1.no_newline none.0) puts none.2
-    by_case (inr (inr full)) = aborted_told old new held now [] result (inr full.2) (out, subst (λ h. Puts held h [] out) (sym full.1) puts) (nothing_due old.left)
+empty_front : (xs ys : List ℕ) → [] ≡ xs ++ ys → (xs ≡ []) × (ys ≡ [])
+empty_front [] ys e = (refl, sym e)
+empty_front (x ∷ xs) ys e = absurd (cc)
 
--- the input ends in its first line
-pub behind_end : (after : InputState) (old new : Option Tape) (held mid now : Option (List ℕ)) (out : List ℕ) (result : Ending)
-    → ToldNext fresh after old new Next.End → PutsOn Next.End held [] mid out → EndsAs result Ending.Refused mid out roster_refused_line now
-    → Ends old new held now result
-behind_end after None new held mid now out result told puts ends = told
-behind_end after (Some old) None held mid now out result told puts ends = absurd told
-behind_end after (Some old) (Some new) held mid now out result told puts ends =
-    let line = told.0 in
-    let read = told.1 in
-    refused old new held mid now out result (λ has. no_first line has.2.first has.1 read.no_newline (sym (read.reads.next ∙ ap (λ b. line ++ b) told.2 ∙ append-nil line) ∙ has.2.begins.bytes)) (puts_all held mid [] out puts.0 puts.1) ends
+held_on : (before after : TalkState) → before.out ≡ [] → Puts before after → (after.held ≡ before.held) × (after.out ≡ [])
+held_on before after none puts =
+    let both = empty_front puts.front after.out (sym none ∙ puts.split) in
+    (same_held before.held after.held (subst (Took before.held after.held) both.0 puts.took), both.1)
 
--- the input passes its limit in its first line
-pub behind_limit : (after : InputState) (old new : Option Tape) (held mid now : Option (List ℕ)) (out : List ℕ) (result : Ending)
-    → ToldNext fresh after old new Next.PastLimit → PutsOn Next.PastLimit held [] mid out → EndsAs result Ending.Refused mid out roster_refused_line now
-    → Ends old new held now result
-behind_limit after None new held mid now out result told puts ends = told
-behind_limit after (Some old) None held mid now out result told puts ends = absurd told
-behind_limit after (Some old) (Some new) held mid now out result told puts ends =
-    refused old new held mid now out result too_long (puts_all held mid [] out puts.0 puts.1) ends
-  where
-    too_long : HasRoster old.left → ⊥
-    too_long has =
-        let longer = first_longer told.0 has.2.first has.1 (told.1 ∷ new.left) told.2.no_newline (sym has.2.begins.bytes ∙ told.2.bytes) in
-        omega (arith, longer, told.2.at_limit, told.2.count, ap length told.2.bytes, length-append told.0 (told.1 ∷ new.left), has.2.roster.short)
+held_all : (before after : TalkState) → before.out ≡ [] → PutsAll before after → (after.held ≡ before.held) × (after.out ≡ [])
+held_all before after none puts = (same_held before.held after.held (subst (Took before.held after.held) none puts.took), puts.none)
 
--- the run was aborted in the first line
-pub behind_abort : (after : InputState) (old new : Option Tape) (held now : Option (List ℕ)) (next : Next) (result : Ending) → ToldNext fresh after old new next → TookFront held now [] → IsAborted result → Ends old new held now result
-behind_abort after None new held now next result told took aborted = told
-behind_abort after (Some old) None held now next result told took aborted = absurd told
-behind_abort after (Some old) (Some new) held now next result told took aborted = aborted_told old new held now [] result aborted took (nothing_due old.left)
+-- two steps that are told
+told_twice : (a b t : Option Tape) (R Q : Tape → Tape → Type 0) → WhereTold a b R → TellsOn b t → ((x y z : Tape) → b ≡ Some y → t ≡ Some z → R x y → Q x z) → WhereTold a t Q
+told_twice None b t R Q r tells step = subst (λ o. TellsOn o t) r tells
+told_twice (Some x) None t R Q r tells step = absurd r
+told_twice (Some x) (Some y) None R Q r tells step = absurd tells
+told_twice (Some x) (Some y) (Some z) R Q r tells step = step x y z refl refl r
 
--- there was no memory from the beginning
-pub unbegun : (old : Option Tape) (held : Option (List ℕ)) → Ends old old held held Ending.OutOfMemory
+at_told : (b t : Option Tape) (y z : Tape) (R : Tape → Tape → Type 0) → b ≡ Some y → t ≡ Some z → WhereTold b t R → R y z
+at_told b t y z R e f told = subst (λ o. WhereTold o (Some z) R) e (subst (λ o. WhereTold b o R) f told)
+
+ahead : (b t : Option Tape) (y z : Tape) (pending : List ℕ) → b ≡ Some y → t ≡ Some z → b ≡ tape_behind pending t → y.left ≡ pending ++ z.left
+ahead b t y z pending e f is =
+    let same : Some y ≡ Some (with_pending pending z) = sym e ∙ is ∙ ap (tape_behind pending) f in
+    let tape : y ≡ with_pending pending z = cc same in
+    ap (λ (u : Tape). u.left) tape
+
+unasked : (b t : Option Tape) (y z : Tape) → b ≡ Some y → t ≡ Some z → Unasked b t → LeftBehind y.left z.left
+unasked b t y z e f (pending, small, is) = (pending, small, ahead b t y z pending e f is)
+
+-- a first line that was found
+behind_by : (line : List ℕ) (after : TalkState) (tape : Option Tape) (held now : Option (List ℕ)) (x y z : Tape) (result : Result (Unit {0}) Ending)
+    → after.tape ≡ Some y → tape ≡ Some z → HasNoNewline line → x.left ≡ ended line ++ y.left → length (ended line) + after.allowed ≡ INPUT_LIMIT → after.held ≡ held → after.out ≡ []
+    → EndsBehind line after tape now result → EndsWith INPUT_LIMIT day held now result x.left z.left
+behind_by line after tape held now x y z result e f piece is counted same none (inl (r, roster, ends)) =
+    subst (λ i. EndsWith INPUT_LIMIT day held now result i z.left) (sym is)
+    (served line y.left z.left r after.allowed held now result piece roster counted
+    (at_told after.tape tape y z (λ old new. EndsWith after.allowed (script_of (campaigns_of r) []) held now result old.left new.left) e f
+    (subst (λ h. WhereTold after.tape tape (λ old new. EndsWith after.allowed (script_of (campaigns_of r) []) h now result old.left new.left)) same ends)))
+behind_by line after tape held now x y z result e f piece is counted same none (inr (inl (other, asked, ends))) =
+    subst (λ i. EndsWith INPUT_LIMIT day held now result i z.left) (sym is)
+    (refused_line (ended line) y.left z.left held now result (unasked after.tape tape y z e f asked)
+    (record { line = line; is_first = (piece, inl refl); no_roster = λ r whole roster. other r roster; written = refl })
+    (subst (λ h. PutsEnd h now roster_refused_line (Err Ending.Refused) result) same (subst (λ o. PutsEnd after.held now (o ++ roster_refused_line) (Err Ending.Refused) result) none ends)))
+behind_by line after tape held now x y z result e f piece is counted same none (inr (inr (asked, held_now, stopped))) =
+    subst (λ w. EndsWith INPUT_LIMIT day held now w x.left z.left) (sym stopped)
+    (subst (λ i. TookDue INPUT_LIMIT day i z.left held now) (sym is)
+    (unanswered [] (ended line ++ y.left) z.left held now (All-nil (λ b. b ≢ 10)) (omega arith) (ended line, y.left, inr (line, piece, refl), refl, unasked after.tape tape y z e f asked) [] refl
+    (subst (λ h. TookFront held h []) (sym (held_now ∙ same)) (took_nothing held []))))
+
+pub behind_line : (before after : TalkState) (tape : Option Tape) (now : Option (List ℕ)) (result : Result (Unit {0}) Ending) → before.out ≡ [] → before.allowed ≡ INPUT_LIMIT
+    → WhereTold before.tape after.tape (ReadsNext LINE_LIMIT before after (Ok Next.Line)) → Puts before after → TellsOn after.tape tape
+    → ((line : List ℕ) → Keeps LINE_LIMIT after.overlong after.line line → EndsBehind line after tape now result) → EndsTalk INPUT_LIMIT day before tape now result
+behind_line before after tape now result none whole told puts tells ends =
+    let held = held_on before after none puts in
+    told_twice before.tape after.tape tape (ReadsNext LINE_LIMIT before after (Ok Next.Line)) (λ old new. EndsWith INPUT_LIMIT day before.held now result old.left new.left) told tells (λ x y z e f r.
+    behind_by r.0 after tape before.held now x y z result e f r.1.no_newline r.2.next (sym r.2.counted ∙ whole) held.0 held.1 (ends r.0 r.1.keeps))
+
+-- the input ended before its first line did
+pub behind_end : (before after : TalkState) (pending : List ℕ) (tape : Option Tape) (now : Option (List ℕ)) (result : Result (Unit {0}) Ending) → before.out ≡ [] → before.allowed ≡ INPUT_LIMIT
+    → WhereTold before.tape (tape_behind pending tape) (ReadsNext LINE_LIMIT before after (Ok Next.End)) → pending ≡ [] → PutsAll before after
+    → PutsEnd after.held now (after.out ++ roster_refused_line) (Err Ending.Refused) result → EndsTalk INPUT_LIMIT day before tape now result
+behind_end before after pending tape now result none whole told looked puts ends =
+    let held = held_all before after none puts in
+    told_source before.tape pending tape (ReadsNext LINE_LIMIT before after (Ok Next.End)) (λ old new. EndsWith INPUT_LIMIT day before.held now result old.left new.left) told (λ x z r.
+    let line = r.0 in
+    let left : z.left ≡ [] = ap (λ p. p ++ z.left) (sym looked) ∙ r.3 in
+    let is : x.left ≡ line ++ [] = r.2.next ∙ ap (λ b. line ++ b) r.3 in
+    subst (λ i. EndsWith INPUT_LIMIT day before.held now result i z.left) (sym is)
+    (refused_line line [] z.left before.held now result ([], omega arith, sym left)
+    (record { line = line; is_first = (r.1.no_newline, inr (refl, inl refl)); no_roster = λ form over roster. absurd (omega (arith, ap length over, length-append line (10 ∷ []))); written = refl })
+    (subst (λ h. PutsEnd h now roster_refused_line (Err Ending.Refused) result) held.0 (subst (λ o. PutsEnd after.held now (o ++ roster_refused_line) (Err Ending.Refused) result) held.1 ends))))
+
+-- the input passes its limit within its first line
+pub behind_limit : (before after : TalkState) (pending : List ℕ) (tape : Option Tape) (now : Option (List ℕ)) (result : Result (Unit {0}) Ending) → before.out ≡ [] → before.allowed ≡ INPUT_LIMIT
+    → WhereTold before.tape (tape_behind pending tape) (ReadsNext LINE_LIMIT before after (Ok Next.PastLimit)) → pending ≡ [] → PutsAll before after
+    → PutsEnd after.held now (after.out ++ roster_refused_line) (Err Ending.Refused) result → EndsTalk INPUT_LIMIT day before tape now result
+behind_limit before after pending tape now result none whole told looked puts ends =
+    let held = held_all before after none puts in
+    told_source before.tape pending tape (ReadsNext LINE_LIMIT before after (Ok Next.PastLimit)) (λ old new. EndsWith INPUT_LIMIT day before.held now result old.left new.left) told (λ x z r.
+    let line = r.0 in
+    let more = r.1 in
+    let is : x.left ≡ line ++ more ∷ z.left = r.3 ∙ ap (λ p. line ++ more ∷ (p ++ z.left)) looked in
+    subst (λ i. EndsWith INPUT_LIMIT day before.held now result i z.left) (sym is)
+    (refused_line line (more ∷ z.left) z.left before.held now result (more ∷ [], omega arith, refl)
+    (record { line = line; is_first = (r.2, inr (refl, inr (r.4 ∙ whole, λ e. cc e))); no_roster = λ form over roster. absurd (omega (arith, ap length over, length-append line (10 ∷ []))); written = refl })
+    (subst (λ h. PutsEnd h now roster_refused_line (Err Ending.Refused) result) held.0 (subst (λ o. PutsEnd after.held now (o ++ roster_refused_line) (Err Ending.Refused) result) held.1 ends))))
+
+-- the run stopped before the first line was whole
+stopped_front : (before after : TalkState) (x z : Tape) (pending front : List ℕ) (now : Option (List ℕ)) → HasNoNewline front → x.left ≡ front ++ (pending ++ z.left) → length front ≤ INPUT_LIMIT → length pending ≤ CHUNK → before.out ≡ [] → TookFront before.held now before.out
+    → TookDue INPUT_LIMIT day x.left z.left before.held now
+stopped_front before after x z pending front now piece is short small none took =
+    subst (λ i. TookDue INPUT_LIMIT day i z.left before.held now) (sym is)
+    (unanswered front (pending ++ z.left) z.left before.held now piece short ([], pending ++ z.left, inl refl, refl, (pending, small, refl)) before.out none took)
+
+pub behind_stop : (before after : TalkState) (pending : List ℕ) (tape : Option Tape) (stop : Stop) → before.out ≡ [] → before.allowed ≡ INPUT_LIMIT
+    → WhereTold before.tape (tape_behind pending tape) (ReadsNext LINE_LIMIT before after (Err stop)) → length pending ≤ CHUNK → (stop ≢ Stop.OutOfMemory → pending ≡ []) → PutsNext before after (Err stop)
+    → EndsTalk INPUT_LIMIT day before tape after.held (Err (Ending.Stopped stop))
+behind_stop before after pending tape Stop.ReadFault none whole told small looked puts =
+    let held = held_all before after none puts in
+    told_source before.tape pending tape (ReadsNext LINE_LIMIT before after (Err Stop.ReadFault)) (λ old new. EndsWith INPUT_LIMIT day before.held after.held (Err (Ending.Stopped Stop.ReadFault)) old.left new.left) told (λ x z r. (
+      r.0,
+      [],
+      r.2.next ∙ ap (λ p. r.0 ++ (p ++ z.left)) (looked (λ e. cc e)),
+      omega (arith, r.2.counted, whole),
+      inl (r.1, refl),
+      held.0 ∙ took_none before.held,
+    ))
+behind_stop before after pending tape Stop.WriteFault none whole told small looked puts =
+    told_source before.tape pending tape (ReadsNext LINE_LIMIT before after (Err Stop.WriteFault)) (λ old new. EndsWith INPUT_LIMIT day before.held after.held (Err (Ending.Stopped Stop.WriteFault)) old.left new.left) told (λ x z r.
+    stopped_front before after x z pending r.0 after.held r.1 r.2.next (omega (arith, r.2.counted, whole)) small none (some_behind before.held before.out before after (puts_nothing before.held before.out) puts))
+behind_stop before after pending tape Stop.OutOfMemory none whole told small looked puts =
+    told_source before.tape pending tape (ReadsNext LINE_LIMIT before after (Err Stop.OutOfMemory)) (λ old new. EndsWith INPUT_LIMIT day before.held after.held (Err (Ending.Stopped Stop.OutOfMemory)) old.left new.left) told (λ x z r.
+    stopped_front before after x z pending r.0 after.held r.1 r.2.next (omega (arith, r.2.counted, whole)) small none (front_put before.held after.held before.out after.out (puts_on before.held before.out before after (puts_nothing before.held before.out) puts)))
+
+-- the day of the campaigns that were read is that of the roster's form
+pub of_roster : (line : List ℕ) (before : TalkState) (tape : Option Tape) (now : Option (List ℕ)) (result : Result (Unit {0}) Ending) (given read : List Campaign) → given ≡ read → ReadsRoster line (Some read)
+    → EndsTalk before.allowed (script_of given []) before tape now result → EndsBehind line before tape now result
+of_roster line before tape now result given read e (r, is, f) ends = inl (r, is, subst (λ cs. EndsTalk before.allowed (script_of cs []) before tape now result) (e ∙ f) ends)
+
+-- what the sink took is a front of what was to be written
+ends_due : (limit : ℕ) (c : Command) (held now : Option (List ℕ)) (result : Result (Unit {0}) Ending) (input left : List ℕ) → EndsWith limit c held now result input left
+    → (read rest due : List ℕ) × (input ≡ read ++ rest) × IsDue limit c read rest due × TookFront held now due
+ends_due limit c held now (Ok done) input left (out, none, short, whole, took) =
+    (input, [], out, sym (append-nil input), inr (inr (inl (refl, short, whole))), (out, [], sym (append-nil out), took))
+ends_due limit c held now (Err Ending.Refused) input left (inl (first, rest, out, is, over, refused, took)) = (first, rest, out, is, inr (inl refused), (out, [], sym (append-nil out), took))
+ends_due limit c held now (Err Ending.Refused) input left (inr (part, more, out, is, long, past, took)) =
+    (part ++ more ∷ [], left, out, is ∙ sym (append_assoc part (more ∷ []) left), inr (inr (inr (part, more, refl, long, past))), (out, [], sym (append-nil out), took))
+ends_due limit c held now (Err (Ending.Stopped Stop.ReadFault)) input left (read, out, is, short, front, took) = (read, left, out, is, inl (short, front), (out, [], sym (append-nil out), took))
+ends_due limit c held now (Err (Ending.Stopped Stop.WriteFault)) input left (read, rest, due, is, over, is_due, took) = (read, rest, due, is, is_due, took)
+ends_due limit c held now (Err (Ending.Stopped Stop.OutOfMemory)) input left (read, rest, due, is, over, is_due, took) = (read, rest, due, is, is_due, took)
+
+ends_at : (held now : Option (List ℕ)) (result : Result (Unit {0}) Ending) (old new : Tape) → EndsWith INPUT_LIMIT day held now result old.left new.left → EndsAt INPUT_LIMIT day held now result old new
+ends_at held now result old new ends =
+    let due = ends_due INPUT_LIMIT day held now result old.left new.left ends in record {
+      ends = ends;
+      of_whole = λ whole is.
+          let more = due_front due.0 due.1 due.2 whole due.4 (subst (λ i. IsWhole INPUT_LIMIT day i whole) due.3 is) in
+          subst (TookFront held now) (sym more.1) (front_of_more held now due.2 more.0 due.5);
+    }
+
+-- a talk that begins with its source, and the source and the sink behind it
+pub day_ends : (before : TalkState) (source tape tape_now : Option Tape) (held now held_now : Option (List ℕ)) (result : Result (Unit {0}) Ending) → before.tape ≡ tape_behind [] source → before.held ≡ held → tape_now ≡ tape → held_now ≡ now
+    → EndsTalk INPUT_LIMIT day before tape now result → Ends INPUT_LIMIT day source tape_now held held_now result
+day_ends before source tape tape_now held now held_now result at same last kept ends =
+    subst (λ t. Ends INPUT_LIMIT day source t held held_now result) (sym last)
+    (subst (λ h. Ends INPUT_LIMIT day source tape held h result) (sym kept)
+    (told_first source tape (λ old new. EndsWith INPUT_LIMIT day held now result old.left new.left) (EndsAt INPUT_LIMIT day held now result)
+    (subst (λ h. WhereTold (tape_behind [] source) tape (λ old new. EndsWith INPUT_LIMIT day h now result old.left new.left)) same (subst (λ t. WhereTold t tape (λ old new. EndsWith INPUT_LIMIT day before.held now result old.left new.left)) at ends))
+    (λ x y r. ends_at held now result x y r)))
+
+-- memory was refused before anything was read
+pub unbegun : (tape : Option Tape) (held : Option (List ℕ)) → Ends INPUT_LIMIT day tape tape held held (Err (Ending.Stopped Stop.OutOfMemory))
 unbegun None held = refl
-unbegun (Some old) held = took_due old.left [] held held (took_nothing held []) (nothing_due old.left)
+unbegun (Some t) held =
+    ends_at held held (Err (Ending.Stopped Stop.OutOfMemory)) t t
+    (unanswered [] t.left t.left held held (All-nil (λ b. b ≢ 10)) (omega arith) ([], t.left, inl refl, refl, ([], omega arith, refl)) [] refl (took_nothing held []))
 
--- a run over a script leaves a source as it is told
-pub script_tells : (campaigns : List Campaign) (before : InputState) (old new : Option Tape) (held : Option (List ℕ)) (out : List ℕ) (now : Option (List ℕ)) (result : Ending)
-    → ScriptEndsTold campaigns before old new held out now result → TellsOn old new
-script_tells campaigns before None new held out now result ends = ends
-script_tells campaigns before (Some old) None held out now result ends = ends
-script_tells campaigns before (Some old) (Some new) held out now result ends = tt
-
-pub tells_same : (tape : Option Tape) → TellsOn tape tape
-tells_same None = refl
-tells_same (Some tape) = tt
+-- a roster's day for which there was no memory
+pub day_unopened : (c : Command) (before : TalkState) (pending : List ℕ) (tape : Option Tape) → before.tape ≡ tape_behind pending tape → length pending ≤ CHUNK → c.front [] []
+    → EndsTalk before.allowed c before tape before.held (Err (Ending.Stopped Stop.OutOfMemory))
+day_unopened c before pending tape at small front =
+    subst (λ t. WhereTold t tape (λ old new. EndsWith before.allowed c before.held before.held (Err (Ending.Stopped Stop.OutOfMemory)) old.left new.left)) (sym at)
+    (told_ahead pending tape (λ old new. EndsWith before.allowed c before.held before.held (Err (Ending.Stopped Stop.OutOfMemory)) old.left new.left) (λ z.
+    ([], pending ++ z.left, [], refl, ([], pending ++ z.left, inl refl, refl, (pending, small, refl)), inl (omega arith, front), took_nothing before.held [])))

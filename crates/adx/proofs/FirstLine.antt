@@ -1,7 +1,7 @@
 -- The first line of an input is one.
 use Rattle.std.proofs.Common.{◌≡◌, ◌≢◌, ℕ, ◌≤◌, List, [], ◌∷◌, ◌++◌, length, refl, sym, ap, ◌∙◌, arith, zero-le}
 use Rattle.std.proofs.lemmas.List.Elements.{All-head, All-tail}
-use Rattle.adx.specs.Lines.{HasNoNewline}
+use Rattle.adx_io.specs.Lines.{HasNoNewline}
 
 -- heads and tails of equal lists
 heads : (a b : ℕ) (xs ys : List ℕ) → a ∷ xs ≡ b ∷ ys → a ≡ b

@@ -1,9 +1,8 @@
-pub mod ReadingSteps
-pub mod Putting
 pub mod PartsSteps
 pub mod PartsLaws
 pub mod AmountLaws
 pub mod RosterLaws
+pub mod KeptLaws
 pub mod AskLaws
 pub mod LineLaws
 pub mod OffersSteps
@@ -11,8 +10,13 @@ pub mod AskSteps
 pub mod Joined
 pub mod Chains
 pub mod FirstLine
-pub mod Calls
+pub mod BillLaws
+pub mod AnswerLaws
+pub mod Books
+pub mod Rosters
+pub mod Putting
+pub mod Told
 pub mod Runs
 pub mod OneOutput
 pub mod Days
-pub mod BillLaws
+pub mod Outputs

@@ -1,29 +1,30 @@
 -- An input has one output, and what is to be written at any point of a run is a front of it.
-use Rattle.std.proofs.Common.{◌≡◌, inl, inr, ℕ, suc, ◌+◌, ◌≤◌, List, [], ◌∷◌, ◌++◌, length, All, None, refl, sym, ap, ◌∙◌, append_assoc, append-nil, length-append, arith, subst}
+use Rattle.std.proofs.Common.{◌≡◌, ◌≢◌, ◌⊎◌, inl, inr, ℕ, suc, ◌+◌, ◌≤◌, List, [], ◌∷◌, ◌++◌, length, All, refl, sym, ap, ◌∙◌, append_assoc, append-nil, length-append, arith, subst}
 use Rattle.std.specs.List.{flat_map}
-use Rattle.std.proofs.lemmas.List.Elements.{All-head, All-tail}
+use Rattle.std.proofs.lemmas.List.Elements.{All-nil, All-cons, All-head, All-tail}
 use Rattle.std.proofs.lemmas.Option.{same_Some}
-use Rattle.narrow_day.specs.declared.entry.Entry.{Entry}
-use Rattle.narrow_day.specs.declared.ask.Ask.{Ask}
-use Rattle.narrow_day.specs.Replies.{ask_reply, bill_reply, with_entry}
-use Rattle.adx.specs.declared.bill.Bill.{Bill}
+use Rattle.adx_io.specs.Lines.{HasNoNewline}
+use Rattle.adx_io.specs.Talk.{ended}
+use Rattle.day_rules.specs.declared.entry.Entry.{Entry}
+use Rattle.day_rules.specs.Replies.{Call, reply}
+use Rattle.day_rules.specs.Runs.{Outcome, Turn, done, after_turn, run}
+use Rattle.day_rules.specs.Terms.{Terms}
+use Rattle.adx.specs.declared.limits.TheConstants.{INPUT_LIMIT}
 use Rattle.adx.specs.declared.roster.Campaign.{Campaign}
-use Rattle.adx.specs.AskParts.{ask_made, ask_in}
-use Rattle.adx.specs.BillParts.{bill_made}
-use Rattle.adx.specs.Forms.{RosterForm, AskForm, BillForm, IsRosterLine, IsAskLine, IsBillLine, roster_tree, ask_tree, bill_tree, campaigns_of, ask_of_form, bill_of_form}
-use Rattle.adx.specs.Lines.{HasNoNewline, IsCut, ended}
-use Rattle.adx.specs.Output.{ask_answer_line, bill_answer_line, closing_table, toolong_line}
+use Rattle.adx.specs.Endings.{IsWhole, IsWholeOf, IsDue}
+use Rattle.adx.specs.Forms.{RosterForm, IsRosterLine, Means, roster_tree, campaigns_of}
+use Rattle.adx.specs.Lines.{IsCut}
+use Rattle.adx.specs.Meanings.{Meaning, calls, refused, Writing, Answers, AnswersLine, AreDone, IsLine}
+use Rattle.adx.specs.Output.{writing}
 use Rattle.adx.specs.RosterParts.{roster_in}
-use Rattle.adx.specs.Script.{terms_of, Answers, AnswersAll, RunsOver, cut_line, IsScriptOutput, IsScriptFront, IsScriptPastLimit, HasRoster, HasRosterLine, IsWhole, IsDue}
-use Rattle.adx.proofs.AskLaws.{ask_complete}
-use Rattle.adx.proofs.BillLaws.{bill_complete}
-use Rattle.adx.proofs.FirstLine.{first_same, rest_same, no_first}
-use Rattle.adx.proofs.LineLaws.{same_value}
+use Rattle.adx.specs.Script.{terms_by, WritesRun, nothing, closing, toolong, HasRosterLine, BehindRoster, RefusesRoster, IsFront, day}
+use Rattle.adx.proofs.FirstLine.{first_longer, first_same, rest_same, no_first}
+use Rattle.adx.proofs.LineLaws.{same_value, one_meaning}
 use Rattle.adx.proofs.RosterLaws.{roster_complete}
 
 -- lists
 -- the shorter of two fronts is a front of the longer
-front_of : (a b c d : List ℕ) → a ++ b ≡ c ++ d → length a ≤ length c → (x : List ℕ) × (c ≡ a ++ x)
+pub front_of : (a b c d : List ℕ) → a ++ b ≡ c ++ d → length a ≤ length c → (x : List ℕ) × (c ≡ a ++ x)
 front_of [] b c d e short = (c, refl)
 front_of (x ∷ a) b [] d e short = absurd (omega (arith, short))
 front_of (x ∷ a) b (y ∷ c) d e short =
@@ -33,7 +34,7 @@ front_of (x ∷ a) b (y ∷ c) d e short =
     (more.0, ap (λ z. z ∷ c) (sym head) ∙ ap (λ l. x ∷ l) more.1)
 
 -- two fronts of one length are one
-front_same : (a b c d : List ℕ) → a ++ b ≡ c ++ d → length a ≡ length c → a ≡ c
+pub front_same : (a b c d : List ℕ) → a ++ b ≡ c ++ d → length a ≡ length c → a ≡ c
 front_same [] b [] d e long = refl
 front_same [] b (y ∷ c) d e long = absurd (omega (arith, long))
 front_same (x ∷ a) b [] d e long = absurd (omega (arith, long))
@@ -72,109 +73,88 @@ cut_same script lines others last other cut cut' =
     let none = no_more more.0 last other cut.piece more.2 in
     (sym (more.1 ∙ ap (λ m. lines ++ m) none.0 ∙ append-nil lines), none.1)
 
+-- turns
+all_left : {X : Type 0} (P : X → Type 0) (xs ys : List X) → All P (xs ++ ys) → All P xs
+all_left P [] ys all = All-nil P
+all_left P (x ∷ xs) ys all = All-cons P x xs (All-head P x (xs ++ ys) all) (all_left P xs ys (All-tail P x (xs ++ ys) all))
+
+all_right : {X : Type 0} (P : X → Type 0) (xs ys : List X) → All P (xs ++ ys) → All P ys
+all_right P [] ys all = all
+all_right P (x ∷ xs) ys all = all_right P xs ys (All-tail P x (xs ++ ys) all)
+
+abbrev IsDone : Turn → Type 0
+IsDone t = t.outcome ≡ done
+
+turn_same : (c c' : Call) (o o' : Outcome) → c ≡ c' → o ≡ o' → ◌≡◌ {A = Turn} (record { call = c; outcome = o }) (record { call = c'; outcome = o' })
+turn_same c c' o o' e f = λ i. record { call = e i; outcome = f i }
+
 -- lines
--- a line is one ask, one bill, and never both
-ask_same : (campaigns : List Campaign) (line : List ℕ) (f g : AskForm) → IsAskLine line f → IsAskLine line g → ask_of_form campaigns f ≡ ask_of_form campaigns g
-ask_same campaigns line f g is is' =
-    same_Some (ask_of_form campaigns f) (ask_of_form campaigns g)
-    (sym (ask_complete campaigns f is.ask is.plain) ∙ ap (ask_made campaigns) (same_value line (ask_tree f) (ask_tree g) is.plain is.spelled is'.plain is'.spelled) ∙ ask_complete campaigns g is'.ask is'.plain)
-
-bill_same : (line : List ℕ) (f g : BillForm) → IsBillLine line f → IsBillLine line g → bill_of_form f ≡ bill_of_form g
-bill_same line f g is is' =
-    same_Some (bill_of_form f) (bill_of_form g)
-    (sym (bill_complete f is.bill) ∙ ap bill_made (same_value line (bill_tree f) (bill_tree g) is.plain is.spelled is'.plain is'.spelled) ∙ bill_complete g is'.bill)
-
-bill_is_no_ask : (campaigns : List Campaign) (g : BillForm) → ask_made campaigns (bill_tree g) ≡ None
-unfolding ask_made ask_in
-bill_is_no_ask campaigns g = refl
-
-never_both : (line : List ℕ) (f : AskForm) (g : BillForm) → IsAskLine line f → IsBillLine line g → ⊥
-never_both line f g is is' =
-    let made = sym (ask_complete [] f is.ask is.plain) ∙ ap (ask_made []) (same_value line (ask_tree f) (bill_tree g) is.plain is.spelled is'.plain is'.spelled) ∙ bill_is_no_ask [] g in
-    cc made
-
--- a line is answered in one way
-one_answer : (campaigns : List Campaign) (history : List Entry) (number : ℕ) (line out out' : List ℕ) (next next' : List Entry) → Answers campaigns history number line out next → Answers campaigns history number line out' next' → (out ≡ out') × (next ≡ next')
-one_answer campaigns history number line out out' next next' (inl (f, a)) (inl (g, b)) =
-    let same = ask_same campaigns line f g a.read b.read in
-    let after : next ≡ next' = a.entry ∙ ap (λ (x : Ask). with_entry history (ask_reply (terms_of campaigns) history x).entry) same ∙ sym b.entry in (
-      a.answer ∙ ap (λ (h : List Entry). ask_answer_line campaigns h (ask_reply (terms_of campaigns) history (ask_of_form campaigns f)).answer) after
-          ∙ ap (λ (x : Ask). ask_answer_line campaigns next' (ask_reply (terms_of campaigns) history x).answer) same ∙ sym b.answer,
-      after,
+-- a line that isn't given up is answered in one way
+call_same : (w : Writing) (terms : Terms) (number : ℕ) (history : List Entry) (m : Meaning) (turns turns' : List Turn) (out out' : List ℕ)
+    → AnswersLine w terms number history m turns out → AnswersLine w terms number history m turns' out' → AreDone turns → AreDone turns' → (turns ≡ turns') × (out ≡ out')
+call_same w terms number history (calls c) turns turns' out out' (t, is, only, inl (d, e)) (t', is', only', inl (d', e')) all all' =
+    let same : t ≡ t' = turn_same t.call t'.call t.outcome t'.outcome (is ∙ sym is') (d ∙ sym d') in (
+      only ∙ ap (λ u. u ∷ []) same ∙ sym only',
+      e ∙ ap (λ (u : Turn). w.answer (after_turn terms history u) (reply terms history u.call).answer) same ∙ sym e',
     )
-one_answer campaigns history number line out out' next next' (inl (f, a)) (inr (inl (g, b))) = absurd (never_both line f g a.read b.read)
-one_answer campaigns history number line out out' next next' (inl (f, a)) (inr (inr b)) = absurd (b.no_ask f a.read)
-one_answer campaigns history number line out out' next next' (inr (inl (f, a))) (inl (g, b)) = absurd (never_both line g f b.read a.read)
-one_answer campaigns history number line out out' next next' (inr (inl (f, a))) (inr (inl (g, b))) =
-    let same = bill_same line f g a.read b.read in (
-      a.answer ∙ ap (λ (x : Bill). bill_answer_line (bill_reply history x.auction x.award).answer) same ∙ sym b.answer,
-      a.entry ∙ ap (λ (x : Bill). with_entry history (bill_reply history x.auction x.award).entry) same ∙ sym b.entry,
-    )
-one_answer campaigns history number line out out' next next' (inr (inl (f, a))) (inr (inr b)) = absurd (b.no_bill f a.read)
-one_answer campaigns history number line out out' next next' (inr (inr a)) (inl (g, b)) = absurd (a.no_ask g b.read)
-one_answer campaigns history number line out out' next next' (inr (inr a)) (inr (inl (g, b))) = absurd (a.no_bill g b.read)
-one_answer campaigns history number line out out' next next' (inr (inr a)) (inr (inr b)) = (a.answer ∙ sym b.answer, a.same ∙ sym b.same)
+call_same w terms number history (calls c) turns turns' out out' (t, is, only, inr (d, f, e)) b all all' =
+    absurd (cc (sym (All-head IsDone t [] (subst AreDone only all)) ∙ d))
+call_same w terms number history (calls c) turns turns' out out' (t, is, only, inl a) (t', is', only', inr (d, f, e)) all all' =
+    absurd (cc (sym (All-head IsDone t' [] (subst AreDone only' all')) ∙ d))
+call_same w terms number history (refused why) turns turns' out out' (none, e) (none', e') all all' = (none ∙ sym none', e ∙ sym e')
 
--- lines are answered in one way
-answers_same : (campaigns : List Campaign) (history : List Entry) (number : ℕ) (lines : List (List ℕ)) (out out' : List ℕ) (last last' : List Entry) → AnswersAll campaigns history number lines out last → AnswersAll campaigns history number lines out' last' → (out ≡ out') × (last ≡ last')
-answers_same campaigns history number [] out out' last last' a b = (a.0 ∙ sym b.0, a.1 ∙ sym b.1)
-answers_same campaigns history number (l ∷ lines) out out' last last' (first, next, rest, one, all, e) (first', next', rest', one', all', e') =
-    let same = one_answer campaigns history number l first first' next next' one one' in
-    let more = answers_same campaigns next (suc number) lines rest rest' last last' all (subst (λ h. AnswersAll campaigns h (suc number) lines rest' last') (sym same.1) all') in
-    (e ∙ ap (λ x. x ++ rest) same.0 ∙ ap (λ x. first' ++ x) more.0 ∙ sym e', more.1)
+line_same : (campaigns : List Campaign) (terms : Terms) (number : ℕ) (history : List Entry) (line : List ℕ) (turns turns' : List Turn) (out out' : List ℕ)
+    → IsLine (Means campaigns) (writing campaigns) terms number history line turns out → IsLine (Means campaigns) (writing campaigns) terms number history line turns' out' → AreDone turns → AreDone turns' → (turns ≡ turns') × (out ≡ out')
+line_same campaigns terms number history line turns turns' out out' a b all all' =
+    let same = one_meaning campaigns line a.meaning b.meaning a.means b.means in
+    call_same (writing campaigns) terms number history b.meaning turns turns' out out' (subst (λ m. AnswersLine (writing campaigns) terms number history m turns out) same a.answered) b.answered all all'
 
 -- the answers to the first lines are the first answers
-answers_front : (campaigns : List Campaign) (history : List Entry) (number : ℕ) (lines more : List (List ℕ)) (out out' : List ℕ) (last last' : List Entry) → AnswersAll campaigns history number lines out last → AnswersAll campaigns history number (lines ++ more) out' last' → (rest : List ℕ) × (out' ≡ out ++ rest)
-answers_front campaigns history number [] more out out' last last' a b = (out', ap (λ o. o ++ out') (sym a.0))
-answers_front campaigns history number (l ∷ lines) more out out' last last' (first, next, rest, one, all, e) (first', next', rest', one', all', e') =
-    let same = one_answer campaigns history number l first first' next next' one one' in
-    let behind = answers_front campaigns next (suc number) lines more rest rest' last last' all (subst (λ h. AnswersAll campaigns h (suc number) (lines ++ more) rest' last') (sym same.1) all') in
-    (behind.0, e' ∙ ap (λ x. x ++ rest') (sym same.0) ∙ ap (λ x. first ++ x) behind.1 ∙ sym (append_assoc first rest behind.0) ∙ ap (λ x. x ++ behind.0) (sym e))
+answers_front : (campaigns : List Campaign) (terms : Terms) (history : List Entry) (number : ℕ) (lines more : List (List ℕ)) (turns turns' : List Turn) (out out' : List ℕ)
+    → Answers (Means campaigns) (writing campaigns) terms number history lines turns out → Answers (Means campaigns) (writing campaigns) terms number history (lines ++ more) turns' out' → AreDone turns → AreDone turns'
+    → (rest : List ℕ) × (out' ≡ out ++ rest)
+answers_front campaigns terms history number [] more turns turns' out out' a b all all' = (out', ap (λ o. o ++ out') (sym a.1))
+answers_front campaigns terms history number (l ∷ lines) more turns turns' out out' (first, rest, out_first, out_rest, one, tail, is, e) (first', rest', out_first', out_rest', one', tail', is', e') all all' =
+    let done = subst AreDone is all in
+    let done' = subst AreDone is' all' in
+    let same = line_same campaigns terms number history l first first' out_first out_first' one one' (all_left IsDone first rest done) (all_left IsDone first' rest' done') in
+    let behind = answers_front campaigns terms (run terms history first) (suc number) lines more rest rest' out_rest out_rest' tail (subst (λ (t : List Turn). Answers (Means campaigns) (writing campaigns) terms (suc number) (run terms history t) (lines ++ more) rest' out_rest') (sym same.0) tail') (all_right IsDone first rest done) (all_right IsDone first' rest' done') in
+    (behind.0, e' ∙ ap (λ x. x ++ out_rest') (sym same.1) ∙ ap (λ x. out_first ++ x) behind.1 ∙ sym (append_assoc out_first out_rest behind.0) ∙ ap (λ x. x ++ behind.0) (sym e))
+
+-- lines are answered in one way
+answers_same : (campaigns : List Campaign) (terms : Terms) (history : List Entry) (number : ℕ) (lines : List (List ℕ)) (turns turns' : List Turn) (out out' : List ℕ)
+    → Answers (Means campaigns) (writing campaigns) terms number history lines turns out → Answers (Means campaigns) (writing campaigns) terms number history lines turns' out' → AreDone turns → AreDone turns'
+    → (turns ≡ turns') × (out ≡ out')
+answers_same campaigns terms history number [] turns turns' out out' a b all all' = (a.0 ∙ sym b.0, a.1 ∙ sym b.1)
+answers_same campaigns terms history number (l ∷ lines) turns turns' out out' (first, rest, out_first, out_rest, one, tail, is, e) (first', rest', out_first', out_rest', one', tail', is', e') all all' =
+    let done = subst AreDone is all in
+    let done' = subst AreDone is' all' in
+    let same = line_same campaigns terms number history l first first' out_first out_first' one one' (all_left IsDone first rest done) (all_left IsDone first' rest' done') in
+    let more = answers_same campaigns terms (run terms history first) (suc number) lines rest rest' out_rest out_rest' tail (subst (λ (t : List Turn). Answers (Means campaigns) (writing campaigns) terms (suc number) (run terms history t) lines rest' out_rest') (sym same.0) tail') (all_right IsDone first rest done) (all_right IsDone first' rest' done') in (
+      is ∙ ap (λ x. x ++ rest) same.0 ∙ ap (λ x. first' ++ x) more.0 ∙ sym is',
+      e ∙ ap (λ x. x ++ out_rest) same.1 ∙ ap (λ x. out_first' ++ x) more.1 ∙ sym e',
+    )
 
 -- scripts
--- a script runs in one way
-runs_same : (campaigns : List Campaign) (script : List ℕ) (lines others : List (List ℕ)) (last other out out' : List ℕ) (history history' : List Entry)
-    → RunsOver campaigns script lines last out history → RunsOver campaigns script others other out' history' → (lines ≡ others) × (last ≡ other) × (out ≡ out') × (history ≡ history')
-runs_same campaigns script lines others last other out out' history history' a b =
-    let cut = cut_same script lines others last other a.cut b.cut in
-    let all = answers_same campaigns [] 2 lines out out' history history' a.answered (subst (λ ls. AnswersAll campaigns [] 2 ls out' history') (sym cut.0) b.answered) in
-    (cut.0, cut.1, all.0, all.1)
+-- a script is written for in one way
+pub writes_same : (campaigns : List Campaign) (start : List Entry) (behind : ℕ → List ℕ → List Entry → List ℕ) (script out out' : List ℕ) → WritesRun campaigns start behind script out → WritesRun campaigns start behind script out' → out ≡ out'
+writes_same campaigns start behind script out out' a b =
+    let cut = cut_same script a.lines b.lines a.last b.last a.runs.cut b.runs.cut in
+    let same = answers_same campaigns (terms_by campaigns) start 2 a.lines a.turns b.turns a.answers b.answers a.runs.answered (subst (λ ls. Answers (Means campaigns) (writing campaigns) (terms_by campaigns) 2 start ls b.turns b.answers) (sym cut.0) b.runs.answered) a.runs.done b.runs.done in
+    let history : a.history ≡ b.history = a.runs.books.ran ∙ ap (run (terms_by campaigns) start) same.0 ∙ sym b.runs.books.ran in
+    a.written ∙ ap (λ x. x ++ behind (2 + length a.lines) a.last a.history) same.1 ∙ ap (λ (ls : List (List ℕ)). b.answers ++ behind (2 + length ls) a.last a.history) cut.0
+    ∙ ap (λ l. b.answers ++ behind (2 + length b.lines) l a.history) cut.1 ∙ ap (λ h. b.answers ++ behind (2 + length b.lines) b.last h) history ∙ sym b.written
 
--- a front of a script runs as the script begins
-runs_front : (campaigns : List Campaign) (part back : List ℕ) (lines others : List (List ℕ)) (last other out out' : List ℕ) (history history' : List Entry)
-    → RunsOver campaigns part lines last out history → RunsOver campaigns (part ++ back) others other out' history' → (rest : List ℕ) × (out' ≡ out ++ rest)
-runs_front campaigns part back lines others last other out out' history history' a b =
-    let both = sym (append_assoc (flat_map ended lines) last back) ∙ ap (λ p. p ++ back) (sym a.cut.bytes) ∙ b.cut.bytes in
-    let more = cut_front lines others (last ++ back) other a.cut.whole b.cut.whole b.cut.piece both in
-    answers_front campaigns [] 2 lines more.0 out out' history history' a.answered (subst (λ ls. AnswersAll campaigns [] 2 ls out' history') more.1 b.answered)
-
--- what comes behind the answers
-with_rest : (out answers whole rest more : List ℕ) → whole ≡ answers ++ more → answers ≡ out ++ rest → whole ≡ out ++ (rest ++ more)
-with_rest out answers whole rest more e f = e ∙ ap (λ a. a ++ more) f ∙ append_assoc out rest more
-
-output_front : (campaigns : List Campaign) (part back out whole : List ℕ) → IsScriptFront campaigns part out → IsScriptOutput campaigns (part ++ back) whole → (rest : List ℕ) × (whole ≡ out ++ rest)
-output_front campaigns part back out whole (lines, last, history, a) (others, other, answers, history', b, e) =
-    let front = runs_front campaigns part back lines others last other out answers history history' a b in
-    let close = cut_line (2 + length others) other ++ closing_table campaigns history' in
-    (front.0 ++ close, with_rest out answers whole front.0 close (e ∙ append_assoc answers (cut_line (2 + length others) other) (closing_table campaigns history')) front.1)
-
-past_front : (campaigns : List Campaign) (part back out whole : List ℕ) → IsScriptFront campaigns part out → IsScriptPastLimit campaigns (part ++ back) whole → (rest : List ℕ) × (whole ≡ out ++ rest)
-past_front campaigns part back out whole (lines, last, history, a) (others, other, answers, history', b, e) =
-    let front = runs_front campaigns part back lines others last other out answers history history' a b in
-    (front.0 ++ toolong_line (2 + length others), with_rest out answers whole front.0 (toolong_line (2 + length others)) e front.1)
-
-output_same : (campaigns : List Campaign) (script out whole : List ℕ) → IsScriptOutput campaigns script out → IsScriptOutput campaigns script whole → out ≡ whole
-output_same campaigns script out whole (lines, last, answers, history, a, e) (others, other, answers', history', b, e') =
-    let same = runs_same campaigns script lines others last other answers answers' history history' a b in
-    e ∙ ap (λ (x : List ℕ). x ++ cut_line (2 + length lines) last ++ closing_table campaigns history) same.2
-    ∙ ap (λ (ls : List (List ℕ)). answers' ++ cut_line (2 + length ls) last ++ closing_table campaigns history) same.0
-    ∙ ap (λ (l : List ℕ). answers' ++ cut_line (2 + length others) l ++ closing_table campaigns history) same.1
-    ∙ ap (λ (h : List Entry). answers' ++ cut_line (2 + length others) other ++ closing_table campaigns h) same.3 ∙ sym e'
-
-past_same : (campaigns : List Campaign) (script out whole : List ℕ) → IsScriptPastLimit campaigns script out → IsScriptPastLimit campaigns script whole → out ≡ whole
-past_same campaigns script out whole (lines, last, answers, history, a, e) (others, other, answers', history', b, e') =
-    let same = runs_same campaigns script lines others last other answers answers' history history' a b in
-    e ∙ ap (λ (x : List ℕ). x ++ toolong_line (2 + length lines)) same.2 ∙ ap (λ (ls : List (List ℕ)). answers' ++ toolong_line (2 + length ls)) same.0 ∙ sym e'
+-- a front of a script is written for as the script begins
+pub writes_front : (campaigns : List Campaign) (start : List Entry) (behind : ℕ → List ℕ → List Entry → List ℕ) (part back out out' : List ℕ) → WritesRun campaigns start nothing part out → WritesRun campaigns start behind (part ++ back) out' → (rest : List ℕ) × (out' ≡ out ++ rest)
+writes_front campaigns start behind part back out out' a b =
+    let both = sym (append_assoc (flat_map ended a.lines) a.last back) ∙ ap (λ p. p ++ back) (sym a.runs.cut.bytes) ∙ b.runs.cut.bytes in
+    let more = cut_front a.lines b.lines (a.last ++ back) b.last a.runs.cut.whole b.runs.cut.whole b.runs.cut.piece both in
+    let front = answers_front campaigns (terms_by campaigns) start 2 a.lines more.0 a.turns b.turns a.answers b.answers a.runs.answered (subst (λ ls. Answers (Means campaigns) (writing campaigns) (terms_by campaigns) 2 start ls b.turns b.answers) more.1 b.runs.answered) a.runs.done b.runs.done in
+    let tail = behind (2 + length b.lines) b.last b.history in (
+      front.0 ++ tail,
+      b.written ∙ ap (λ x. x ++ tail) front.1 ∙ append_assoc a.answers front.0 tail ∙ ap (λ x. x ++ (front.0 ++ tail)) (sym (a.written ∙ append-nil a.answers)),
+    )
 
 -- rosters
 -- the first line of a front is the first line of the whole
@@ -193,47 +173,86 @@ roster_same input r s script script' a b =
     let both = roster_front input [] r s script script' a (subst (λ i. HasRosterLine i s script') (sym (append-nil input)) b) in
     (both.0, both.1 ∙ append-nil script)
 
--- a front with a roster is of an input with one
-roster_more : (front back : List ℕ) (r : RosterForm) (script : List ℕ) → HasRosterLine front r script → HasRoster (front ++ back)
-roster_more front back r script a = (
-  r,
-  script ++ back,
-  record {
-    first = a.first;
-    begins = record { bytes = ap (λ f. f ++ back) a.begins.bytes ∙ append_assoc a.first (10 ∷ script) back; no_newline = a.begins.no_newline };
-    roster = a.roster;
-  },
-)
+-- an input that begins with a roster isn't refused
+never_refused : (input first rest out : List ℕ) (r : RosterForm) (script : List ℕ) → HasRosterLine input r script → input ≡ first ++ rest → RefusesRoster first rest out → ⊥
+never_refused input first rest out r script a is refusal = by refusal.is_first.1
+  where
+    by : (first ≡ ended refusal.line) ⊎ ((first ≡ refusal.line) × ((rest ≡ []) ⊎ ((length refusal.line ≡ INPUT_LIMIT) × (rest ≢ [])))) → ⊥
+    by (inl whole) =
+        let both : a.first ++ 10 ∷ script ≡ refusal.line ++ 10 ∷ rest = sym a.begins.bytes ∙ is ∙ ap (λ f. f ++ rest) whole ∙ append_assoc refusal.line (10 ∷ []) rest in
+        refusal.no_roster r whole (subst (λ l. IsRosterLine l r) (first_same a.first refusal.line script rest a.begins.no_newline refusal.is_first.0 both) a.roster)
+    by (inr (open_line, inl none)) =
+        let all : refusal.line ≡ a.first ++ 10 ∷ script = sym (is ∙ ap (λ f. f ++ rest) open_line ∙ ap (λ b. refusal.line ++ b) none ∙ append-nil refusal.line) ∙ a.begins.bytes in
+        no_first refusal.line a.first script refusal.is_first.0 all
+    by (inr (open_line, inr (long, some))) =
+        let both : a.first ++ 10 ∷ script ≡ refusal.line ++ rest = sym a.begins.bytes ∙ is ∙ ap (λ f. f ++ rest) open_line in
+        let shorter = first_longer refusal.line a.first script rest refusal.is_first.0 both in
+        absurd (omega (arith, shorter, long, a.roster.short))
 
 -- inputs
+-- what is written for an input with a roster, of which a front was read before
+behind_front : (behind : List Campaign → ℕ → List ℕ → List Entry → List ℕ) (front back due whole : List ℕ) → BehindRoster (λ campaigns. WritesRun campaigns [] nothing) front due → BehindRoster (λ campaigns. WritesRun campaigns [] (behind campaigns)) (front ++ back) whole → (rest : List ℕ) × (whole ≡ due ++ rest)
+behind_front behind front back due whole a b =
+    let same = roster_front front back a.roster b.roster a.script b.script a.begins b.begins in
+    writes_front (campaigns_of a.roster) [] (behind (campaigns_of a.roster)) a.script back due whole a.writes
+    (subst (λ c. WritesRun c [] (behind c) (a.script ++ back) whole) (sym same.0) (subst (λ t. WritesRun (campaigns_of b.roster) [] (behind (campaigns_of b.roster)) t whole) same.1 b.writes))
+
+behind_same : (behind : List Campaign → ℕ → List ℕ → List Entry → List ℕ) (input out whole : List ℕ) → BehindRoster (λ campaigns. WritesRun campaigns [] (behind campaigns)) input out → BehindRoster (λ campaigns. WritesRun campaigns [] (behind campaigns)) input whole → out ≡ whole
+behind_same behind input out whole a b =
+    let same = roster_same input a.roster b.roster a.script b.script a.begins b.begins in
+    writes_same (campaigns_of a.roster) [] (behind (campaigns_of a.roster)) a.script out whole a.writes
+    (subst (λ c. WritesRun c [] (behind c) a.script whole) (sym same.0) (subst (λ t. WritesRun (campaigns_of b.roster) [] (behind (campaigns_of b.roster)) t whole) same.1 b.writes))
+
+-- a front with a roster is of an input with one
+roster_more : (front back : List ℕ) (r : RosterForm) (script : List ℕ) → HasRosterLine front r script → HasRosterLine (front ++ back) r (script ++ back)
+roster_more front back r script a = record {
+  first = a.first;
+  begins = record { bytes = ap (λ f. f ++ back) a.begins.bytes ∙ append_assoc a.first (10 ∷ script) back; no_newline = a.begins.no_newline };
+  roster = a.roster;
+}
+
 -- an input has one output
-whole_same : (input out whole : List ℕ) → IsWhole input out → IsWhole input whole → out ≡ whole
-whole_same input out whole (inl (within, (r, script, a, is))) (inl (within', (s, script', b, is'))) =
-    let same = roster_same input r s script script' a b in
-    output_same (campaigns_of r) script out whole is (subst (λ c. IsScriptOutput c script whole) (sym same.0) (subst (λ t. IsScriptOutput (campaigns_of s) t whole) same.1 is'))
-whole_same input out whole (inl (within, (r, script, a, is))) (inr (inl (none, is'))) = absurd (none (r, script, a))
-whole_same input out whole (inl (within, output)) (inr (inr (front, more, s, script', at, long, some, b, is'))) =
-    absurd (omega (arith, within, long, some, ap length at, length-append front more))
-whole_same input out whole (inr (inl (none, is))) (inl (within', (s, script', b, is'))) = absurd (none (s, script', b))
-whole_same input out whole (inr (inl (none, is))) (inr (inl (none', is'))) = is ∙ sym is'
-whole_same input out whole (inr (inl (none, is))) (inr (inr (front, more, s, script', at, long, some, b, is'))) = absurd (none (subst HasRoster (sym at) (roster_more front more s script' b)))
-whole_same input out whole (inr (inr (front, more, s, script, at, long, some, b, is))) (inl (within', output)) =
-    absurd (omega (arith, within', long, some, ap length at, length-append front more))
-whole_same input out whole (inr (inr (front, more, s, script, at, long, some, b, is))) (inr (inl (none', is'))) = absurd (none' (subst HasRoster (sym at) (roster_more front more s script b)))
-whole_same input out whole (inr (inr (front, more, r, script, at, long, some, a, is))) (inr (inr (front', more', s, script', at', long', some', b, is'))) =
-    let one = front_same front more front' more' (sym at ∙ at') (long ∙ sym long') in
-    let same = roster_same front r s script script' a (subst (λ f. HasRosterLine f s script') (sym one) b) in
-    past_same (campaigns_of r) script out whole is (subst (λ c. IsScriptPastLimit c script whole) (sym same.0) (subst (λ t. IsScriptPastLimit (campaigns_of s) t whole) same.1 is'))
+of_same : (read rest other left out whole : List ℕ) → read ++ rest ≡ other ++ left → IsWholeOf INPUT_LIMIT day read rest out → IsWholeOf INPUT_LIMIT day other left whole → out ≡ whole
+of_same read rest other left out whole both (inl a) (inl b) = a.written ∙ sym b.written
+of_same read rest other left out whole both (inl a) (inr (inl (none, short, b))) =
+    absurd (never_refused other read rest out b.roster b.script b.begins (sym (append-nil other) ∙ ap (λ l. other ++ l) (sym none) ∙ sym both) a)
+of_same read rest other left out whole both (inl a) (inr (inr (part, more, is, long, b))) =
+    absurd (never_refused (part ++ (more ∷ [] ++ left)) read rest out b.roster (b.script ++ (more ∷ [] ++ left)) (roster_more part (more ∷ [] ++ left) b.roster b.script b.begins) (sym (append_assoc part (more ∷ []) left) ∙ ap (λ o. o ++ left) (sym is) ∙ sym both) a)
+of_same read rest other left out whole both (inr (inl (none, short, a))) (inl b) =
+    absurd (never_refused read other left whole a.roster a.script a.begins (sym (append-nil read) ∙ ap (λ l. read ++ l) (sym none) ∙ both) b)
+of_same read rest other left out whole both (inr (inl (none, short, a))) (inr (inl (none', short', b))) =
+    let same : read ≡ other = sym (append-nil read) ∙ ap (λ l. read ++ l) (sym none) ∙ both ∙ ap (λ l. other ++ l) none' ∙ append-nil other in
+    behind_same closing read out whole a (subst (λ i. BehindRoster (λ campaigns. WritesRun campaigns [] (closing campaigns)) i whole) (sym same) b)
+of_same read rest other left out whole both (inr (inl (none, short, a))) (inr (inr (part, more, is, long, b))) =
+    absurd (omega (arith, short, long, ap length none, ap length is, ap length both, length-append read rest, length-append other left, length-append part (more ∷ [])))
+of_same read rest other left out whole both (inr (inr (part, more, is, long, a))) (inl b) =
+    absurd (never_refused (part ++ (more ∷ [] ++ rest)) other left whole a.roster (a.script ++ (more ∷ [] ++ rest)) (roster_more part (more ∷ [] ++ rest) a.roster a.script a.begins) (sym (append_assoc part (more ∷ []) rest) ∙ ap (λ o. o ++ rest) (sym is) ∙ both) b)
+of_same read rest other left out whole both (inr (inr (part, more, is, long, a))) (inr (inl (none, short, b))) =
+    absurd (omega (arith, short, long, ap length none, ap length is, ap length both, length-append read rest, length-append other left, length-append part (more ∷ [])))
+of_same read rest other left out whole both (inr (inr (part, more, is, long, a))) (inr (inr (part', more', is', long', b))) =
+    let all : part ++ (more ∷ [] ++ rest) ≡ part' ++ (more' ∷ [] ++ left) = sym (append_assoc part (more ∷ []) rest) ∙ ap (λ o. o ++ rest) (sym is) ∙ both ∙ ap (λ o. o ++ left) is' ∙ append_assoc part' (more' ∷ []) left in
+    let one = front_same part (more ∷ [] ++ rest) part' (more' ∷ [] ++ left) all (long ∙ sym long') in
+    behind_same toolong_of part out whole a (subst (λ i. BehindRoster (λ campaigns. WritesRun campaigns [] toolong) i whole) (sym one) b)
+  where
+    toolong_of : List Campaign → ℕ → List ℕ → List Entry → List ℕ
+    toolong_of campaigns = toolong
+
+pub whole_same : (input out whole : List ℕ) → IsWhole INPUT_LIMIT day input out → IsWhole INPUT_LIMIT day input whole → out ≡ whole
+whole_same input out whole (read, rest, at, a) (other, left, at', b) = of_same read rest other left out whole (sym at ∙ at') a b
 
 -- what is to be written at any point is a front of the output
-pub due_front : (input due whole : List ℕ) → IsDue input due → IsWhole input whole → (rest : List ℕ) × (whole ≡ due ++ rest)
-due_front input due whole (inr is) is' = ([], sym (whole_same input due whole is is') ∙ sym (append-nil due))
-due_front input due whole (inl (front, back, at, small, inl (none, is))) is' = (whole, ap (λ d. d ++ whole) (sym is))
-due_front input due whole (inl (front, back, at, small, inr (r, script, a, is))) (inl (within, (s, script', b, is'))) =
-    let same = roster_front front back r s script script' a (subst (λ i. HasRosterLine i s script') at b) in
-    output_front (campaigns_of r) script back due whole is (subst (λ c. IsScriptOutput c (script ++ back) whole) (sym same.0) (subst (λ t. IsScriptOutput (campaigns_of s) t whole) same.1 is'))
-due_front input due whole (inl (front, back, at, small, inr (r, script, a, is))) (inr (inl (none, is'))) = absurd (none (subst HasRoster (sym at) (roster_more front back r script a)))
-due_front input due whole (inl (front, back, at, small, inr (r, script, a, is))) (inr (inr (front', more, s, script', at', long, some, b, is'))) =
-    let longer = front_of front back front' more (sym at ∙ at') (subst (λ n. length front ≤ n) (sym long) small) in
-    let same = roster_front front longer.0 r s script script' a (subst (λ i. HasRosterLine i s script') longer.1 b) in
-    past_front (campaigns_of r) script longer.0 due whole is (subst (λ c. IsScriptPastLimit c (script ++ longer.0) whole) (sym same.0) (subst (λ t. IsScriptPastLimit (campaigns_of s) t whole) same.1 is'))
+front_whole : (read rest other left due whole : List ℕ) → read ++ rest ≡ other ++ left → length read ≤ INPUT_LIMIT → IsFront read due → IsWholeOf INPUT_LIMIT day other left whole → (back : List ℕ) × (whole ≡ due ++ back)
+front_whole read rest other left due whole both small (inl (none, is)) b = (whole, ap (λ d. d ++ whole) (sym is))
+front_whole read rest other left due whole both small (inr a) (inl b) =
+    absurd (never_refused (read ++ rest) other left whole a.roster (a.script ++ rest) (roster_more read rest a.roster a.script a.begins) both b)
+front_whole read rest other left due whole both small (inr a) (inr (inl (none, short, b))) =
+    let same : other ≡ read ++ rest = sym (append-nil other) ∙ ap (λ l. other ++ l) (sym none) ∙ sym both in
+    behind_front closing read rest due whole a (subst (λ i. BehindRoster (λ campaigns. WritesRun campaigns [] (closing campaigns)) i whole) same b)
+front_whole read rest other left due whole both small (inr a) (inr (inr (part, more, is, long, b))) =
+    let all : read ++ rest ≡ part ++ (more ∷ [] ++ left) = both ∙ ap (λ o. o ++ left) is ∙ append_assoc part (more ∷ []) left in
+    let longer = front_of read rest part (more ∷ [] ++ left) all (subst (λ n. length read ≤ n) (sym long) small) in
+    behind_front (λ campaigns. toolong) read longer.0 due whole a (subst (λ i. BehindRoster (λ campaigns. WritesRun campaigns [] toolong) i whole) longer.1 b)
+
+pub due_front : (read rest due whole : List ℕ) → IsDue INPUT_LIMIT day read rest due → IsWhole INPUT_LIMIT day (read ++ rest) whole → (back : List ℕ) × (whole ≡ due ++ back)
+due_front read rest due whole (inl (small, front)) (other, left, at, b) = front_whole read rest other left due whole at small front b
+due_front read rest due whole (inr a) (other, left, at, b) = ([], sym (of_same read rest other left due whole at a b) ∙ sym (append-nil due))

@@ -1,326 +1,250 @@
 -- A run over the lines of a script: how it goes on by one line, and how it ends.
-use Rattle.std.proofs.Common.{◌≡◌, ◌≢◌, inl, inr, ℕ, suc, ◌+◌, ◌^◌, ◌≤◌, List, [], ◌∷◌, ◌++◌, map, length, All, Option, Some, None, refl, sym, ap, ◌∙◌, append_assoc, append-nil, length-append, add-zero, arith, subst}
+use Rattle.std.proofs.Common.{◌≡◌, ◌≢◌, inl, inr, ℕ, suc, ◌+◌, ◌≤◌, List, [], ◌∷◌, ◌++◌, length, Option, Result, Ok, Err, refl, sym, ap, ◌∙◌, append_assoc, append-nil, length-append, add-zero, arith, subst}
 use Rattle.std.specs.List.{flat_map}
-use Rattle.std.proofs.lemmas.List.{length-map}
-use Rattle.std.proofs.lemmas.List.Elements.{All-nil, All-cons, All-head, All-tail, All-push, All-append}
+use Rattle.std.specs.Io.KnownBytes.{append_known}
+use Rattle.std.proofs.lemmas.List.Elements.{All-nil, All-push, All-append}
 use Rattle.std.proofs.lemmas.Grind.{flat_map-append}
-use Rattle.adx_io.specs.Streams.{Tape}
-use Rattle.narrow_day.specs.declared.entry.Entry.{Entry}
-use Rattle.narrow_day.specs.DayState.{AreTerms}
-use Rattle.narrow_day.specs.Runs.{Turn, IsAskedWell, run as run_over}
-use Rattle.narrow_day.specs.Standings.{IsBudget}
+use Rattle.adx_io.specs.Lines.{HasNoNewline, Keeps, tape_behind, with_pending}
+use Rattle.adx_io.specs.Streams.{Tape, WhereTold}
+use Rattle.adx_io.specs.Talk.{TalkState, Reads, ReadsNext, Puts, PutsAll, PutsNext, ended}
+use Rattle.adx_io.specs.declared.line_buffer.TheConstants.{CHUNK}
+use Rattle.adx_io.specs.declared.stop.Stop.{Stop}
+use Rattle.adx_io.specs.declared.talk.Next.{Next}
+use Rattle.adx_io.proofs.Moved.{took_none}
+use Rattle.adx_io.proofs.Pending.{told_then}
+use Rattle.day_rules.specs.declared.entry.Entry.{Entry}
+use Rattle.day_rules.specs.Legal.{IsLegal}
+use Rattle.day_rules.specs.Runs.{Turn, IsCall, done, run}
 use Rattle.adx.specs.declared.ending.Ending.{Ending}
-use Rattle.adx.specs.declared.reading.Next.{Next}
+use Rattle.adx.specs.declared.limits.TheConstants.{LINE_LIMIT}
 use Rattle.adx.specs.declared.roster.Campaign.{Campaign}
-use Rattle.adx.specs.Lines.{HasNoNewline, IsCut, ended, input_limit, InputState, Keeps, unread}
-use Rattle.adx.specs.Output.{closing_table, toolong_line}
-use Rattle.adx.specs.Reading.{ToldNext, PutsOn, Puts, TookFront, with_more}
-use Rattle.adx.specs.Reads.{AreSized}
-use Rattle.adx.specs.Running.{Running, RunningTold, IsScriptDue, ScriptEnds, ScriptEndsTold, EndsAs, IsAborted}
-use Rattle.adx.specs.Script.{terms_of, cut_line, Answers, AnswersAll, AnswersTo, RunsOver, IsScriptOutput, IsScriptPastLimit}
-use Rattle.adx.proofs.Calls.{one_turn, asks_more, run_append, run_books}
-use Rattle.adx.proofs.Putting.{puts_nothing, took_nothing, puts_all, puts_then, puts_more, took_behind, put_behind, front_behind}
-
--- the budgets of a roster
-all_budgets : (campaigns : List Campaign) → All (λ (c : Campaign). (1 ≤ c.budget.0) × (c.budget.0 ≤ 10 ^ 15)) campaigns → All IsBudget (map (λ (c : Campaign). c.budget) campaigns)
-all_budgets [] h = All-nil IsBudget
-all_budgets (c ∷ cs) h =
-    All-cons IsBudget c.budget (map (λ (c : Campaign). c.budget) cs)
-    (All-head (λ (c : Campaign). (1 ≤ c.budget.0) × (c.budget.0 ≤ 10 ^ 15)) c cs h)
-    (all_budgets cs (All-tail (λ (c : Campaign). (1 ≤ c.budget.0) × (c.budget.0 ≤ 10 ^ 15)) c cs h))
-
--- a day can be opened for a roster
-pub roster_terms : (campaigns : List Campaign) → AreSized campaigns → AreTerms (terms_of campaigns)
-roster_terms campaigns sized = record {
-  some_budget = subst (λ n. 1 ≤ n) (sym (length-map campaigns (λ (c : Campaign). c.budget))) sized.some_campaign;
-  few_budgets = subst (λ n. n ≤ 1024) (sym (length-map campaigns (λ (c : Campaign). c.budget))) sized.few;
-  budgets = all_budgets campaigns sized.budgets;
-  auctions = omega arith;
-  bids = omega arith;
-}
+use Rattle.adx.specs.Endings.{EndsWith, TookDue, TookFront}
+use Rattle.adx.specs.Forms.{Means}
+use Rattle.adx.specs.Meanings.{Answers, IsLine}
+use Rattle.adx.specs.Output.{writing, toolong_line}
+use Rattle.adx.specs.Running.{RunsOn, Running, AnswersKept, PutsFront, PutsEnd}
+use Rattle.adx.specs.Script.{script_of, terms_by, closing, nothing, toolong, WritesRun}
+use Rattle.adx.proofs.Books.{are_turns, run_append, run_books}
+use Rattle.adx.proofs.Putting.{puts_more, puts_on, puts_out, front_put, some_behind, end_behind, ends_put}
+use Rattle.adx.proofs.Told.{told_start, told_behind}
 
 -- one more line was answered
-pub answers_more : (campaigns : List Campaign) (start : List Entry) (n : ℕ) (lines : List (List ℕ)) (answers : List ℕ) (mid : List Entry) (m : ℕ) (line more : List ℕ) (next : List Entry)
-    → AnswersAll campaigns start n lines answers mid → m ≡ n + length lines → Answers campaigns mid m line more next
-    → AnswersAll campaigns start n (lines ++ line ∷ []) (answers ++ more) next
-answers_more campaigns start n [] answers mid m line more next so_far numbered one = (
+pub answers_more : (campaigns : List Campaign) (start : List Entry) (n m : ℕ) (lines : List (List ℕ)) (turns : List Turn) (answers : List ℕ) (mid : List Entry) (line : List ℕ) (more : List Turn) (out : List ℕ)
+    → Answers (Means campaigns) (writing campaigns) (terms_by campaigns) n start lines turns answers → mid ≡ run (terms_by campaigns) start turns → m ≡ n + length lines
+    → IsLine (Means campaigns) (writing campaigns) (terms_by campaigns) m mid line more out
+    → Answers (Means campaigns) (writing campaigns) (terms_by campaigns) n start (lines ++ line ∷ []) (turns ++ more) (answers ++ out)
+answers_more campaigns start n m [] turns answers mid line more out so_far ran numbered one = (
   more,
-  next,
   [],
-  subst (λ k. Answers campaigns start k line more next) (numbered ∙ add-zero n) (subst (λ h. Answers campaigns h m line more next) so_far.1 one),
+  out,
+  [],
+  subst (λ k. IsLine (Means campaigns) (writing campaigns) (terms_by campaigns) k start line more out) (numbered ∙ add-zero n)
+      (subst (λ h. IsLine (Means campaigns) (writing campaigns) (terms_by campaigns) m h line more out) (ran ∙ ap (run (terms_by campaigns) start) so_far.0) one),
   (refl, refl),
-  ap (λ a. a ++ more) so_far.0 ∙ sym (append-nil more),
+  ap (λ t. t ++ more) so_far.0 ∙ sym (append-nil more),
+  ap (λ t. t ++ out) so_far.1 ∙ sym (append-nil out),
 )
-answers_more campaigns start n (l ∷ lines) answers mid m line more next so_far numbered one = (
-  so_far.0,
-  so_far.1,
-  so_far.2 ++ more,
-  so_far.3,
-  answers_more campaigns so_far.1 (suc n) lines so_far.2 mid m line more next so_far.4 (omega (arith, numbered)) one,
-  ap (λ a. a ++ more) so_far.5 ∙ append_assoc so_far.0 so_far.2 more,
-)
-
--- what was put behind the answers
-took_on : (held mid now : Option (List ℕ)) (out answers mid_out more : List ℕ) → Puts held mid (out ++ answers) mid_out → now ≡ with_more mid (mid_out ++ more) → now ≡ with_more held (out ++ (answers ++ more))
-took_on held mid now out answers mid_out more puts took = took_behind held mid now (out ++ answers) mid_out more puts took ∙ ap (with_more held) (append_assoc out answers more)
-
-front_on : (held mid now : Option (List ℕ)) (out answers mid_out more : List ℕ) → Puts held mid (out ++ answers) mid_out → TookFront mid now (mid_out ++ more) → TookFront held now (out ++ (answers ++ more))
-front_on held mid now out answers mid_out more puts took = subst (TookFront held now) (append_assoc out answers more) (front_behind held mid now (out ++ answers) mid_out more puts took)
+answers_more campaigns start n m (l ∷ lines) turns answers mid line more out (first, rest, out_first, out_rest, head, tail, is, answer) ran numbered one =
+    let here = run (terms_by campaigns) start first in (
+      first,
+      rest ++ more,
+      out_first,
+      out_rest ++ out,
+      head,
+      answers_more campaigns here (suc n) m lines rest out_rest mid line more out tail (ran ∙ ap (run (terms_by campaigns) start) is ∙ run_append (terms_by campaigns) start first rest) (omega (arith, numbered)) one,
+      ap (λ t. t ++ more) is ∙ append_assoc first rest more,
+      ap (λ t. t ++ out) answer ∙ append_assoc out_first out_rest out,
+    )
 
 flat_one : (lines : List (List ℕ)) (line : List ℕ) → flat_map ended (lines ++ line ∷ []) ≡ flat_map ended lines ++ ended line
 flat_one lines line = flat_map-append ended lines (line ∷ []) ∙ ap (λ l. flat_map ended lines ++ l) (append-nil (ended line))
 
 -- no line was read yet
-pub run_starts : (campaigns : List Campaign) (before : InputState) (old : Option Tape) (held : Option (List ℕ)) (out : List ℕ) (history : List Entry) → history ≡ [] → before.taken ≤ input_limit → RunningTold campaigns before before old old held out held out history 2
-run_starts campaigns before None held out history begins within = refl
-run_starts campaigns before (Some old) held out history begins within = record {
+pub run_starts : (campaigns : List Campaign) (start : List Entry) (before : TalkState) (history : List Entry) → history ≡ start → before.out ≡ [] → Running campaigns start before before history 2
+run_starts campaigns start before history begins unwritten = told_start before.tape (RunsOn campaigns start before before history 2) (λ t. record {
   lines = [];
-  answers = [];
-  bytes = refl;
-  whole = All-nil HasNoNewline;
-  answered = (refl, begins);
-  numbered = refl;
   turns = [];
-  calls = refl;
+  answers = [];
+  reads = record { next = refl; counted = omega arith };
+  whole = All-nil HasNoNewline;
+  answered = (refl, refl);
+  done = All-nil (λ (t : Turn). t.outcome ≡ done);
   ran = begins;
-  asked = All-nil (λ (t : Turn). IsAskedWell (length (terms_of campaigns).budgets) t.call);
-  within = within;
-  written = subst (λ b. Puts held held b out) (sym (append-nil out)) (puts_nothing held out);
-  count = refl;
-}
+  numbered = refl;
+  written = record { front = []; took = took_none before.held; split = sym unwritten };
+})
+
+-- what an answer leaves as it was
+pub answer_leaves : (last after : TalkState) (out : List ℕ) → last ≡ record after { out = out } → (last.allowed ≡ after.allowed) × (last.read_faults ≡ after.read_faults) × (last.write_faults ≡ after.write_faults) × (last.held ≡ after.held)
+answer_leaves last after out same =
+    (ap (λ (s : TalkState). s.allowed) same, ap (λ (s : TalkState). s.read_faults) same, ap (λ (s : TalkState). s.write_faults) same, ap (λ (s : TalkState). s.held) same)
 
 -- one more line was read and answered
-pub run_more : (campaigns : List Campaign) (before mid after : InputState) (old cur new : Option Tape) (held held_cur held_new : Option (List ℕ)) (out out_cur out_new out_last : List ℕ) (history next : List Entry) (number : ℕ)
-    → length campaigns ≤ 1024 → after.taken ≤ input_limit → RunningTold campaigns before mid old cur held out held_cur out_cur history number → ToldNext mid after cur new Next.Line → PutsOn Next.Line held_cur out_cur held_new out_new
-    → ((line : List ℕ) → Keeps after.overlong after.line line → AnswersTo campaigns history number line out_new out_last next)
-    → RunningTold campaigns before after old new held out held_new out_last next (number + 1)
-run_more campaigns before mid after None None new held held_cur held_new out out_cur out_new out_last history next number few within run told puts answers = told
-run_more campaigns before mid after None (Some cur) new held held_cur held_new out out_cur out_new out_last history next number few within run told puts answers = absurd (cc)
-run_more campaigns before mid after (Some old) None new held held_cur held_new out out_cur out_new out_last history next number few within run told puts answers = absurd run
-run_more campaigns before mid after (Some old) (Some cur) None held held_cur held_new out out_cur out_new out_last history next number few within run told puts answers = told
-run_more campaigns before mid after (Some old) (Some cur) (Some new) held held_cur held_new out out_cur out_new out_last history next number few within run told puts answers =
-    let line = told.0 in
-    let one = answers line told.1.keeps in
-    let turn = one_turn campaigns history number line one.0 next few one.2 in record {
-      lines = run.lines ++ line ∷ [];
-      answers = run.answers ++ one.0;
-      bytes = run.bytes ∙ ap (λ b. flat_map ended run.lines ++ b) told.1.reads.next
-          ∙ sym (append_assoc (flat_map ended run.lines) (ended line) (unread after new)) ∙ ap (λ b. b ++ unread after new) (sym (flat_one run.lines line));
-      whole = All-push HasNoNewline run.lines line run.whole told.1.no_newline;
-      answered = answers_more campaigns [] 2 run.lines run.answers history number line one.0 next run.answered run.numbered one.2;
-      numbered = omega (arith, run.numbered, length-append run.lines (line ∷ []));
-      turns = run.turns ++ turn.turns;
-      calls = asks_more campaigns run.lines run.turns line turn.turns run.calls turn.asks;
-      ran = turn.ran ∙ ap (λ h. run_over (terms_of campaigns) h turn.turns) run.ran ∙ sym (run_append (terms_of campaigns) [] run.turns turn.turns);
-      asked = All-append (λ (t : Turn). IsAskedWell (length (terms_of campaigns).budgets) t.call) run.turns turn.turns run.asked turn.asked;
-      written = subst (λ b. Puts held held_new b out_last) (append_assoc out run.answers one.0) (subst (λ b. Puts held held_new (out ++ run.answers ++ one.0) b) (sym one.1) (puts_more held held_new (out ++ run.answers) out_new one.0 (puts_then held held_cur held_new (out ++ run.answers) out_cur out_new run.written puts)));
-      within = within;
-      count = told.1.reads.count ∙ run.count;
-    }
+run_on : (campaigns : List Campaign) (start : List Entry) (before mid after : TalkState) (history next : List Entry) (number : ℕ) (out : List ℕ)
+    → Running campaigns start before mid history number → WhereTold mid.tape after.tape (ReadsNext LINE_LIMIT mid after (Ok Next.Line)) → Puts mid after → AnswersKept campaigns history number after out next
+    → Running campaigns start before (record after { out = out }) next (number + 1)
+run_on campaigns start before mid after history next number out running told puts kept =
+    told_then before.tape mid.tape after.tape (RunsOn campaigns start before mid history number) (ReadsNext LINE_LIMIT mid after (Ok Next.Line)) (RunsOn campaigns start before (record after { out = out }) next (number + 1)) running told (λ x y z r s.
+    let line = s.0 in
+    let one = kept line s.1.keeps in record {
+      lines = r.lines ++ line ∷ [];
+      turns = r.turns ++ one.turns;
+      answers = r.answers ++ one.out;
+      reads = record {
+        next = r.reads.next ∙ ap (λ b. flat_map ended r.lines ++ b) s.2.next ∙ sym (append_assoc (flat_map ended r.lines) (ended line) z.left) ∙ ap (λ b. b ++ z.left) (sym (flat_one r.lines line));
+        counted = omega (arith, r.reads.counted, s.2.counted, ap length (flat_one r.lines line), length-append (flat_map ended r.lines) (ended line));
+      };
+      whole = All-push HasNoNewline r.lines line r.whole s.1.no_newline;
+      answered = answers_more campaigns start 2 number r.lines r.turns r.answers history line one.turns one.out r.answered r.ran r.numbered one.answered;
+      done = All-append (λ (t : Turn). t.outcome ≡ done) r.turns one.turns r.done one.done;
+      ran = one.left ∙ ap (λ h. run (terms_by campaigns) h one.turns) r.ran ∙ sym (run_append (terms_by campaigns) start r.turns one.turns);
+      numbered = omega (arith, r.numbered, length-append r.lines (line ∷ []));
+      written = subst (PutsFront before.held after.held (r.answers ++ one.out)) (sym one.written) (puts_more before.held after.held r.answers after.out one.out (puts_on before.held r.answers mid after r.written puts));
+    })
 
--- a run that was aborted, by what was to be put
-aborted_at : (campaigns : List Campaign) (before : InputState) (old new : Tape) (held held_last : Option (List ℕ)) (out produced : List ℕ) (result : Ending)
-    → IsAborted result → TookFront held held_last (out ++ produced) → IsScriptDue campaigns before old produced → ScriptEnds campaigns before old new held out held_last result
-aborted_at campaigns before old new held held_last out produced result (inl is) took due =
-    subst (λ e. ScriptEnds campaigns before old new held out held_last e) (sym is) (produced, took, due)
-aborted_at campaigns before old new held held_last out produced result (inr is) took due =
-    subst (λ e. ScriptEnds campaigns before old new held out held_last e) (sym is) (produced, took, due)
+-- the state behind it
+pub run_more : (campaigns : List Campaign) (start : List Entry) (before mid after last : TalkState) (history next : List Entry) (number : ℕ) (out : List ℕ)
+    → Running campaigns start before mid history number → WhereTold mid.tape after.tape (ReadsNext LINE_LIMIT mid after (Ok Next.Line)) → Puts mid after → AnswersKept campaigns history number after out next → last ≡ record after { out = out }
+    → Running campaigns start before last next (number + 1)
+run_more campaigns start before mid after last history next number out running told puts kept same =
+    subst (λ s. Running campaigns start before s next (number + 1)) (sym same)
+    (run_on campaigns start before mid after history next number out running told puts kept)
 
--- the lines so far, as those of a script
-over : (campaigns : List Campaign) (before now : InputState) (old cur : Tape) (held : Option (List ℕ)) (out : List ℕ) (held_now : Option (List ℕ)) (out_now : List ℕ) (history : List Entry) (number : ℕ)
-    → (run : Running campaigns before now old cur held out held_now out_now history number) (script last : List ℕ) → IsCut script run.lines last → RunsOver campaigns script run.lines last run.answers history
-over campaigns before now old cur held out held_now out_now history number run script last cut = record {
-  cut = cut;
-  answered = run.answered;
-  turns = run.turns;
-  calls = run.calls;
-  books = run_books (terms_of campaigns) run.turns history run.asked run.ran;
+-- what was written for the lines so far and a last piece
+over : (campaigns : List Campaign) (start : List Entry) (before mid : TalkState) (history : List Entry) (number : ℕ) (x y : Tape) (behind : ℕ → List ℕ → List Entry → List ℕ) (r : RunsOn campaigns start before mid history number x y)
+    → IsLegal (terms_by campaigns) start → (last : List ℕ) → HasNoNewline last → WritesRun campaigns start behind (flat_map ended r.lines ++ last) (r.answers ++ behind number last history)
+over campaigns start before mid history number x y behind r legal last piece = record {
+  lines = r.lines;
+  last = last;
+  turns = r.turns;
+  answers = r.answers;
+  history = history;
+  runs = record {
+    cut = record { bytes = refl; whole = r.whole; piece = piece };
+    answered = r.answered;
+    done = r.done;
+    books = run_books (terms_by campaigns) start r.turns history legal (are_turns campaigns 2 start r.lines r.turns r.answers r.answered) r.ran;
+  };
+  written = ap (λ n. r.answers ++ behind n last history) r.numbered;
 }
 
--- the answers so far are those to the whole lines of a front
-answers_due : (campaigns : List Campaign) (before now : InputState) (old cur : Tape) (held : Option (List ℕ)) (out : List ℕ) (held_now : Option (List ℕ)) (out_now : List ℕ) (history : List Entry) (number : ℕ)
-    → (run : Running campaigns before now old cur held out held_now out_now history number) → IsScriptDue campaigns before old run.answers
-answers_due campaigns before now old cur held out held_now out_now history number run = inl (
-  flat_map ended run.lines,
-  unread now cur,
-  run.bytes,
-  omega (arith, run.within, run.count, ap length run.bytes, length-append before.pending old.left, length-append (flat_map ended run.lines) (unread now cur), length-append now.pending cur.left),
-  (
-    run.lines,
-    [],
-    history,
-    over campaigns before now old cur held out held_now out_now history number run (flat_map ended run.lines) []
-        (record { bytes = sym (append-nil (flat_map ended run.lines)); whole = run.whole; piece = All-nil (λ b. b ≢ 10) }),
-  ),
-)
+fronted : (campaigns : List Campaign) (start : List Entry) (before mid : TalkState) (history : List Entry) (number : ℕ) (x y : Tape) (r : RunsOn campaigns start before mid history number x y)
+    → IsLegal (terms_by campaigns) start → (last : List ℕ) → HasNoNewline last → WritesRun campaigns start nothing (flat_map ended r.lines ++ last) r.answers
+fronted campaigns start before mid history number x y r legal last piece =
+    subst (WritesRun campaigns start nothing (flat_map ended r.lines ++ last)) (append-nil r.answers) (over campaigns start before mid history number x y nothing r legal last piece)
 
--- a run that was aborted before more was written
-pub run_aborted : (campaigns : List Campaign) (before mid after : InputState) (old cur new : Option Tape) (held held_cur : Option (List ℕ)) (out out_cur : List ℕ) (history : List Entry) (number : ℕ) (next : Next) (held_last : Option (List ℕ)) (result : Ending)
-    → RunningTold campaigns before mid old cur held out held_cur out_cur history number → ToldNext mid after cur new next → TookFront held_cur held_last out_cur → IsAborted result
-    → ScriptEndsTold campaigns before old new held out held_last result
-run_aborted campaigns before mid after None None new held held_cur out out_cur history number next held_last result run told took aborted = told
-run_aborted campaigns before mid after None (Some cur) new held held_cur out out_cur history number next held_last result run told took aborted = absurd (cc)
-run_aborted campaigns before mid after (Some old) None new held held_cur out out_cur history number next held_last result run told took aborted = absurd run
-run_aborted campaigns before mid after (Some old) (Some cur) None held held_cur out out_cur history number next held_last result run told took aborted = told
-run_aborted campaigns before mid after (Some old) (Some cur) (Some new) held held_cur out out_cur history number next held_last result run told took aborted =
-    aborted_at campaigns before old new held held_last out run.answers result aborted
-    (took.0, puts_then held held_cur held_last (out ++ run.answers) out_cur took.0 run.written took.1)
-    (answers_due campaigns before mid old cur held out held_cur out_cur history number run)
-
--- a run for which there was no memory from the beginning
-pub run_unbegun : (campaigns : List Campaign) (before : InputState) (old : Option Tape) (held : Option (List ℕ)) (out : List ℕ) → before.taken ≤ input_limit → ScriptEndsTold campaigns before old old held out held Ending.OutOfMemory
-run_unbegun campaigns before None held out within = refl
-run_unbegun campaigns before (Some old) held out within = (
-  [],
-  took_nothing held (out ++ []),
-  inl (
-    [],
-    unread before old,
-    refl,
-    omega (arith, within),
-    (
-      [],
-      [],
-      [],
-      record {
-        cut = record { bytes = refl; whole = All-nil HasNoNewline; piece = All-nil (λ b. b ≢ 10) };
-        answered = (refl, refl);
-        turns = [];
-        calls = refl;
-        books = run_books (terms_of campaigns) [] [] (All-nil (λ (t : Turn). IsAskedWell (length (terms_of campaigns).budgets) t.call)) refl;
-      },
-    ),
-  ),
-)
-
--- nothing is left behind a list that is empty with it
 none_behind : (xs ys : List ℕ) → xs ++ ys ≡ [] → ys ≡ []
 none_behind [] ys e = e
 none_behind (x ∷ xs) ys e = absurd (cc)
 
 -- the script's end
-pub run_done : (campaigns : List Campaign) (before mid after : InputState) (old cur new : Option Tape) (held held_cur held_new held_last : Option (List ℕ)) (out out_cur out_new : List ℕ) (history : List Entry) (number : ℕ) (result : Ending)
-    → RunningTold campaigns before mid old cur held out held_cur out_cur history number → ToldNext mid after cur new Next.End → PutsOn Next.End held_cur out_cur held_new out_new → after.taken ≤ input_limit
-    → ((line : List ℕ) → Keeps after.overlong after.line line → EndsAs result Ending.Done held_new out_new (cut_line number line ++ closing_table campaigns history) held_last)
-    → ScriptEndsTold campaigns before old new held out held_last result
-run_done campaigns before mid after None None new held held_cur held_new held_last out out_cur out_new history number result run told puts within ends = told
-run_done campaigns before mid after None (Some cur) new held held_cur held_new held_last out out_cur out_new history number result run told puts within ends = absurd (cc)
-run_done campaigns before mid after (Some old) None new held held_cur held_new held_last out out_cur out_new history number result run told puts within ends = absurd run
-run_done campaigns before mid after (Some old) (Some cur) None held held_cur held_new held_last out out_cur out_new history number result run told puts within ends = told
-run_done campaigns before mid after (Some old) (Some cur) (Some new) held held_cur held_new held_last out out_cur out_new history number result run told puts within ends =
-    closed (ends told.0 told.1.keeps)
-  where
-    line : List ℕ
-    line = told.0
+pub run_done : (campaigns : List Campaign) (start : List Entry) (before mid after : TalkState) (history : List Entry) (number : ℕ) (pending : List ℕ) (tape : Option Tape) (held_now : Option (List ℕ)) (result : Result (Unit {0}) Ending)
+    → IsLegal (terms_by campaigns) start → Running campaigns start before mid history number → WhereTold mid.tape (tape_behind pending tape) (ReadsNext LINE_LIMIT mid after (Ok Next.End)) → PutsAll mid after
+    → ((line : List ℕ) → Keeps LINE_LIMIT after.overlong after.line line → PutsEnd after.held held_now (after.out ++ closing campaigns number line history) (Ok tt) result)
+    → WhereTold before.tape tape (λ old new. EndsWith before.allowed (script_of campaigns start) before.held held_now result old.left new.left)
+run_done campaigns start before mid after history number pending tape held_now result legal running told puts closed =
+    told_behind before.tape mid.tape pending tape (RunsOn campaigns start before mid history number) (ReadsNext LINE_LIMIT mid after (Ok Next.End)) (λ old new. EndsWith before.allowed (script_of campaigns start) before.held held_now result old.left new.left) running told (λ x y z r s.
+    let line = s.0 in
+    let all = flat_map ended r.lines ++ line in
+    let out = r.answers ++ closing campaigns number line history in
+    let is : x.left ≡ all = r.reads.next ∙ ap (λ b. flat_map ended r.lines ++ b) (s.2.next ∙ ap (λ b. line ++ b) s.3 ∙ append-nil line) in
+    let short : length x.left ≤ before.allowed = omega (arith, r.reads.counted, s.2.counted, ap length is, length-append (flat_map ended r.lines) line) in
+    let left : z.left ≡ [] = none_behind pending z.left s.3 in
+    let whole : WritesRun campaigns start (closing campaigns) x.left out = subst (λ b. WritesRun campaigns start (closing campaigns) b out) (sym is) (over campaigns start before mid history number x y (closing campaigns) r legal line s.1.no_newline) in
+    ends_put before.allowed (script_of campaigns start) before.held held_now (Ok tt) result x.left z.left out
+    (end_behind before.held after.held held_now out (after.out ++ closing campaigns number line history) (Ok tt) result
+    (puts_more before.held after.held r.answers after.out (closing campaigns number line history) (puts_out before.held r.answers mid after r.written puts)) (closed line s.1.keeps))
+    (λ took. (out, left, short, whole, took))
+    (λ took. (x.left, [], out, sym (append-nil x.left), ([], [], inl refl, refl, ([], omega arith, sym left)), inr (inr (inl (refl, short, whole))), took)))
 
-    nothing_left : new.left ≡ []
-    nothing_left = none_behind after.pending new.left told.2
+-- the script passes its limit
+pub run_past : (campaigns : List Campaign) (start : List Entry) (before mid after : TalkState) (history : List Entry) (number : ℕ) (pending : List ℕ) (tape : Option Tape) (held_now : Option (List ℕ)) (result : Result (Unit {0}) Ending)
+    → IsLegal (terms_by campaigns) start → Running campaigns start before mid history number → WhereTold mid.tape (tape_behind pending tape) (ReadsNext LINE_LIMIT mid after (Ok Next.PastLimit)) → pending ≡ [] → PutsAll mid after
+    → PutsEnd after.held held_now (after.out ++ toolong_line number) (Err Ending.Refused) result
+    → WhereTold before.tape tape (λ old new. EndsWith before.allowed (script_of campaigns start) before.held held_now result old.left new.left)
+run_past campaigns start before mid after history number pending tape held_now result legal running told looked puts refused =
+    told_behind before.tape mid.tape pending tape (RunsOn campaigns start before mid history number) (ReadsNext LINE_LIMIT mid after (Ok Next.PastLimit)) (λ old new. EndsWith before.allowed (script_of campaigns start) before.held held_now result old.left new.left) running told (λ x y z r s.
+    let line = s.0 in
+    let more = s.1 in
+    let part = flat_map ended r.lines ++ line in
+    let out = r.answers ++ toolong_line number in
+    let is : x.left ≡ part ++ more ∷ z.left = r.reads.next ∙ ap (λ b. flat_map ended r.lines ++ b) (s.3 ∙ ap (λ p. line ++ more ∷ (p ++ z.left)) looked) ∙ sym (append_assoc (flat_map ended r.lines) line (more ∷ z.left)) in
+    let long : length part ≡ before.allowed = omega (arith, r.reads.counted, s.4, length-append (flat_map ended r.lines) line) in
+    let past : WritesRun campaigns start toolong part out = over campaigns start before mid history number x y toolong r legal line s.2 in
+    ends_put before.allowed (script_of campaigns start) before.held held_now (Err Ending.Refused) result x.left z.left out
+    (end_behind before.held after.held held_now out (after.out ++ toolong_line number) (Err Ending.Refused) result
+    (puts_more before.held after.held r.answers after.out (toolong_line number) (puts_out before.held r.answers mid after r.written puts)) refused)
+    (λ took. inr (part, more, out, is, long, past, took))
+    (λ took. (part ++ more ∷ [], z.left, out, is ∙ sym (append_assoc part (more ∷ []) z.left), ([], z.left, inl refl, refl, ([], omega arith, refl)), inr (inr (inr (part, more, refl, long, past))), took)))
 
-    so_far : Puts held held_new (out ++ run.answers) out_new
-    so_far = puts_then held held_cur held_new (out ++ run.answers) out_cur out_new run.written (puts_all held_cur held_new out_cur out_new puts.0 puts.1)
-
-    produced : List ℕ
-    produced = run.answers ++ (cut_line number line ++ closing_table campaigns history)
-
-    is_within : before.taken + length old.left ≤ input_limit
-    is_within = omega (arith, within, run.count, told.1.reads.count, ap length nothing_left)
-
-    output : IsScriptOutput campaigns (unread before old) produced
-    output = (
-      run.lines,
-      line,
-      run.answers,
-      history,
-      over campaigns before mid old cur held out held_cur out_cur history number run (unread before old) line
-          (record {
-            bytes = run.bytes ∙ ap (λ b. flat_map ended run.lines ++ b) (told.1.reads.next ∙ ap (λ b. line ++ b) told.2 ∙ append-nil line);
-            whole = run.whole;
-            piece = told.1.no_newline;
-          }),
-      ap (λ n. run.answers ++ (cut_line n line ++ closing_table campaigns history)) run.numbered
-          ∙ sym (append_assoc run.answers (cut_line (2 + length run.lines) line) (closing_table campaigns history)),
+-- the run was given up before a line was whole
+stopped_due : (campaigns : List Campaign) (start : List Entry) (before mid after : TalkState) (history : List Entry) (number : ℕ) (pending : List ℕ) (x y z : Tape) (held_now : Option (List ℕ)) (r : RunsOn campaigns start before mid history number x y) (front : List ℕ)
+    → IsLegal (terms_by campaigns) start → HasNoNewline front → Reads mid after y (with_pending pending z) front → length pending ≤ CHUNK → TookFront before.held held_now r.answers
+    → TookDue before.allowed (script_of campaigns start) x.left z.left before.held held_now
+stopped_due campaigns start before mid after history number pending x y z held_now r front legal piece reads small took =
+    let read = flat_map ended r.lines ++ front in (
+      read,
+      pending ++ z.left,
+      r.answers,
+      r.reads.next ∙ ap (λ b. flat_map ended r.lines ++ b) reads.next ∙ sym (append_assoc (flat_map ended r.lines) front (pending ++ z.left)),
+      ([], pending ++ z.left, inl refl, refl, (pending, small, refl)),
+      inl (omega (arith, r.reads.counted, reads.counted, length-append (flat_map ended r.lines) front), fronted campaigns start before mid history number x y r legal front piece),
+      took,
     )
 
-    closed : EndsAs result Ending.Done held_new out_new (cut_line number line ++ closing_table campaigns history) held_last → ScriptEndsTold campaigns before (Some old) (Some new) held out held_last result
-    closed (inl done) = subst (λ e. ScriptEndsTold campaigns before (Some old) (Some new) held out held_last e) (sym done.0) (
-      produced,
-      took_on held held_new held_last out run.answers out_new (cut_line number line ++ closing_table campaigns history) so_far done.1,
-      nothing_left,
-      is_within,
-      output,
-    )
-    closed (inr aborted) = aborted_at campaigns before old new held held_last out produced result aborted.0
-        (front_on held held_new held_last out run.answers out_new (cut_line number line ++ closing_table campaigns history) so_far aborted.1) (inr (inl (is_within, output)))
+-- the run stopped at a fault, or for want of memory, while a line was read
+pub run_stopped : (campaigns : List Campaign) (start : List Entry) (before mid after : TalkState) (history : List Entry) (number : ℕ) (pending : List ℕ) (tape : Option Tape) (stop : Stop)
+    → IsLegal (terms_by campaigns) start → Running campaigns start before mid history number → WhereTold mid.tape (tape_behind pending tape) (ReadsNext LINE_LIMIT mid after (Err stop)) → length pending ≤ CHUNK → (stop ≢ Stop.OutOfMemory → pending ≡ []) → PutsNext mid after (Err stop)
+    → WhereTold before.tape tape (λ old new. EndsWith before.allowed (script_of campaigns start) before.held after.held (Err (Ending.Stopped stop)) old.left new.left)
+run_stopped campaigns start before mid after history number pending tape Stop.ReadFault legal running told small looked puts =
+    told_behind before.tape mid.tape pending tape (RunsOn campaigns start before mid history number) (ReadsNext LINE_LIMIT mid after (Err Stop.ReadFault)) (λ old new. EndsWith before.allowed (script_of campaigns start) before.held after.held (Err (Ending.Stopped Stop.ReadFault)) old.left new.left) running told (λ x y z r s.
+    let front = s.0 in
+    let all = puts_out before.held r.answers mid after r.written puts in (
+      flat_map ended r.lines ++ front,
+      r.answers,
+      r.reads.next ∙ ap (λ b. flat_map ended r.lines ++ b) (s.2.next ∙ ap (λ p. front ++ (p ++ z.left)) (looked (λ e. cc e))) ∙ sym (append_assoc (flat_map ended r.lines) front z.left),
+      omega (arith, r.reads.counted, s.2.counted, length-append (flat_map ended r.lines) front),
+      fronted campaigns start before mid history number x y r legal front s.1,
+      all.took ∙ ap (append_known before.held) (sym (all.split ∙ ap (λ o. all.front ++ o) puts.none ∙ append-nil all.front)),
+    ))
+run_stopped campaigns start before mid after history number pending tape Stop.WriteFault legal running told small looked puts =
+    told_behind before.tape mid.tape pending tape (RunsOn campaigns start before mid history number) (ReadsNext LINE_LIMIT mid after (Err Stop.WriteFault)) (λ old new. EndsWith before.allowed (script_of campaigns start) before.held after.held (Err (Ending.Stopped Stop.WriteFault)) old.left new.left) running told (λ x y z r s.
+    stopped_due campaigns start before mid after history number pending x y z after.held r s.0 legal s.1 s.2 small (some_behind before.held r.answers mid after r.written puts))
+run_stopped campaigns start before mid after history number pending tape Stop.OutOfMemory legal running told small looked puts =
+    told_behind before.tape mid.tape pending tape (RunsOn campaigns start before mid history number) (ReadsNext LINE_LIMIT mid after (Err Stop.OutOfMemory)) (λ old new. EndsWith before.allowed (script_of campaigns start) before.held after.held (Err (Ending.Stopped Stop.OutOfMemory)) old.left new.left) running told (λ x y z r s.
+    stopped_due campaigns start before mid after history number pending x y z after.held r s.0 legal s.1 s.2 small (front_put before.held after.held r.answers after.out (puts_on before.held r.answers mid after r.written puts)))
 
--- the input passes its limit
-pub run_past : (campaigns : List Campaign) (before mid after : InputState) (old cur new : Option Tape) (held held_cur held_new held_last : Option (List ℕ)) (out out_cur out_new : List ℕ) (history : List Entry) (number : ℕ) (result : Ending)
-    → RunningTold campaigns before mid old cur held out held_cur out_cur history number → ToldNext mid after cur new Next.PastLimit → PutsOn Next.PastLimit held_cur out_cur held_new out_new
-    → EndsAs result Ending.Refused held_new out_new (toolong_line number) held_last
-    → ScriptEndsTold campaigns before old new held out held_last result
-run_past campaigns before mid after None None new held held_cur held_new held_last out out_cur out_new history number result run told puts ends = told
-run_past campaigns before mid after None (Some cur) new held held_cur held_new held_last out out_cur out_new history number result run told puts ends = absurd (cc)
-run_past campaigns before mid after (Some old) None new held held_cur held_new held_last out out_cur out_new history number result run told puts ends = absurd run
-run_past campaigns before mid after (Some old) (Some cur) None held held_cur held_new held_last out out_cur out_new history number result run told puts ends = told
-run_past campaigns before mid after (Some old) (Some cur) (Some new) held held_cur held_new held_last out out_cur out_new history number result run told puts ends =
-    refused ends
-  where
-    line : List ℕ
-    line = told.0
-
-    so_far : Puts held held_new (out ++ run.answers) out_new
-    so_far = puts_then held held_cur held_new (out ++ run.answers) out_cur out_new run.written (puts_all held_cur held_new out_cur out_new puts.0 puts.1)
-
-    part : List ℕ
-    part = flat_map ended run.lines ++ line
-
-    bytes : unread before old ≡ part ++ told.1 ∷ new.left
-    bytes = run.bytes ∙ ap (λ b. flat_map ended run.lines ++ b) told.2.bytes ∙ sym (append_assoc (flat_map ended run.lines) line (told.1 ∷ new.left))
-
-    passes : before.taken + length old.left ≡ input_limit + suc (length new.left)
-    passes = omega (arith, run.count, told.2.count, told.2.at_limit)
-
-    past : IsScriptPastLimit campaigns part (run.answers ++ toolong_line number)
-    past = (
-      run.lines,
-      line,
-      run.answers,
-      history,
-      over campaigns before mid old cur held out held_cur out_cur history number run part line (record { bytes = refl; whole = run.whole; piece = told.2.no_newline }),
-      ap (λ n. run.answers ++ toolong_line n) run.numbered,
-    )
-
-    refused : EndsAs result Ending.Refused held_new out_new (toolong_line number) held_last → ScriptEndsTold campaigns before (Some old) (Some new) held out held_last result
-    refused (inl is) = subst (λ e. ScriptEndsTold campaigns before (Some old) (Some new) held out held_last e) (sym is.0) (
-      run.answers ++ toolong_line number,
-      part,
-      told.1,
-      took_on held held_new held_last out run.answers out_new (toolong_line number) so_far is.1,
-      bytes,
-      passes,
-      past,
-    )
-    refused (inr aborted) = aborted_at campaigns before old new held held_last out (run.answers ++ toolong_line number) result aborted.0
-        (front_on held held_new held_last out run.answers out_new (toolong_line number) so_far aborted.1) (inr (inr (part, new.left, told.1, bytes, passes, past)))
-
--- the source failed
-pub run_read_fault : (campaigns : List Campaign) (before mid after : InputState) (old cur new : Option Tape) (held held_cur held_new : Option (List ℕ)) (out out_cur out_new : List ℕ) (history : List Entry) (number : ℕ)
-    → RunningTold campaigns before mid old cur held out held_cur out_cur history number → ToldNext mid after cur new Next.ReadFault → PutsOn Next.ReadFault held_cur out_cur held_new out_new
-    → ScriptEndsTold campaigns before old new held out held_new Ending.ReadFault
-run_read_fault campaigns before mid after None None new held held_cur held_new out out_cur out_new history number run told puts = told
-run_read_fault campaigns before mid after None (Some cur) new held held_cur held_new out out_cur out_new history number run told puts = absurd (cc)
-run_read_fault campaigns before mid after (Some old) None new held held_cur held_new out out_cur out_new history number run told puts = absurd run
-run_read_fault campaigns before mid after (Some old) (Some cur) None held held_cur held_new out out_cur out_new history number run told puts = told
-run_read_fault campaigns before mid after (Some old) (Some cur) (Some new) held held_cur held_new out out_cur out_new history number run told puts =
-    let line = told.0 in (
-      run.answers,
-      flat_map ended run.lines ++ line,
-      put_behind held held_cur held_new (out ++ run.answers) out_cur run.written puts.0,
-      run.bytes ∙ ap (λ b. flat_map ended run.lines ++ b) (told.1.reads.next ∙ ap (λ p. line ++ (p ++ new.left)) told.2)
-          ∙ sym (append_assoc (flat_map ended run.lines) line new.left),
-      (
-        run.lines,
-        line,
-        history,
-        over campaigns before mid old cur held out held_cur out_cur history number run (flat_map ended run.lines ++ line) line (record { bytes = refl; whole = run.whole; piece = told.1.no_newline }),
+-- memory was refused while a line was answered
+pub run_unanswered : (campaigns : List Campaign) (start : List Entry) (before mid after : TalkState) (history : List Entry) (number : ℕ) (pending : List ℕ) (tape : Option Tape)
+    → IsLegal (terms_by campaigns) start → Running campaigns start before mid history number → WhereTold mid.tape (tape_behind pending tape) (ReadsNext LINE_LIMIT mid after (Ok Next.Line)) → length pending ≤ CHUNK → Puts mid after
+    → WhereTold before.tape tape (λ old new. EndsWith before.allowed (script_of campaigns start) before.held after.held (Err (Ending.Stopped Stop.OutOfMemory)) old.left new.left)
+run_unanswered campaigns start before mid after history number pending tape legal running told small puts =
+    told_behind before.tape mid.tape pending tape (RunsOn campaigns start before mid history number) (ReadsNext LINE_LIMIT mid after (Ok Next.Line)) (λ old new. EndsWith before.allowed (script_of campaigns start) before.held after.held (Err (Ending.Stopped Stop.OutOfMemory)) old.left new.left) running told (λ x y z r s. (
+      flat_map ended r.lines,
+      y.left,
+      r.answers,
+      r.reads.next,
+      (ended s.0, pending ++ z.left, inr (s.0, s.1.no_newline, refl), s.2.next, (pending, small, refl)),
+      inl (
+        omega (arith, r.reads.counted),
+        subst (λ b. WritesRun campaigns start nothing b r.answers) (append-nil (flat_map ended r.lines)) (fronted campaigns start before mid history number x y r legal [] (All-nil (λ b. b ≢ 10))),
       ),
-    )
+      front_put before.held after.held r.answers after.out (puts_on before.held r.answers mid after r.written puts),
+    ))
+
+-- nothing is written for no script
+pub nothing_written : (campaigns : List Campaign) (start : List Entry) → IsLegal (terms_by campaigns) start → WritesRun campaigns start nothing [] []
+nothing_written campaigns start legal = record {
+  lines = [];
+  last = [];
+  turns = [];
+  answers = [];
+  history = start;
+  runs = record {
+    cut = record { bytes = refl; whole = All-nil HasNoNewline; piece = All-nil (λ b. b ≢ 10) };
+    answered = (refl, refl);
+    done = All-nil (λ (t : Turn). t.outcome ≡ done);
+    books = run_books (terms_by campaigns) start [] start legal (All-nil (λ (t : Turn). IsCall (length (terms_by campaigns).budgets) t.call)) refl;
+  };
+  written = refl;
+}

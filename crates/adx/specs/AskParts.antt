@@ -8,12 +8,13 @@ use Rattle.adx_units.specs.Money.{floor_of}
 use Rattle.adx_json.specs.Tree.{Tree}
 use Rattle.adx_json.specs.Spelling.{spelling}
 use Rattle.adx_json.specs.View.{tree_of, trees_of}
-use Rattle.narrow_day.specs.declared.ask.Ask.{Ask}
+use Rattle.day_rules.specs.declared.ask.Ask.{Ask}
 use Rattle.adx.specs.declared.roster.Campaign.{Campaign}
 use Rattle.adx.specs.declared.ask_parts.AskParts.{AskParts}
 use Rattle.adx.specs.Parts.{◌>>=◌, Fields, fields_in, next_in, end_in, next_text_in, next_number_in, next_only_in, next_items_in}
 use Rattle.adx.specs.RosterParts.{is_id}
-use Rattle.adx.specs.Forms.{BidForm, offer_of, floor_units_of}
+use Rattle.adx.specs.Forms.{BidForm, offer_of, floor_units_of, kept_by}
+use Rattle.adx_units.specs.declared.offer.Offer.{Offer}
 
 abbrev pub floor_behind : Option (Unit {0}) → Fields → Option (Option (List ℕ))
 floor_behind (Some last) fs = Some None
@@ -127,6 +128,10 @@ is_floor (Some floor) = is_ok (floor_of floor)
 abbrev pub is_outline : AskOutline → Bool
 is_outline o = is_id o.id && (is_id o.imp && (is_whole_up_to LATEST_MOMENT o.now && (is_floor o.bidfloor && nat_le (length o.bids) 64)))
 
+-- the offers of the bids
+abbrev pub offers_by : List Campaign → AskOutline → List BidForm → List Offer
+offers_by campaigns o bids = map (offer_of campaigns (floor_units_of o.bidfloor) o.seat) bids
+
 -- the ask that the parts make, before the day settles it
 abbrev pub ask_by : List Campaign → AskOutline → List BidForm → Ask
 ask_by campaigns o bids = record {
@@ -135,8 +140,8 @@ ask_by campaigns o bids = record {
   now = digits_value o.now;
   first = 0;
   imps = o.imp ∷ [];
-  offers = map (offer_of campaigns (floor_units_of o.bidfloor) o.seat) bids;
-  kept = [];
+  offers = offers_by campaigns o bids;
+  kept = kept_by o.seat (offers_by campaigns o bids);
 }
 
 -- the ask of an outline and its bids

@@ -1,35 +1,31 @@
--- What the lines of a script ask of the day, and the books that this leaves. This project's own.
-use Rattle.std.specs.Prelude.{◌≡◌, ◌⊎◌, ℕ, ◌≤◌, List, [], ◌∷◌, ◌++◌, true}
-use Rattle.adx_units.specs.Number.{digits_value}
-use Rattle.discount_table.specs.Choice.{budget_at}
-use Rattle.narrow_day.specs.declared.entry.Entry.{Entry}
-use Rattle.narrow_day.specs.Books.{reserved, billed_money, committed}
-use Rattle.narrow_day.specs.Replies.{Terms, Call, ask, bill}
-use Rattle.narrow_day.specs.Runs.{Turn, run, once, no_books, plain_books, plain_reserved, plain_billed}
-use Rattle.adx.specs.declared.roster.Campaign.{Campaign}
-use Rattle.adx.specs.Forms.{AskForm, BillForm, IsAskLine, IsBillLine, ask_of_form}
+-- The books that a run leaves. This project's own.
+use Rattle.std.specs.Prelude.{◌≡◌, ℕ, ◌≤◌, List, [], ◌∷◌, ◌++◌, true, if◌then◌else◌}
+use Rattle.allocator_core.specs.Choice.{budget_at}
+use Rattle.day_rules.specs.declared.ask.Ask.{Ask}
+use Rattle.day_rules.specs.declared.entry.Entry.{Entry}
+use Rattle.day_rules.specs.Books.{committed}
+use Rattle.day_rules.specs.Laws.{AreOfCallsTakenOnce, StandsSettled}
+use Rattle.day_rules.specs.Legal.{IsLegal}
+use Rattle.day_rules.specs.Replies.{reply}
+use Rattle.day_rules.specs.Runs.{Turn, run, once, is_effective, is_repeat}
+use Rattle.day_rules.specs.Terms.{Terms, budgets_after}
 
--- a call that was done
-abbrev pub done : Call → Turn
-done c = record { call = c; done = true }
+-- an effective turn behind those of a run answers Repeat exactly where the calls taken once leave it out: they stay as
+-- they are then, and else end in its call
+abbrev pub IsTakenOnce : Terms → List Entry → List Turn → Turn → Type 0
+IsTakenOnce terms start turns turn =
+    is_effective terms (run terms start turns) turn ≡ true
+    → once terms start (turns ++ turn ∷ [])
+    ≡ (if is_repeat (reply terms (run terms start turns) turn.call).answer
+    then once terms start turns else once terms start turns ++ turn.call ∷ [])
 
--- what a line asks of the day: an ask, the bill of an award, or nothing
-abbrev pub Asks : List Campaign → List ℕ → List Turn → Type 0
-Asks campaigns line turns =
-    ((f : AskForm) × IsAskLine line f × (turns ≡ done (ask (ask_of_form campaigns f)) ∷ []))
-    ⊎ (((f : BillForm) × IsBillLine line f × (turns ≡ done (bill f.auction (digits_value f.bid)) ∷ []))
-    ⊎ (((f : AskForm) → IsAskLine line f → ⊥) × ((f : BillForm) → IsBillLine line f → ⊥) × (turns ≡ [])))
-
--- what lines ask of the day, one after another
-abbrev pub AsksAll : List Campaign → List (List ℕ) → List Turn → Type 0
-AsksAll campaigns [] turns = turns ≡ []
-AsksAll campaigns (line ∷ lines) turns =
-    (first rest : List Turn) × Asks campaigns line first × AsksAll campaigns lines rest × (turns ≡ first ++ rest)
-
--- the history is that of a run over these turns; each campaign's money is that of plain books over the calls
--- of the turns, each taken once; and at no point of the history did it pass the campaign's budget
-pub record HasBooks (terms : Terms) (turns : List Turn) (history : List Entry) : Type 0 where
-  pub ran : history ≡ run terms [] turns
-  pub reserves : (campaign : ℕ) → reserved history campaign ≡ plain_reserved (plain_books terms.budgets no_books (once terms [] turns)) campaign
-  pub bills : (campaign : ℕ) → billed_money history campaign ≡ plain_billed (plain_books terms.budgets no_books (once terms [] turns)) campaign
-  pub within : (front back : List Entry) → history ≡ front ++ back → (campaign : ℕ) → committed front campaign ≤ budget_at terms.budgets campaign
+-- the history is that of a run over these turns from the start, and legal. Each campaign's money is that of plain
+-- books over the calls of the run, each taken once. At no point of the history does it pass the campaign's budget. Each
+-- ask stands there as its choice was, and each effective turn is a repeat exactly where its call was taken before.
+pub record HasBooks (terms : Terms) (start : List Entry) (turns : List Turn) (history : List Entry) : Type 0 where
+  pub ran : history ≡ run terms start turns
+  pub legal : IsLegal terms history
+  pub books : AreOfCallsTakenOnce terms start turns
+  pub within : (front back : List Entry) → history ≡ front ++ back → (campaign : ℕ) → committed front campaign ≤ budget_at (budgets_after terms front) campaign
+  pub chosen : (before : List Entry) (a : Ask) (after : List Entry) → history ≡ before ++ Entry.Ask a ∷ after → StandsSettled terms before a
+  pub taken_once : (front : List Turn) (turn : Turn) (back : List Turn) → turns ≡ front ++ turn ∷ back → IsTakenOnce terms start front turn

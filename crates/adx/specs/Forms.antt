@@ -1,7 +1,7 @@
 -- The lines that a day reads for now, as plain JSON values of a fixed form, and what they say. The
 -- members are those of OpenRTB 2.6 (BidRequest, Imp, BidResponse, SeatBid, Bid) where they are in an ask.
-use Rattle.std.specs.Prelude.{◌≡◌, ℕ, ◌<◌, ◌≤◌, List, [], ◌∷◌, map, length, Bool, ◌&&◌, nat_lt, ◌==◌, if◌then◌else◌, Option, Some, None, IfSome, Result, Ok, Err, IsOk, IsTrue, All, AllPairs, codes, slice_index}
-use Rattle.std.specs.List.{position}
+use Rattle.std.specs.Prelude.{◌≡◌, ◌⊎◌, ℕ, ◌≤◌, List, [], ◌∷◌, map, length, Bool, ◌&&◌, nat_lt, ◌==◌, if◌then◌else◌, Option, Some, None, IfSome, Result, Ok, Err, IsOk, IsTrue, All, AllPairs, codes, slice_index}
+use Rattle.std.specs.List.{position, enumerate_from, filter_map}
 use Rattle.std.specs.Str.{bytes_eq}
 use Rattle.sha2.specs.Sha256.{sha256}
 use Rattle.adx_units.specs.Number.{is_digit, is_whole_up_to, digits_value}
@@ -13,12 +13,16 @@ use Rattle.adx_units.specs.declared.offer.TheConstants.{ADMITTED}
 use Rattle.adx_json.specs.Tree.{Tree, number, text, list, object, items_of, members_of}
 use Rattle.adx_json.specs.Spelling.{spelling}
 use Rattle.adx_json.specs.Plain.{IsPlain}
-use Rattle.narrow_day.specs.declared.ask.Ask.{Ask}
+use Rattle.notice_book.specs.declared.kind.NoticeKind.{NoticeKind}
+use Rattle.day_rules.specs.declared.ask.Ask.{Ask}
+use Rattle.day_rules.specs.declared.ask.Kept.{Kept}
+use Rattle.day_rules.specs.Replies.{Call, ask, notice}
 use Rattle.adx.specs.declared.roster.Campaign.{Campaign}
 use Rattle.adx.specs.declared.bill.Bill.{Bill}
 use Rattle.adx.specs.declared.bill.TheConstants.{LAST_AWARD}
 use Rattle.adx.specs.declared.ask_form.TheConstants.{LATEST_MOMENT}
-use Rattle.adx.specs.Lines.{line_limit}
+use Rattle.adx.specs.declared.limits.TheConstants.{LINE_LIMIT}
+use Rattle.adx.specs.Meanings.{Meaning, calls, refused as refused_as}
 
 -- an object of these members
 abbrev pub members : List (List ℕ × Tree) → Tree
@@ -85,7 +89,7 @@ campaigns_of r = map campaign_of r.campaigns
 
 -- the line is the spelling of this roster
 pub record IsRosterLine (line : List ℕ) (r : RosterForm) : Type 0 where
-  pub short : length line ≤ line_limit
+  pub short : length line ≤ LINE_LIMIT
   pub plain : IsPlain (roster_tree r)
   pub spelled : line ≡ spelling (roster_tree r)
   pub roster : IsRoster r
@@ -158,6 +162,22 @@ offer_by floor (Ok price) (Some campaign) = if nat_lt price.0 floor then refused
 abbrev pub offer_of : List Campaign → ℕ → List ℕ → BidForm → Offer
 offer_of campaigns floor seat b = offer_by floor (price_of b.price) (campaign_place campaigns seat b.cid)
 
+-- the texts that are kept of a bid: the buyer's seat
+abbrev pub kept_of : List ℕ → ℕ → Kept
+kept_of seat place = record { bid = place; seat = seat; bidid = []; adid = []; nurl = []; burl = []; lurl = []; body = [] }
+
+-- those of a bid with its place, if it was admitted
+abbrev pub kept_if : List ℕ → ℕ × Offer → Option Kept
+kept_if seat p = if p.1.reason == ADMITTED then Some (kept_of seat p.0) else None
+
+-- those of all admitted bids, in order
+abbrev pub kept_by : List ℕ → List Offer → List Kept
+kept_by seat offers = filter_map (kept_if seat) (enumerate_from 0 offers)
+
+-- the offers of the line's bids
+abbrev pub offers_of : List Campaign → AskForm → List Offer
+offers_of campaigns f = map (offer_of campaigns (floor_units_of f.bidfloor) f.seat) f.bids
+
 -- the ask that the line makes, before the day settles it
 abbrev pub ask_of_form : List Campaign → AskForm → Ask
 ask_of_form campaigns f = record {
@@ -166,13 +186,13 @@ ask_of_form campaigns f = record {
   now = digits_value f.now;
   first = 0;
   imps = f.imp ∷ [];
-  offers = map (offer_of campaigns (floor_units_of f.bidfloor) f.seat) f.bids;
-  kept = [];
+  offers = offers_of campaigns f;
+  kept = kept_by f.seat (offers_of campaigns f);
 }
 
 -- the line is the spelling of this ask
 pub record IsAskLine (line : List ℕ) (f : AskForm) : Type 0 where
-  pub short : length line ≤ line_limit
+  pub short : length line ≤ LINE_LIMIT
   pub plain : IsPlain (ask_tree f)
   pub spelled : line ≡ spelling (ask_tree f)
   pub ask : IsAsk f
@@ -190,7 +210,7 @@ pub record IsBill (f : BillForm) : Type 0 where
 
 -- the line is the spelling of this bill
 pub record IsBillLine (line : List ℕ) (f : BillForm) : Type 0 where
-  pub short : length line ≤ line_limit
+  pub short : length line ≤ LINE_LIMIT
   pub plain : IsPlain (bill_tree f)
   pub spelled : line ≡ spelling (bill_tree f)
   pub bill : IsBill f
@@ -198,3 +218,19 @@ pub record IsBillLine (line : List ℕ) (f : BillForm) : Type 0 where
 -- the bill that the line makes
 abbrev pub bill_of_form : BillForm → Bill
 bill_of_form f = record { auction = f.auction; award = digits_value f.bid }
+
+-- the call that the line makes: a notice that bills the award
+abbrev pub bill_call : BillForm → Call
+bill_call f = notice NoticeKind.Bill f.auction (digits_value f.bid)
+
+-- why a line that is neither is refused
+abbrev pub no_form : List ℕ
+no_form = codes "form"
+
+-- what a line means on a day with these campaigns: the call of an ask or of a bill, or nothing, and then it is refused
+abbrev pub Means : List Campaign → List ℕ → Meaning → Type 0
+Means campaigns line (calls c) =
+    ((f : AskForm) × IsAskLine line f × (c ≡ ask (ask_of_form campaigns f)))
+    ⊎ ((f : BillForm) × IsBillLine line f × (c ≡ bill_call f))
+Means campaigns line (refused_as why) =
+    ((f : AskForm) → IsAskLine line f → ⊥) × ((f : BillForm) → IsBillLine line f → ⊥) × (why ≡ no_form)

@@ -1,5 +1,7 @@
 pub mod Lines
-pub mod Reading
+pub mod Endings
+pub mod Steps
+pub mod Meanings
 pub mod Forms
 pub mod Parts
 pub mod AskParts
@@ -12,4 +14,3 @@ pub mod Script
 pub mod Reads
 pub mod Running
 pub mod Commands
-pub mod FirstLine

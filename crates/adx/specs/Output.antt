@@ -6,18 +6,23 @@ use Rattle.hex.specs.Hex.{encode_lower}
 use Rattle.adx_units.specs.Money.{units}
 use Rattle.adx_units.specs.declared.offer.Offer.{Offer}
 use Rattle.adx_json.specs.Spelling.{text_spelling}
+use Rattle.campaign_book.specs.Accounts.{Account, account_at, committed}
 use Rattle.discount_table.specs.Discount.{slab_of}
-use Rattle.narrow_day.specs.declared.answer.Answer.{Answer}
-use Rattle.narrow_day.specs.declared.answer.Which.{Which}
-use Rattle.narrow_day.specs.declared.ask.Ask.{Ask}
-use Rattle.narrow_day.specs.declared.entry.Entry.{Entry}
-use Rattle.narrow_day.specs.Books.{awarded_offers, awards_of, reserved, billed_money, committed, ask_count}
-use Rattle.narrow_day.specs.Replies.{is_awarded}
+use Rattle.notice_book.specs.declared.award.End.{End}
+use Rattle.day_rules.specs.declared.answer.Answer.{Answer}
+use Rattle.day_rules.specs.declared.answer.Which.{Which}
+use Rattle.day_rules.specs.declared.ask.Ask.{Ask}
+use Rattle.day_rules.specs.declared.entry.Entry.{Entry}
+use Rattle.day_rules.specs.Books.{awarded_offers, awards_of, accounts_in, ask_count}
+use Rattle.day_rules.specs.Entries.{asked}
+use Rattle.day_rules.specs.Replies.{is_awarded}
+use Rattle.day_rules.specs.Terms.{Terms, budgets_after}
 use Rattle.adx.specs.declared.roster.Campaign.{Campaign}
+use Rattle.adx.specs.Meanings.{Fault, disk, journal_full, Writing}
 
 -- the awarded offers of an ask, in the order of its impressions
 abbrev pub sold_offers : Ask → List Offer
-sold_offers a = flat_map (awarded_offers a) (range_with_len 0 (length a.imps))
+sold_offers a = flat_map (awarded_offers a.offers) (range_with_len 0 (length a.imps))
 
 abbrev pub no_campaign : Campaign
 no_campaign = record { seat = []; cid = []; budget = units 0 }
@@ -57,10 +62,17 @@ nosale_line a =
 abbrev pub ask_line : List Campaign → Ask → List ℕ
 ask_line campaigns a = if is_awarded a then awarded_line campaigns a else nosale_line a
 
+abbrev pub repeat_line : List ℕ
+repeat_line = codes "{\"answer\":\"repeat\"}\n"
+
+-- the line of what stands in the history: of an ask its own, and else that of a repeated notice
+abbrev pub asked_line : List Campaign → Option Ask → List ℕ
+asked_line campaigns None = repeat_line
+asked_line campaigns (Some a) = ask_line campaigns a
+
 abbrev pub entry_line : List Campaign → Option Entry → List ℕ
 entry_line campaigns None = []
-entry_line campaigns (Some (Entry.Ask a)) = ask_line campaigns a
-entry_line campaigns (Some (Entry.Bill n)) = []
+entry_line campaigns (Some e) = asked_line campaigns (asked e)
 
 abbrev pub reused_line : List ℕ → List ℕ → List ℕ
 reused_line kept given =
@@ -69,38 +81,51 @@ reused_line kept given =
 abbrev pub which_text : Which → List ℕ
 which_text Which.Auctions = codes "auctions"
 which_text Which.Bids = codes "bids"
+which_text Which.Text = codes "text"
 
 abbrev pub dayfull_line : Which → ℕ → List ℕ
 dayfull_line which count =
     codes "{\"answer\":\"dayfull\",\"which\":\"" ++ which_text which ++ codes "\",\"count\":" ++ decimal count ++ codes "}\n"
 
--- the line of an answer to an ask, from the history that the answer left
-abbrev pub ask_answer_line : List Campaign → List Entry → Answer → List ℕ
-ask_answer_line campaigns history (Answer.Awarded place) = entry_line campaigns (slice_get history place)
-ask_answer_line campaigns history (Answer.NoSale place) = entry_line campaigns (slice_get history place)
-ask_answer_line campaigns history Answer.Counted = codes "{\"answer\":\"counted\"}\n"
-ask_answer_line campaigns history (Answer.Repeat place) = entry_line campaigns (slice_get history place)
-ask_answer_line campaigns history Answer.Unknown = codes "{\"answer\":\"unknown\"}\n"
-ask_answer_line campaigns history (Answer.Reused kept given) = reused_line kept given
-ask_answer_line campaigns history (Answer.DayFull which count) = dayfull_line which count
+abbrev pub end_text : End → List ℕ
+end_text End.Billed = codes "billed"
+end_text End.Lost = codes "lost"
+end_text End.Expired = codes "expired"
 
--- the line of an answer to a bill; the other answers are those to asks
-abbrev pub bill_answer_line : Answer → List ℕ
-bill_answer_line (Answer.Awarded place) = []
-bill_answer_line (Answer.NoSale place) = []
-bill_answer_line Answer.Counted = codes "{\"answer\":\"counted\"}\n"
-bill_answer_line (Answer.Repeat place) = codes "{\"answer\":\"repeat\"}\n"
-bill_answer_line Answer.Unknown = codes "{\"answer\":\"unknown\"}\n"
-bill_answer_line (Answer.Reused kept given) = []
-bill_answer_line (Answer.DayFull which count) = []
+abbrev pub conflict_line : End → List ℕ
+conflict_line kept = codes "{\"answer\":\"conflict\",\"kept\":\"" ++ end_text kept ++ codes "\"}\n"
 
--- a script line that isn't of its form; the roster's line has the number 1
-abbrev pub refused_line : ℕ → List ℕ
-refused_line n = codes "{\"answer\":\"refused\",\"line\":" ++ decimal n ++ codes ",\"why\":\"form\"}\n"
+abbrev pub ticked_line : ℕ → List ℕ
+ticked_line ended = codes "{\"answer\":\"ticked\",\"ended\":" ++ decimal ended ++ codes "}\n"
+
+-- the line of an answer, from the history that its call left
+abbrev pub answer_line : List Campaign → List Entry → Answer → List ℕ
+answer_line campaigns history (Answer.Awarded place) = entry_line campaigns (slice_get history place)
+answer_line campaigns history (Answer.NoSale place) = entry_line campaigns (slice_get history place)
+answer_line campaigns history Answer.Counted = codes "{\"answer\":\"counted\"}\n"
+answer_line campaigns history (Answer.Repeat place) = entry_line campaigns (slice_get history place)
+answer_line campaigns history (Answer.Conflict kept) = conflict_line kept
+answer_line campaigns history Answer.Unknown = codes "{\"answer\":\"unknown\"}\n"
+answer_line campaigns history (Answer.Ticked ended) = ticked_line ended
+answer_line campaigns history (Answer.Reused kept given) = reused_line kept given
+answer_line campaigns history (Answer.DayFull which count) = dayfull_line which count
+
+-- the line of a call that was given up
+abbrev pub fault_line : Fault → List ℕ
+fault_line disk = codes "{\"answer\":\"diskfault\"}\n"
+fault_line (journal_full size) = codes "{\"answer\":\"journalfull\",\"size\":" ++ decimal size ++ codes "}\n"
+
+-- a refused line, and why; the roster's line has the number 1
+abbrev pub refusal_line : ℕ → List ℕ → List ℕ
+refusal_line n why = codes "{\"answer\":\"refused\",\"line\":" ++ decimal n ++ codes ",\"why\":" ++ text_spelling why ++ codes "}\n"
+
+-- how the lines of a day with these campaigns are written
+abbrev pub writing : List Campaign → Writing
+writing campaigns = record { answer = answer_line campaigns; fault = fault_line; refusal = refusal_line }
 
 -- the line in which an input passes its limit
 abbrev pub toolong_line : ℕ → List ℕ
-toolong_line n = codes "{\"answer\":\"refused\",\"line\":" ++ decimal n ++ codes ",\"why\":\"toolong\"}\n"
+toolong_line n = refusal_line n (codes "toolong")
 
 -- a first line that isn't a roster
 abbrev pub roster_refused_line : List ℕ
@@ -110,12 +135,16 @@ roster_refused_line = codes "{\"answer\":\"roster\",\"why\":\"form\"}\n"
 abbrev pub usage_line : List ℕ
 usage_line = codes "usage: adx COMMAND\n"
 
--- a campaign's row of the closing table, with its number
-abbrev pub campaign_line : List Entry → ℕ × Campaign → List ℕ
-campaign_line history c =
-    codes "{\"seat\":" ++ text_spelling c.1.seat ++ codes ",\"cid\":" ++ text_spelling c.1.cid ++ codes ",\"budget\":" ++ decimal c.1.budget.0
-    ++ codes ",\"reserved\":" ++ decimal (reserved history c.0) ++ codes ",\"billed\":" ++ decimal (billed_money history c.0)
-    ++ codes ",\"slab\":" ++ decimal (slab_of (committed history c.0) c.1.budget.0) ++ codes "}\n"
+-- a campaign's row of the closing table, by its account
+abbrev pub account_line : Campaign → Account → List ℕ
+account_line c a =
+    codes "{\"seat\":" ++ text_spelling c.seat ++ codes ",\"cid\":" ++ text_spelling c.cid ++ codes ",\"budget\":" ++ decimal a.budget
+    ++ codes ",\"reserved\":" ++ decimal a.reserved ++ codes ",\"billed\":" ++ decimal a.billed
+    ++ codes ",\"slab\":" ++ decimal (slab_of (committed a) a.budget) ++ codes "}\n"
+
+-- the same of a campaign with its number
+abbrev pub campaign_line : List Account → ℕ × Campaign → List ℕ
+campaign_line accounts c = account_line c.1 (account_at accounts c.0)
 
 abbrev pub counts_line : List Entry → List ℕ
 counts_line history =
@@ -123,5 +152,6 @@ counts_line history =
     ++ decimal (length history) ++ codes "}\n"
 
 -- the closing table: a row for each campaign of the roster, and the counts
-abbrev pub closing_table : List Campaign → List Entry → List ℕ
-closing_table campaigns history = flat_map (campaign_line history) (enumerate_from 0 campaigns) ++ counts_line history
+abbrev pub closing_table : List Campaign → Terms → List Entry → List ℕ
+closing_table campaigns terms history =
+    flat_map (campaign_line (accounts_in (budgets_after terms history) (awards_of history))) (enumerate_from 0 campaigns) ++ counts_line history

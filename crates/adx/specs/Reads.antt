@@ -5,12 +5,15 @@ use Rattle.adx_json.specs.Spelling.{spelling}
 use Rattle.adx_json.specs.Plain.{IsPlain}
 use Rattle.adx_json.specs.View.{tree_of}
 use Rattle.adx_json.specs.declared.tree.Json.{Json}
-use Rattle.narrow_day.specs.declared.ask.Ask.{Ask}
-use Rattle.narrow_day.specs.Asks.{IsWellFormed, IsUndecided}
+use Rattle.day_rules.specs.declared.ask.Ask.{Ask}
+use Rattle.notice_book.specs.declared.kind.NoticeKind.{NoticeKind}
+use Rattle.day_rules.specs.Asks.{IsWellFormed, IsUndecided}
+use Rattle.day_rules.specs.Replies.{ask, notice}
 use Rattle.adx.specs.declared.roster.Campaign.{Campaign}
 use Rattle.adx.specs.declared.bill.Bill.{Bill}
 use Rattle.adx.specs.declared.line.ScriptLine.{ScriptLine}
-use Rattle.adx.specs.Forms.{RosterForm, AskForm, BillForm, IsRosterLine, IsAskLine, IsBillLine, campaigns_of, ask_of_form, bill_of_form}
+use Rattle.adx.specs.Forms.{RosterForm, AskForm, BillForm, IsRosterLine, IsAskLine, IsBillLine, Means, campaigns_of, ask_of_form, bill_of_form, no_form}
+use Rattle.adx.specs.Meanings.{Meaning, calls, refused}
 use Rattle.adx.specs.AskParts.{ask_made}
 use Rattle.adx.specs.BillParts.{bill_made}
 
@@ -24,11 +27,15 @@ abbrev pub ReadsBill : List ℕ → Option Bill → Type 0
 ReadsBill line None = (f : BillForm) → IsBillLine line f → ⊥
 ReadsBill line (Some b) = (f : BillForm) × IsBillLine line f × (b ≡ bill_of_form f)
 
--- what a script line is
+-- what a script line means
+abbrev pub meaning_of : ScriptLine → Meaning
+meaning_of (ScriptLine.Ask a) = calls (ask a)
+meaning_of (ScriptLine.Bill b) = calls (notice NoticeKind.Bill b.auction b.award)
+meaning_of ScriptLine.Other = refused no_form
+
+-- what a line is read as is what it means
 abbrev pub ReadsLine : List Campaign → List ℕ → ScriptLine → Type 0
-ReadsLine campaigns line (ScriptLine.Ask a) = ReadsAsk campaigns line (Some a)
-ReadsLine campaigns line (ScriptLine.Bill b) = ReadsBill line (Some b)
-ReadsLine campaigns line ScriptLine.Other = ReadsAsk campaigns line None × ReadsBill line None
+ReadsLine campaigns line found = Means campaigns line (meaning_of found)
 
 -- the same of the line's value
 abbrev pub MakesLine : List Campaign → Tree → ScriptLine → Type 0

@@ -1,83 +1,83 @@
--- How a run over the lines of a script goes on and ends. This project's own.
-use Rattle.std.specs.Prelude.{◌≡◌, ◌⊎◌, ℕ, suc, ◌+◌, ◌≤◌, List, [], ◌∷◌, ◌++◌, length, All, Option, Some, None}
+-- How a run over the lines of a script goes on and ends. Only private clauses cite this file.
+use Rattle.std.specs.Prelude.{◌≡◌, ◌⊎◌, ℕ, ◌+◌, ◌≤◌, List, [], ◌++◌, length, All, Option, Result, Err}
 use Rattle.std.specs.List.{flat_map}
-use Rattle.adx_io.specs.Streams.{Tape}
-use Rattle.narrow_day.specs.declared.entry.Entry.{Entry}
-use Rattle.narrow_day.specs.Runs.{Turn, AreAskedWell, run}
+use Rattle.adx_io.specs.Lines.{HasNoNewline, Keeps, tape_behind}
+use Rattle.adx_io.specs.Streams.{Tape, WhereTold, Took}
+use Rattle.adx_io.specs.Talk.{TalkState, Reads, ended}
+use Rattle.adx_io.specs.declared.stop.Stop.{Stop}
+use Rattle.day_rules.specs.declared.entry.Entry.{Entry}
+use Rattle.day_rules.specs.Runs.{Turn, run}
 use Rattle.adx.specs.declared.ending.Ending.{Ending}
+use Rattle.adx.specs.declared.limits.TheConstants.{LINE_LIMIT}
 use Rattle.adx.specs.declared.roster.Campaign.{Campaign}
-use Rattle.adx.specs.Lines.{HasNoNewline, ended, input_limit, InputState, unread}
-use Rattle.adx.specs.Reading.{with_more, Puts, TookFront}
-use Rattle.adx.specs.Calls.{AsksAll}
-use Rattle.adx.specs.Script.{terms_of, AnswersAll, IsScriptOutput, IsScriptFront, IsScriptPastLimit}
+use Rattle.adx.specs.Endings.{Command, EndsWith, TookFront}
+use Rattle.adx_io.specs.declared.line_buffer.TheConstants.{CHUNK}
+use Rattle.adx.specs.Forms.{RosterForm, IsRosterLine, Means, campaigns_of}
+use Rattle.adx.specs.Meanings.{Answers, AreDone, IsLine}
+use Rattle.adx.specs.Output.{writing, roster_refused_line}
+use Rattle.adx.specs.Script.{script_of, terms_by}
+use Rattle.adx.specs.Steps.{IsAborted}
 
--- some lines were read and answered; what was written stands in the sink or is still to be put
-pub record Running (campaigns : List Campaign) (before now : InputState) (old cur : Tape) (held : Option (List ℕ)) (out : List ℕ) (held_now : Option (List ℕ)) (out_now : List ℕ) (history : List Entry) (number : ℕ) : Type 0 where
+-- this front of these bytes went to the sink, and the rest is still to be put
+pub record PutsFront (held held_now : Option (List ℕ)) (bytes rest : List ℕ) : Type 0 where
+  pub front : List ℕ
+  pub took : Took held held_now front
+  pub split : bytes ≡ front ++ rest
+
+-- some lines were read and answered
+pub record RunsOn (campaigns : List Campaign) (start : List Entry) (before now : TalkState) (history : List Entry) (number : ℕ) (old new : Tape) : Type 0 where
   pub lines : List (List ℕ)
-  pub answers : List ℕ
-  pub bytes : unread before old ≡ flat_map ended lines ++ unread now cur
-  pub whole : All HasNoNewline lines
-  pub answered : AnswersAll campaigns [] 2 lines answers history
-  pub numbered : number ≡ 2 + length lines
   pub turns : List Turn
-  pub calls : AsksAll campaigns lines turns
-  pub ran : history ≡ run (terms_of campaigns) [] turns
-  pub asked : AreAskedWell (length (terms_of campaigns).budgets) turns
-  pub written : Puts held held_now (out ++ answers) out_now
-  pub within : now.taken ≤ input_limit
-  pub count : now.taken + length cur.left ≡ before.taken + length old.left
+  pub answers : List ℕ
+  pub reads : Reads before now old new (flat_map ended lines)
+  pub whole : All HasNoNewline lines
+  pub answered : Answers (Means campaigns) (writing campaigns) (terms_by campaigns) 2 start lines turns answers
+  pub done : AreDone turns
+  pub ran : history ≡ run (terms_by campaigns) start turns
+  pub numbered : number ≡ 2 + length lines
+  pub written : PutsFront before.held now.held answers now.out
 
 -- the same where the source tells its bytes
-abbrev pub RunningTold : List Campaign → InputState → InputState → Option Tape → Option Tape → Option (List ℕ) → List ℕ → Option (List ℕ) → List ℕ → List Entry → ℕ → Type 0
-RunningTold campaigns before now None cur held out held_now out_now history number = cur ≡ None
-RunningTold campaigns before now (Some old) None held out held_now out_now history number = ⊥
-RunningTold campaigns before now (Some old) (Some cur) held out held_now out_now history number =
-    Running campaigns before now old cur held out held_now out_now history number
+abbrev pub Running : List Campaign → List Entry → TalkState → TalkState → List Entry → ℕ → Type 0
+Running campaigns start before now history number = WhereTold before.tape now.tape (RunsOn campaigns start before now history number)
 
--- the sink, where it tells its bytes, took what was to be put and then these bytes
-abbrev pub Took : Option (List ℕ) → List ℕ → Option (List ℕ) → List ℕ → Type 0
-Took held out held_now produced = held_now ≡ with_more held (out ++ produced)
+-- a line was answered: these bytes were written behind the old ones, and this history was left
+pub record AnswersTo (campaigns : List Campaign) (history : List Entry) (number : ℕ) (line old new : List ℕ) (next : List Entry) : Type 0 where
+  pub turns : List Turn
+  pub out : List ℕ
+  pub answered : IsLine (Means campaigns) (writing campaigns) (terms_by campaigns) number history line turns out
+  pub done : AreDone turns
+  pub written : new ≡ old ++ out
+  pub left : next ≡ run (terms_by campaigns) history turns
 
--- what is to be written for a script: the answers to the whole lines of some front of it, or all, or what
--- comes before the limit of the input
-abbrev pub IsScriptDue : List Campaign → InputState → Tape → List ℕ → Type 0
-IsScriptDue campaigns before old produced =
-    ((front back : List ℕ) × (unread before old ≡ front ++ back)
-    × (before.taken + length front ≤ input_limit + length before.pending) × IsScriptFront campaigns front produced)
-    ⊎ (((before.taken + length old.left ≤ input_limit) × IsScriptOutput campaigns (unread before old) produced)
-    ⊎ ((part left : List ℕ) × (more : ℕ) × (unread before old ≡ part ++ more ∷ left)
-    × (before.taken + length old.left ≡ input_limit + suc (length left)) × IsScriptPastLimit campaigns part produced))
+-- the line that was kept was answered
+abbrev pub AnswersKept : List Campaign → List Entry → ℕ → TalkState → List ℕ → List Entry → Type 0
+AnswersKept campaigns history number before new next =
+    (line : List ℕ) → Keeps LINE_LIMIT before.overlong before.line line → AnswersTo campaigns history number line before.out new next
 
--- how a run over a script ends
-abbrev pub ScriptEnds : List Campaign → InputState → Tape → Tape → Option (List ℕ) → List ℕ → Option (List ℕ) → Ending → Type 0
-ScriptEnds campaigns before old new held out held_now Ending.Done =
-    (produced : List ℕ) × Took held out held_now produced
-    × (new.left ≡ []) × (before.taken + length old.left ≤ input_limit) × IsScriptOutput campaigns (unread before old) produced
-ScriptEnds campaigns before old new held out held_now Ending.Refused =
-    (produced part : List ℕ) × (more : ℕ) × Took held out held_now produced
-    × (unread before old ≡ part ++ more ∷ new.left) × (before.taken + length old.left ≡ input_limit + suc (length new.left))
-    × IsScriptPastLimit campaigns part produced
-ScriptEnds campaigns before old new held out held_now Ending.ReadFault =
-    (produced part : List ℕ) × Took held out held_now produced × (unread before old ≡ part ++ new.left) × IsScriptFront campaigns part produced
-ScriptEnds campaigns before old new held out held_now Ending.WriteFault =
-    (produced : List ℕ) × TookFront held held_now (out ++ produced) × IsScriptDue campaigns before old produced
-ScriptEnds campaigns before old new held out held_now Ending.OutOfMemory =
-    (produced : List ℕ) × TookFront held held_now (out ++ produced) × IsScriptDue campaigns before old produced
+-- all of these bytes were put, and the run ended as was wanted; or it was aborted, and some front of them was taken
+abbrev pub PutsEnd : Option (List ℕ) → Option (List ℕ) → List ℕ → Result (Unit {0}) Ending → Result (Unit {0}) Ending → Type 0
+PutsEnd held held_now bytes wanted result =
+    ((result ≡ wanted) × Took held held_now bytes)
+    ⊎ ((ending : Ending) × (result ≡ Err ending) × IsAborted ending × TookFront held held_now bytes)
 
-abbrev pub ScriptEndsTold : List Campaign → InputState → Option Tape → Option Tape → Option (List ℕ) → List ℕ → Option (List ℕ) → Ending → Type 0
-ScriptEndsTold campaigns before None new held out held_now ending = new ≡ None
-ScriptEndsTold campaigns before (Some old) None held out held_now ending = ⊥
-ScriptEndsTold campaigns before (Some old) (Some new) held out held_now ending = ScriptEnds campaigns before old new held out held_now ending
+-- how a command over what is left of a talk ended: what became of its source and its sink
+abbrev pub EndsTalk : ℕ → Command → TalkState → Option Tape → Option (List ℕ) → Result (Unit {0}) Ending → Type 0
+EndsTalk limit c before tape held_now result =
+    WhereTold before.tape tape (λ old new. EndsWith limit c before.held held_now result old.left new.left)
 
--- the run ended for want of memory, or at a sink that failed
-abbrev pub IsAborted : Ending → Type 0
-IsAborted result = (result ≡ Ending.WriteFault) ⊎ (result ≡ Ending.OutOfMemory)
+-- nothing more was asked of the source, which is at most one piece ahead
+abbrev pub Unasked : Option Tape → Option Tape → Type 0
+Unasked told tape = (pending : List ℕ) × (length pending ≤ CHUNK) × (told ≡ tape_behind pending tape)
 
--- all was put, or the run was aborted and some front of it was taken
-abbrev pub EndsPut : Ending → Ending → Option (List ℕ) → List ℕ → Option (List ℕ) → Type 0
-EndsPut result ending held out held_now =
-    ((result ≡ ending) × (held_now ≡ with_more held out)) ⊎ (IsAborted result × TookFront held held_now out)
+-- what came of the first line: it is a roster, and its script ended so; or it is none, and was refused; or memory
+-- was refused before
+abbrev pub EndsBehind : List ℕ → TalkState → Option Tape → Option (List ℕ) → Result (Unit {0}) Ending → Type 0
+EndsBehind line before tape held_now result =
+    ((r : RosterForm) × IsRosterLine line r × EndsTalk before.allowed (script_of (campaigns_of r) []) before tape held_now result)
+    ⊎ ((((r : RosterForm) → IsRosterLine line r → ⊥) × Unasked before.tape tape × PutsEnd before.held held_now (before.out ++ roster_refused_line) (Err Ending.Refused) result)
+    ⊎ (Unasked before.tape tape × (held_now ≡ before.held) × (result ≡ Err (Ending.Stopped Stop.OutOfMemory))))
 
--- the same of what was to be put, and these bytes behind it
-abbrev pub EndsAs : Ending → Ending → Option (List ℕ) → List ℕ → List ℕ → Option (List ℕ) → Type 0
-EndsAs result ending held out produced held_now = EndsPut result ending held (out ++ produced) held_now
+-- a source that tells its bytes goes on to do so, and any other doesn't begin to
+abbrev pub TellsOn : Option Tape → Option Tape → Type 0
+TellsOn old new = WhereTold old new (λ _ _. Unit {0})

@@ -1,11 +1,10 @@
-ghost use Rattle.std.specs.Prelude.{◌≡◌, ◌&&◌, ℕ, List, [], ◌∷◌, ◌<◌, ◌≤◌, ◌^◌, map, if◌then◌else◌, None, IfSome, option_map, option_copied, nat_le, length, IfOk, MatchOption, true, false, Some};
+//! Admission of bids, the texts that are kept of them, and the ask that the parts of a line make.
+ghost use Rattle.std.specs.Prelude.{◌≡◌, [], ◌∷◌, ◌<◌, ◌≤◌, ◌^◌, map, if◌then◌else◌, None, IfSome, option_map, option_copied, length, IfOk, MatchOption, true, false, Some};
 ghost use Rattle.sha2.specs.Sha256.{sha256};
-ghost use Rattle.adx_units.specs.Number.{digits_value};
-ghost use Rattle.adx_units.specs.Money.{units, price_of as price_of_text};
 ghost use Rattle.adx_json.specs.Spelling.{spelling};
 ghost use Rattle.adx_json.specs.View.{tree_of, trees_of};
-ghost use Rattle.adx.specs.Forms.{offer_of, offer_by, refused as refused_offer, admitted as admitted_offer, campaign_place as campaign_place_of, floor_units_of};
-ghost use Rattle.adx.specs.AskParts.{outline_of, is_outline as is_outline_of, is_floor as is_floor_of, ask_of_outline, bid_in, bids_in};
+ghost use Rattle.adx.specs.Forms.{kept_by, kept_of as kept_texts_of, offer_of, offer_by, refused as refused_offer, admitted as admitted_offer, campaign_place as campaign_place_of, floor_units_of};
+ghost use Rattle.adx.specs.AskParts.{outline_of, is_floor as is_floor_of, ask_of_outline, bid_in, bids_in};
 ghost use Rattle.adx.specs.AskHead.{IsHeadOf, ask_with};
 ghost use Rattle.adx.specs.RosterParts.{is_id as is_id_text};
 
@@ -16,7 +15,7 @@ use adx_units::{
     ADMITTED, Id, Offer, OutOfMemory, PriceFault, Sequence, Text, Units, floor_of, price_of,
     whole_up_to,
 };
-use narrow_day::Ask;
+use day_rules::{Ask, Kept};
 use sha2::{Digest, Sha256};
 use std::alloc::Global;
 
@@ -186,14 +185,53 @@ fn head_of(alloc: Global, parts: AskParts<'_>) -> Result<Option<Head>, OutOfMemo
     }))
 }
 
-/// The ask of its head, its digest and its offers.
+/// A text without bytes.
+fn no_text(alloc: Global) -> Text
+    ensures { result ≡ [] }
+{
+    Text::from(String::new(alloc))
+}
+
+/// The texts that are kept of the bid at a place: the buyer's seat.
+fn kept_of(alloc: Global, seat: &Text, place: u32) -> Result<Kept, OutOfMemory>
+    ensures { IfOk result (λ k. k ≡ kept_texts_of seat.now place) }
+{
+    Ok(Kept {
+        bid: place,
+        seat: seat.copy(alloc)?,
+        bidid: no_text(alloc),
+        adid: no_text(alloc),
+        nurl: no_text(alloc),
+        burl: no_text(alloc),
+        lurl: no_text(alloc),
+        body: no_text(alloc),
+    })
+}
+
+/// The texts that are kept of all admitted bids.
+fn kept_texts(alloc: Global, seat: &Text, offers: &[Offer]) -> Result<Vec<Kept>, OutOfMemory>
+    requires { length offers.now ≤ 64 }
+    ensures { IfOk result (λ kept. kept.items ≡ kept_by seat.now offers.now) }
+{
+    let mut kept = Vec::new(alloc);
+    for (place, offer) in offers.iter().enumerate() {
+        if offer.reason == ADMITTED {
+            let texts = kept_of(alloc, seat, place as u32)?;
+            kept.push(texts)?;
+        }
+    }
+    Ok(kept)
+}
+
+/// The ask of its head, its digest, its offers and the texts that are kept of them.
 fn made_ask(
     alloc: Global,
     head: Head,
     digest: [u8; 32],
     offers: Vec<Offer>,
+    kept: Vec<Kept>,
 ) -> Result<Ask, OutOfMemory>
-    ensures { IfOk result (λ a. a ≡ ask_with head digest offers.items) }
+    ensures { IfOk result (λ a. a ≡ ask_with head digest offers.items kept.items) }
 {
     let Head {
         auction,
@@ -209,7 +247,7 @@ fn made_ask(
         first: 0,
         imps,
         offers: Sequence::from(offers),
-        kept: Sequence::from(Vec::new(alloc)),
+        kept: Sequence::from(kept),
     })
 }
 
@@ -231,6 +269,7 @@ pub(crate) fn ask_of_parts(
     else {
         return Ok(None);
     };
+    let kept = kept_texts(alloc, parts.seat, offers.as_slice())?;
     let digest = digest_of(alloc, parts.request)?;
-    Ok(Some(made_ask(alloc, head, digest, offers)?))
+    Ok(Some(made_ask(alloc, head, digest, offers, kept)?))
 }

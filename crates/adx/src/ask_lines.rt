@@ -1,23 +1,26 @@
-ghost use Rattle.std.specs.Prelude.{◌≡◌, ◌==◌, ◌+◌, ◌<◌, ◌^◌, ◌&&◌, if◌then◌else◌, ◌∷◌, ◌++◌, [], List, ℕ, map, filter, length, decimal, slice_index_or, slice_get, OnOk, IfOk, string_bytes, vec_len};
+//! The line of each answer of the day, from the history that its call left.
+ghost use Rattle.std.specs.Prelude.{◌≡◌, ◌+◌, ◌<◌, ◌^◌, ◌++◌, [], map, length, decimal, slice_index_or, slice_get, OnOk, IfOk, string_bytes};
 ghost use Rattle.std.specs.List.{enumerate_from, join_with_byte};
 ghost use Rattle.adx_json.specs.Spelling.{text_spelling};
-ghost use Rattle.narrow_day.specs.Books.{awarded_offers};
-ghost use Rattle.adx.specs.Output.{sold_offers, award_text, awards_text, reasons_of, reasons_text, comma_behind, awarded_line, nosale_line, ask_line, entry_line, ask_answer_line, no_campaign};
-ghost use Rattle.narrow_day.specs.Replies.{is_awarded};
+ghost use Rattle.day_rules.specs.Books.{awarded_offers};
+ghost use Rattle.adx.specs.Output.{sold_offers, award_text, awards_text, reasons_of, comma_behind, awarded_line, nosale_line, ask_line, entry_line, answer_line as answer_line_of, asked_line, repeat_line, no_campaign};
+ghost use Rattle.day_rules.specs.Entries.{asked};
+ghost use Rattle.day_rules.specs.Replies.{is_awarded};
 
-use crate::output::{push, push_day_full, push_number, push_reused};
+use crate::output::{push, push_conflict, push_day_full, push_reused, push_ticked};
 use crate::roster::Campaign;
-use adx_json::push_text;
+use adx_json::{push_comma, push_number, push_text};
 use adx_units::{Offer, OutOfMemory};
-use narrow_day::{Answer, Ask, Entry};
+use allocator_core::AWARDED;
+use day_rules::{Answer, Ask, Entry};
 use std::alloc::Global;
 
 /// Adds the awarded offers of an impression.
 fn add_awarded(found: &mut Vec<Offer>, ask: &Ask, imp: usize) -> Result<(), OutOfMemory>
-    ensures { OnOk result (found.new.items ≡ found.old.items ++ awarded_offers ask.entry.now imp) }
+    ensures { OnOk result (found.new.items ≡ found.old.items ++ awarded_offers ask.entry.now.offers imp) }
 {
     for offer in ask.offers.as_slice() {
-        if offer.reason == 0 && offer.imp as usize == imp {
+        if offer.reason == AWARDED && offer.imp as usize == imp {
             found.push(*offer)?;
         }
     }
@@ -85,16 +88,6 @@ fn push_award(
     push(out, "}")
 }
 
-/// Writes a comma, but before the first of several.
-fn push_comma(out: &mut String, place: usize) -> Result<(), OutOfMemory>
-    ensures { OnOk result (string_bytes out.new ≡ string_bytes out.old ++ comma_behind place) }
-{
-    if place > 0 {
-        push(out, ",")?;
-    }
-    Ok(())
-}
-
 /// Writes the next of several awards.
 fn push_next_award(
     out: &mut String,
@@ -107,7 +100,7 @@ fn push_next_award(
     requires { place < 2 ^ 63 }
     ensures { OnOk result (string_bytes out.new ≡ string_bytes out.old ++ (comma_behind place ++ award_text campaigns.now ask.entry.now (first + place, offer.now))) }
 {
-    push_comma(out, place)?;
+    push_comma(out, place == 0)?;
     push_award(out, campaigns, ask, u64::from(first) + place as u64, offer)
 }
 
@@ -145,7 +138,7 @@ fn push_awards(
 fn push_next_reason(out: &mut String, place: usize, offer: &Offer) -> Result<(), OutOfMemory>
     ensures { OnOk result (string_bytes out.new ≡ string_bytes out.old ++ (comma_behind place ++ decimal offer.now.reason)) }
 {
-    push_comma(out, place)?;
+    push_comma(out, place == 0)?;
     push_number(out, u64::from(offer.reason))
 }
 
@@ -193,7 +186,10 @@ fn push_no_sale(out: &mut String, ask: &Ask) -> Result<(), OutOfMemory>
 fn has_winner(ask: &Ask) -> bool
     ensures { result ≡ is_awarded ask.entry.now }
 {
-    ask.offers.as_slice().iter().any(|offer| offer.reason == 0)
+    ask.offers
+        .as_slice()
+        .iter()
+        .any(|offer| offer.reason == AWARDED)
 }
 
 /// Writes the line of an ask as it stands in the history.
@@ -212,8 +208,32 @@ fn push_ask(
     }
 }
 
-/// Writes the line of the ask at a place of the history.
-pub(crate) fn push_entry(
+/// Writes the line of a repeated notice.
+fn push_repeat(out: &mut String) -> Result<(), OutOfMemory>
+    ensures { OnOk result (string_bytes out.new ≡ string_bytes out.old ++ repeat_line) }
+{
+    push(out, "{\"answer\":\"repeat\"}\n")
+}
+
+/// Writes the line of an entry of the history: of an ask its own, and else that of a repeated notice.
+fn push_asked(
+    alloc: Global,
+    out: &mut String,
+    campaigns: &[Campaign],
+    entry: &Entry,
+) -> Result<(), OutOfMemory>
+    ensures { OnOk result (string_bytes out.new ≡ string_bytes out.old ++ asked_line campaigns.now (asked entry.entry.now)) }
+{
+    match entry {
+        Entry::Ask(ask) => push_ask(alloc, out, campaigns, ask),
+        Entry::Win { .. } | Entry::Bill { .. } | Entry::Loss { .. } | Entry::Expire { .. } => {
+            push_repeat(out)
+        }
+    }
+}
+
+/// Writes the line of the entry at a place of the history.
+fn push_entry(
     alloc: Global,
     out: &mut String,
     campaigns: &[Campaign],
@@ -223,13 +243,12 @@ pub(crate) fn push_entry(
     ensures { OnOk result (string_bytes out.new ≡ string_bytes out.old ++ entry_line campaigns.now (slice_get entries.now place)) }
 {
     match entries.get(place as usize) {
-        Some(Entry::Ask(ask)) => push_ask(alloc, out, campaigns, ask),
-        Some(Entry::Bill { award: _ }) => Ok(()),
+        Some(entry) => push_asked(alloc, out, campaigns, entry),
         None => Ok(()),
     }
 }
 
-/// Writes the line of an answer to an ask, from the history that it left.
+/// Writes the line of an answer, from the history that its call left.
 pub(crate) fn push_answer(
     alloc: Global,
     out: &mut String,
@@ -237,14 +256,16 @@ pub(crate) fn push_answer(
     entries: &[Entry],
     answer: Answer,
 ) -> Result<(), OutOfMemory>
-    ensures { OnOk result (string_bytes out.new ≡ string_bytes out.old ++ ask_answer_line campaigns.now entries.now answer) }
+    ensures { OnOk result (string_bytes out.new ≡ string_bytes out.old ++ answer_line_of campaigns.now entries.now answer) }
 {
     match answer {
         Answer::Awarded { entry } => push_entry(alloc, out, campaigns, entries, entry),
         Answer::NoSale { entry } => push_entry(alloc, out, campaigns, entries, entry),
-        Answer::Repeat { entry } => push_entry(alloc, out, campaigns, entries, entry),
         Answer::Counted => push(out, "{\"answer\":\"counted\"}\n"),
+        Answer::Repeat { entry } => push_entry(alloc, out, campaigns, entries, entry),
+        Answer::Conflict { kept } => push_conflict(out, kept),
         Answer::Unknown => push(out, "{\"answer\":\"unknown\"}\n"),
+        Answer::Ticked { ended } => push_ticked(out, ended),
         Answer::Reused { kept_digest, given } => push_reused(alloc, out, &kept_digest, &given),
         Answer::DayFull { which, count } => push_day_full(out, which, count),
     }

@@ -1,4 +1,5 @@
-ghost use Rattle.std.specs.Prelude.{◌≡◌, ℕ, List, option_map, option_copied};
+//! The parts of an ask line, as they lie in its value.
+ghost use Rattle.std.specs.Prelude.{◌≡◌, option_map, option_copied};
 ghost use Rattle.adx_json.specs.View.{tree_of, trees_of, members_view};
 ghost use Rattle.adx.specs.AskParts.{floor_in, imp_in, request_in, seat_in, answer_in, ask_in, bid_in, outline_of, bid_form};
 

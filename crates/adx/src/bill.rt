@@ -1,4 +1,5 @@
-ghost use Rattle.std.specs.Prelude.{◌≡◌, ℕ, List, IfOk, option_map};
+//! The bill of a bill line.
+ghost use Rattle.std.specs.Prelude.{◌≡◌, IfOk, option_map};
 ghost use Rattle.adx_json.specs.View.{tree_of};
 ghost use Rattle.adx.specs.BillParts.{bill_form, bill_in, award_in, bill_made};
 

@@ -1,29 +1,35 @@
-ghost use Rattle.std.specs.Prelude.{◌≡◌, ◌≢◌, ◌*◌, ℕ, List, [], ◌≤◌, ◌++◌, Bool, false, OnOk, IfOk, IfSome, option_map, string_bytes};
+//! The command `day`, from its roster line to its closing table.
+ghost use Rattle.std.specs.Prelude.{◌≡◌, ◌≢◌, ◌≤◌, ◌++◌, List, ℕ, [], length, IfOk, IfSome, OnOk, Ok, Err, option_map, string_bytes};
+ghost use Rattle.adx_io.specs.Lines.{Keeps};
 ghost use Rattle.adx_io.specs.Streams.{Rises};
-ghost use Rattle.adx.specs.Lines.{Keeps, work_left, input_limit};
+ghost use Rattle.adx_io.specs.TalkState.{state_of, place_of};
+ghost use Rattle.adx_io.specs.declared.stop.Stop.TheVariants.{ReadFault, WriteFault};
+ghost use Rattle.adx.specs.declared.ending.Ending.TheVariants.{Stopped, Refused};
+ghost use Rattle.adx_io.specs.declared.line_buffer.TheConstants.{CHUNK};
+ghost use Rattle.adx.specs.declared.limits.TheConstants.{INPUT_LIMIT as input_limit, LINE_LIMIT as line_limit};
+ghost use Rattle.adx.specs.Endings.{Ends};
 ghost use Rattle.adx.specs.Output.{roster_refused_line};
 ghost use Rattle.adx.specs.Reads.{AreSized, ReadsRoster};
-ghost use Rattle.adx.specs.Running.{EndsAs};
-ghost use Rattle.adx.specs.Script.{Ends};
-ghost use Rattle.adx.specs.FirstLine.{EndsBehind, TellsOn};
+ghost use Rattle.adx.specs.Running.{EndsTalk, EndsBehind, PutsEnd, TellsOn};
+ghost use Rattle.adx.specs.Script.{day};
+ghost use Rattle.adx.specs.Steps.{HasCauses};
 
 use crate::ending::Ending;
-use crate::input::Input;
+use crate::limits::{INPUT_LIMIT, LINE_LIMIT};
 use crate::line::read_roster;
 use crate::output::push;
-use crate::reading::{Next, next_line};
 use crate::roster::Campaign;
-use crate::script::{end_with, run_day};
-use adx_io::{Sink, Source};
+use crate::script::{put_end, run_day};
+use adx_io::{LineBuffer, Next, Sink, Source, Talk};
 use adx_units::OutOfMemory;
 use std::alloc::Global;
 
 /// The campaigns of the roster line that was read; None exactly where the line isn't a roster's.
-fn first_roster(alloc: Global, input: &Input) -> Result<Option<Vec<Campaign>>, OutOfMemory>
-    ensures reads { IfOk result (λ found. (line : List ℕ) → Keeps input.now.overlong input.now.line line → ReadsRoster line (option_map (λ v. v.items) found)) }
+fn first_roster(alloc: Global, buffer: &LineBuffer) -> Result<Option<Vec<Campaign>>, OutOfMemory>
+    ensures reads { IfOk result (λ found. (line : List ℕ) → Keeps line_limit buffer.now.overlong buffer.now.line line → ReadsRoster line (option_map (λ v. v.items) found)) }
     ensures sized { IfOk result (λ found. IfSome (option_map (λ v. v.items) found) AreSized) }
 {
-    match input.line() {
+    match buffer.line() {
         Some(line) => {
             let found = read_roster(alloc, line)?;
             Ok(found)
@@ -40,80 +46,66 @@ fn push_roster_refused(out: &mut String) -> Result<(), OutOfMemory>
 }
 
 /// Ends an input whose first line isn't a roster.
-fn refuse_roster<K: Sink>(sink: &mut K, out: &mut String) -> Ending
-    ensures ends { EndsAs result Ending.Refused (K.held sink.old) (string_bytes out.old) roster_refused_line (K.held sink.new) }
-    ensures later { K.faults sink.old ≤ K.faults sink.new }
-    ensures fault { result ≡ Ending.WriteFault → Rises (K.faults sink.old) (K.faults sink.new) }
-    ensures other { result ≢ Ending.ReadFault }
+fn refuse_roster<S: Source, K: Sink>(talk: &mut Talk<'_, S, K>) -> Result<(), Ending>
+    ensures ends { PutsEnd (state_of talk.old).held (state_of talk.new).held ((state_of talk.old).out ++ roster_refused_line) (Err Refused) result }
+    ensures rest { (talk.new.source ≡ talk.old.source) × (talk.new.buffer ≡ talk.old.buffer) }
+    ensures causes { HasCauses (state_of talk.old) (state_of talk.new) result }
+    ensures same { place_of talk.new ≡ place_of talk.old }
 {
-    match push_roster_refused(out) {
-        Ok(()) => end_with(sink, out, Ending::Refused),
-        Err(_) => Ending::OutOfMemory,
-    }
+    push_roster_refused(talk.out)?;
+    put_end(talk, Err(Ending::Refused))
 }
 
-/// Serves the day of the roster line that was read.
-fn serve_roster<S: Source, K: Sink>(
-    alloc: Global,
-    input: &mut Input,
-    source: &mut S,
-    sink: &mut K,
-    out: &mut String,
-) -> Ending
-    requires work { work_left input.old ≤ 2 * input_limit }
-    requires within { input.old.taken ≤ input_limit }
-    ensures ends { (line : List ℕ) → Keeps input.old.overlong input.old.line line
-        → EndsBehind line input.old (S.tape source.old) (S.tape source.new) (K.held sink.old) (string_bytes out.old) (K.held sink.new) result }
-    ensures tells { TellsOn (S.tape source.old) (S.tape source.new) }
-    ensures source_later { S.faults source.old ≤ S.faults source.new }
-    ensures sink_later { K.faults sink.old ≤ K.faults sink.new }
-    ensures read_fault { result ≡ Ending.ReadFault → Rises (S.faults source.old) (S.faults source.new) }
-    ensures write_fault { result ≡ Ending.WriteFault → Rises (K.faults sink.old) (K.faults sink.new) }
+/// Serves the day of the roster line that was read, or refuses it.
+fn serve_roster<S: Source, K: Sink>(alloc: Global, talk: &mut Talk<'_, S, K>) -> Result<(), Ending>
+    requires unwritten { (state_of talk.old).out ≡ [] }
+    requires within { (state_of talk.old).allowed ≤ input_limit }
+    requires ahead { length talk.old.buffer.now.pending ≤ CHUNK }
+    ensures ends { (line : List ℕ) → Keeps line_limit talk.old.buffer.now.overlong talk.old.buffer.now.line line
+        → EndsBehind line (state_of talk.old) (S.tape talk.new.source.now) (K.held talk.new.sink.now) result }
+    ensures tells { TellsOn (state_of talk.old).tape (S.tape talk.new.source.now) }
+    ensures causes { HasCauses (state_of talk.old) (state_of talk.new) result }
+    ensures same { place_of talk.new ≡ place_of talk.old }
 {
-    match first_roster(alloc, input) {
-        Ok(Some(campaigns)) => run_day(alloc, campaigns.as_slice(), input, source, sink, out),
-        Ok(None) => refuse_roster(sink, out),
-        Err(_) => Ending::OutOfMemory,
+    match first_roster(alloc, talk.buffer)? {
+        Some(campaigns) => run_day(alloc, campaigns.as_slice(), talk),
+        None => refuse_roster(talk),
     }
 }
 
 /// Reads the roster line, and serves its day.
-fn serve_input<S: Source, K: Sink>(
-    alloc: Global,
-    input: &mut Input,
-    source: &mut S,
-    sink: &mut K,
-    out: &mut String,
-) -> Ending
-    requires input { input.old ≡ record { line = []; overlong = false; pending = []; taken = 0 } }
-    requires out { string_bytes out.old ≡ [] }
-    ensures ends { Ends (S.tape source.old) (S.tape source.new) (K.held sink.old) (K.held sink.new) result }
-    ensures source_later { S.faults source.old ≤ S.faults source.new }
-    ensures sink_later { K.faults sink.old ≤ K.faults sink.new }
-    ensures read_fault { result ≡ Ending.ReadFault → Rises (S.faults source.old) (S.faults source.new) }
-    ensures write_fault { result ≡ Ending.WriteFault → Rises (K.faults sink.old) (K.faults sink.new) }
+fn serve<S: Source, K: Sink>(alloc: Global, talk: &mut Talk<'_, S, K>) -> Result<(), Ending>
+    requires unwritten { (state_of talk.old).out ≡ [] }
+    requires whole { (state_of talk.old).allowed ≡ input_limit }
+    ensures ends { EndsTalk input_limit day (state_of talk.old) (S.tape talk.new.source.now) (K.held talk.new.sink.now) result }
+    ensures causes { HasCauses (state_of talk.old) (state_of talk.new) result }
+    ensures same { place_of talk.new ≡ place_of talk.old }
 {
-    match next_line(input, source, sink, out) {
-        Next::Line => serve_roster(alloc, input, source, sink, out),
-        Next::End => refuse_roster(sink, out),
-        Next::PastLimit => refuse_roster(sink, out),
-        Next::ReadFault => Ending::ReadFault,
-        Next::WriteFault => Ending::WriteFault,
-        Next::OutOfMemory => Ending::OutOfMemory,
+    match talk.next_line(LINE_LIMIT)? {
+        Next::Line => serve_roster(alloc, talk),
+        Next::End => refuse_roster(talk),
+        Next::PastLimit => refuse_roster(talk),
     }
 }
 
 /// Serves a day from its roster line to its closing table.
-pub(crate) fn serve_day<S: Source, K: Sink>(alloc: Global, source: &mut S, sink: &mut K) -> Ending
-    ensures ends { Ends (S.tape source.old) (S.tape source.new) (K.held sink.old) (K.held sink.new) result }
+pub(crate) fn serve_day<S: Source, K: Sink>(
+    alloc: Global,
+    source: &mut S,
+    sink: &mut K,
+) -> Result<(), Ending>
+    ensures ends { Ends input_limit day (S.tape source.old) (S.tape source.new) (K.held sink.old) (K.held sink.new) result }
+    ensures read_fault { result ≡ Err (Stopped ReadFault) → Rises (S.faults source.old) (S.faults source.new) }
+    ensures read_passed { result ≢ Err (Stopped ReadFault) → S.faults source.new ≡ S.faults source.old }
+    ensures write_fault { result ≡ Err (Stopped WriteFault) → Rises (K.faults sink.old) (K.faults sink.new) }
+    ensures write_passed { result ≢ Err (Stopped WriteFault) → K.faults sink.new ≡ K.faults sink.old }
     ensures source_later { S.faults source.old ≤ S.faults source.new }
     ensures sink_later { K.faults sink.old ≤ K.faults sink.new }
-    ensures read_fault { result ≡ Ending.ReadFault → Rises (S.faults source.old) (S.faults source.new) }
-    ensures write_fault { result ≡ Ending.WriteFault → Rises (K.faults sink.old) (K.faults sink.new) }
+    ensures source_same { S.place source.new ≡ S.place source.old }
+    ensures sink_same { K.place sink.new ≡ K.place sink.old }
 {
+    let mut buffer = LineBuffer::new(alloc)?;
     let mut out = String::new(alloc);
-    match Input::new(alloc) {
-        Ok(mut input) => serve_input(alloc, &mut input, source, sink, &mut out),
-        Err(_) => Ending::OutOfMemory,
-    }
+    let mut talk = Talk::over(source, sink, &mut buffer, &mut out, INPUT_LIMIT);
+    serve(alloc, &mut talk)
 }

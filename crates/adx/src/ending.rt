@@ -1,32 +1,64 @@
+//! How a command ends, and the exit status that tells it.
 ghost use Rattle.std.specs.Prelude.{◌≡◌};
-ghost use Rattle.adx.specs.Commands.{status_of};
+ghost use Rattle.adx.specs.declared.ending.Ending.TheVariants.{Stopped as StoppedBy};
+ghost use Rattle.adx_io.specs.declared.stop.Stop.TheVariants.{OutOfMemory as NoMemory};
+ghost use Rattle.adx.specs.Endings.{status_of as status_by};
 
-/// How a run of the program ends, which is its exit status.
+use adx_io::Stop;
+use adx_units::OutOfMemory;
+
+/// The status where the input was read to its end.
+const DONE: u8 = 0;
+
+/// The status where the words aren't a command.
+pub(crate) const NO_COMMAND: u8 = 2;
+
+/// The status where the input isn't of its form, or passes its limit.
+const REFUSED: u8 = 3;
+
+/// The status where the source failed.
+const READ_FAULT: u8 = 4;
+
+/// The status where the sink failed.
+pub(crate) const WRITE_FAULT: u8 = 5;
+
+/// The status where memory was refused.
+pub(crate) const OUT_OF_MEMORY: u8 = 12;
+
+/// Why a command ends before the end of its input.
 #[derive(Clone, Copy, Debug, PartialEq, Eq)]
 pub enum Ending {
-    /// The input was read to its end.
-    Done,
     /// The input isn't of its form, or passes its limit.
     Refused,
-    /// The source failed.
-    ReadFault,
-    /// The sink failed.
-    WriteFault,
-    /// Memory was refused.
-    OutOfMemory,
+    /// A fault of the source or the sink, or want of memory.
+    Stopped(Stop),
 }
 
-impl Ending {
-    /// The exit status.
-    pub fn status(self) -> u8
-        ensures { result ≡ status_of self }
-    {
-        match self {
-            Ending::Done => 0,
-            Ending::Refused => 3,
-            Ending::ReadFault => 4,
-            Ending::WriteFault => 5,
-            Ending::OutOfMemory => 12,
-        }
+impl From<Stop> for Ending {
+    ghost from_gives = { λ s e. e ≡ StoppedBy s };
+
+    fn from(stop: Stop) -> Ending {
+        Ending::Stopped(stop)
+    }
+}
+
+impl From<OutOfMemory> for Ending {
+    ghost from_gives = { λ _ e. e ≡ StoppedBy NoMemory };
+
+    fn from(_refused: OutOfMemory) -> Ending {
+        Ending::Stopped(Stop::OutOfMemory)
+    }
+}
+
+/// The exit status of a command that ended so.
+pub fn status_of(ended: Result<(), Ending>) -> u8
+    ensures { result ≡ status_by ended }
+{
+    match ended {
+        Ok(()) => DONE,
+        Err(Ending::Refused) => REFUSED,
+        Err(Ending::Stopped(Stop::ReadFault)) => READ_FAULT,
+        Err(Ending::Stopped(Stop::WriteFault)) => WRITE_FAULT,
+        Err(Ending::Stopped(Stop::OutOfMemory)) => OUT_OF_MEMORY,
     }
 }

@@ -1,6 +1,7 @@
+//! What a line is: a roster, an ask, a bill, or none of them.
 ghost use Rattle.std.specs.Prelude.{◌≡◌, ◌≤◌, length, option_map, IfOk, IfSome};
 ghost use Rattle.adx_json.specs.View.{tree_of};
-ghost use Rattle.adx.specs.Lines.{line_limit};
+ghost use Rattle.adx.specs.declared.limits.TheConstants.{LINE_LIMIT};
 ghost use Rattle.adx.specs.AskParts.{ask_made};
 ghost use Rattle.adx.specs.Reads.{IsPlainValue, IsReadyLine, AreSized, ReadsLine, MakesLine, ReadsRoster};
 
@@ -11,7 +12,7 @@ use crate::roster::{Campaign, roster};
 use adx_json::plain::PlainFault;
 use adx_json::{Json, plain};
 use adx_units::OutOfMemory;
-use narrow_day::Ask;
+use day_rules::Ask;
 use std::alloc::Global;
 
 /// What a line of a script is.
@@ -70,16 +71,15 @@ fn script_line(
     }
 }
 
-/// What a line of a script is: an ask exactly where it is an ask's, and a bill exactly where it is a
-/// bill's.
+/// What a line of a script is, within the limit of a line: an ask exactly where it is an ask's, and a
+/// bill exactly where it is a bill's.
 pub(crate) fn read_line(
     alloc: Global,
     campaigns: &[Campaign],
     line: &[u8],
 ) -> Result<ScriptLine, OutOfMemory>
-    requires few { length campaigns.now ≤ 1024 }
-    requires short { length line.now ≤ line_limit }
-    ensures reads { IfOk result (ReadsLine campaigns.now line.now) }
+    requires { length campaigns.now ≤ 1024 }
+    ensures reads { IfOk result (λ found. length line.now ≤ LINE_LIMIT → ReadsLine campaigns.now line.now found) }
     ensures ready { IfOk result (IsReadyLine (length campaigns.now)) }
 {
     match plain_value(alloc, line)? {
@@ -91,10 +91,9 @@ pub(crate) fn read_line(
     }
 }
 
-/// The campaigns of a roster line; None exactly where the line isn't a roster's.
+/// The campaigns of a roster line, within the limit of a line; None exactly where it isn't a roster's.
 pub(crate) fn read_roster(alloc: Global, line: &[u8]) -> Result<Option<Vec<Campaign>>, OutOfMemory>
-    requires { length line.now ≤ line_limit }
-    ensures reads { IfOk result (λ found. ReadsRoster line.now (option_map (λ v. v.items) found)) }
+    ensures reads { IfOk result (λ found. length line.now ≤ LINE_LIMIT → ReadsRoster line.now (option_map (λ v. v.items) found)) }
     ensures sized { IfOk result (λ found. IfSome (option_map (λ v. v.items) found) AreSized) }
 {
     match plain_value(alloc, line)? {

@@ -2,7 +2,8 @@
 //!
 //! The call `adx` of the module `command` does all that the program does, from the words of its command
 //! line and the bytes of a source to those of a sink; its contract is the program's. It stands on
-//! `narrow_day`, which holds a day's books, and on `adx_json`, `adx_io` and `adx_units`.
+//! `day_machine`, which holds a day, on `day_rules`, which says what a day means, and on `adx_json`,
+//! `adx_io` and `adx_units`.
 #![tactic(auto)]
 
 mod answering;
@@ -13,12 +14,10 @@ mod bill;
 mod command;
 mod day;
 mod ending;
-mod flush;
-mod input;
+mod limits;
 mod line;
 mod output;
 mod parts;
-mod reading;
 mod roster;
 mod script;
 mod table;
@@ -26,6 +25,7 @@ mod table;
 mod tests;
 
 use crate::command::adx;
+use crate::ending::{OUT_OF_MEMORY, WRITE_FAULT};
 use adx_io::{StdSink, StdSource};
 use adx_units::Text;
 use std::io;
@@ -42,12 +42,6 @@ usage: adx day
 
 /// What `--version` prints.
 const VERSION: &str = "adx 0.1.0\n";
-
-/// The exit status where the sink failed.
-const WRITE_FAULT: u8 = 5;
-
-/// The exit status where memory was refused.
-const OUT_OF_MEMORY: u8 = 12;
 
 /// The words behind the program's name.
 fn words_of(rt: &HostRuntime) -> io::Result<Vec<Text>> {

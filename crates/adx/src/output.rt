@@ -1,11 +1,13 @@
-ghost use Rattle.std.specs.Prelude.{◌≡◌, ℕ, ◌+◌, ◌<◌, ◌≤◌, ◌++◌, codes, decimal, length, OnOk, string_bytes};
+//! The lines of answers that no entry is needed for.
+ghost use Rattle.std.specs.Prelude.{◌≡◌, ◌+◌, ◌++◌, OnOk, string_bytes};
 ghost use Rattle.hex.specs.Hex.{encode_lower};
-ghost use Rattle.adx.specs.Output.{refused_line, toolong_line, dayfull_line, which_text, reused_line};
+ghost use Rattle.adx.specs.Output.{refusal_line, dayfull_line, which_text, reused_line, end_text, conflict_line, ticked_line};
 
+use adx_json::{push_number, push_text};
 use adx_units::OutOfMemory;
+use day_rules::Which;
 use hex::encode;
-use itoa::Buffer;
-use narrow_day::Which;
+use notice_book::End;
 use std::alloc::Global;
 
 /// Writes a text as it is.
@@ -16,30 +18,15 @@ pub(crate) fn push(out: &mut String, text: &str) -> Result<(), OutOfMemory>
     Ok(())
 }
 
-/// Writes a number in decimal.
-pub(crate) fn push_number(out: &mut String, number: u64) -> Result<(), OutOfMemory>
-    ensures { OnOk result (string_bytes out.new ≡ string_bytes out.old ++ decimal number) }
-{
-    let mut buffer = Buffer::new();
-    push(out, buffer.format(number))
-}
-
-/// Writes the line of a script line that isn't of its form.
-pub(crate) fn push_refused(out: &mut String, number: u64) -> Result<(), OutOfMemory>
-    ensures { OnOk result (string_bytes out.new ≡ string_bytes out.old ++ refused_line number) }
+/// Writes the line of a refused line, by its number and why.
+pub(crate) fn push_refusal(out: &mut String, number: u64, why: &str) -> Result<(), OutOfMemory>
+    ensures { OnOk result (string_bytes out.new ≡ string_bytes out.old ++ refusal_line number why.now) }
 {
     push(out, "{\"answer\":\"refused\",\"line\":")?;
     push_number(out, number)?;
-    push(out, ",\"why\":\"form\"}\n")
-}
-
-/// Writes the line in which the input passes its limit.
-pub(crate) fn push_too_long(out: &mut String, number: u64) -> Result<(), OutOfMemory>
-    ensures { OnOk result (string_bytes out.new ≡ string_bytes out.old ++ toolong_line number) }
-{
-    push(out, "{\"answer\":\"refused\",\"line\":")?;
-    push_number(out, number)?;
-    push(out, ",\"why\":\"toolong\"}\n")
+    push(out, ",\"why\":")?;
+    push_text(out, why)?;
+    push(out, "}\n")
 }
 
 fn push_which(out: &mut String, which: Which) -> Result<(), OutOfMemory>
@@ -48,6 +35,7 @@ fn push_which(out: &mut String, which: Which) -> Result<(), OutOfMemory>
     match which {
         Which::Auctions => push(out, "auctions"),
         Which::Bids => push(out, "bids"),
+        Which::Text => push(out, "text"),
     }
 }
 
@@ -84,4 +72,32 @@ pub(crate) fn push_reused(
     push(out, "\",\"given\":\"")?;
     push_digest(alloc, out, given)?;
     push(out, "\"}\n")
+}
+
+fn push_end(out: &mut String, kept: End) -> Result<(), OutOfMemory>
+    ensures { OnOk result (string_bytes out.new ≡ string_bytes out.old ++ end_text kept) }
+{
+    match kept {
+        End::Billed => push(out, "billed"),
+        End::Lost => push(out, "lost"),
+        End::Expired => push(out, "expired"),
+    }
+}
+
+/// Writes the line of a notice that came too late, by how its award ended.
+pub(crate) fn push_conflict(out: &mut String, kept: End) -> Result<(), OutOfMemory>
+    ensures { OnOk result (string_bytes out.new ≡ string_bytes out.old ++ conflict_line kept) }
+{
+    push(out, "{\"answer\":\"conflict\",\"kept\":\"")?;
+    push_end(out, kept)?;
+    push(out, "\"}\n")
+}
+
+/// Writes the line of a tick, by how many awards it ended.
+pub(crate) fn push_ticked(out: &mut String, ended: u32) -> Result<(), OutOfMemory>
+    ensures { OnOk result (string_bytes out.new ≡ string_bytes out.old ++ ticked_line ended) }
+{
+    push(out, "{\"answer\":\"ticked\",\"ended\":")?;
+    push_number(out, u64::from(ended))?;
+    push(out, "}\n")
 }

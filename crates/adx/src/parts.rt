@@ -1,4 +1,5 @@
-ghost use Rattle.std.specs.Prelude.{◌≡◌, ℕ, List, option_map};
+//! A value taken apart, one member after another.
+ghost use Rattle.std.specs.Prelude.{◌≡◌, option_map};
 ghost use Rattle.adx_json.specs.View.{tree_of, trees_of, members_view};
 ghost use Rattle.adx.specs.Parts.{fields_in, items_in, text_in, number_in, next_in, end_in, only_in, next_text_in, next_number_in, next_only_in, next_items_in};
 

@@ -1,4 +1,5 @@
-ghost use Rattle.std.specs.Prelude.{◌≡◌, ◌&&◌, nat_le, ℕ, List, [], option_map, IfOk};
+//! The campaigns of a roster line.
+ghost use Rattle.std.specs.Prelude.{◌≡◌, ◌&&◌, nat_le, [], option_map, IfOk};
 ghost use Rattle.std.specs.List.{list_any};
 ghost use Rattle.adx_json.specs.View.{tree_of, trees_of};
 ghost use Rattle.adx.specs.Forms.{is_day as is_day_text};

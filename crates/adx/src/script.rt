@@ -1,30 +1,36 @@
-ghost use Rattle.std.specs.Prelude.{◌≡◌, ◌≢◌, ◌+◌, ◌*◌, ◌<◌, ◌≤◌, ◌++◌, ℕ, List, [], length, map, IfOk, OnOk, OnErr, string_bytes};
-ghost use Rattle.adx_io.specs.Streams.{Rises};
+//! The lines of a script, from the first to the closing table.
+ghost use Rattle.std.specs.Prelude.{◌≡◌, ◌≢◌, ◌+◌, ◌*◌, ◌<◌, ◌≤◌, ◌++◌, ℕ, List, [], length, map, IfOk, IfErr, OnOk, Ok, Err, string_bytes};
+ghost use Rattle.adx_io.specs.Lines.{Keeps};
+ghost use Rattle.adx_io.specs.TalkState.{state_of, place_of};
 ghost use Rattle.adx_units.specs.declared.units.Units.{Units};
 ghost use Rattle.adx.specs.declared.roster.Campaign.{Campaign};
-ghost use Rattle.adx.specs.Lines.{Keeps, work_left, input_limit};
-ghost use Rattle.adx.specs.Output.{closing_table, toolong_line};
-ghost use Rattle.adx.specs.Script.{terms_of, cut_line};
+ghost use Rattle.adx.specs.declared.ending.Ending.TheVariants.{Refused, Stopped};
+ghost use Rattle.adx_io.specs.declared.stop.Stop.TheVariants.{OutOfMemory as NoMemory};
+ghost use Rattle.adx_io.specs.declared.line_buffer.TheConstants.{CHUNK};
+ghost use Rattle.adx.specs.declared.limits.TheConstants.{INPUT_LIMIT as input_limit, LINE_LIMIT as line_limit};
+ghost use Rattle.adx.specs.Output.{toolong_line};
 ghost use Rattle.adx.specs.Reads.{AreSized};
-ghost use Rattle.adx.specs.Running.{ScriptEndsTold, EndsPut, EndsAs};
+ghost use Rattle.adx.specs.Running.{AnswersKept, EndsTalk, PutsEnd};
+ghost use Rattle.adx.specs.Script.{closing, cut_line, script_of, terms_by};
+ghost use Rattle.adx.specs.Steps.{HasCauses, IsAnswer};
 
 use crate::answering::answer_line;
 use crate::ending::Ending;
-use crate::flush::flush;
-use crate::input::Input;
-use crate::output::{push_refused, push_too_long};
-use crate::reading::{Next, next_line};
+use crate::limits::LINE_LIMIT;
+use crate::output::push_refusal;
 use crate::roster::Campaign;
 use crate::table::push_table;
-use adx_io::{Sink, Source};
+use adx_io::{LineBuffer, Next, Sink, Source, Talk};
 use adx_units::{OutOfMemory, Units};
-use narrow_day::{Day, DayLimits};
+use day_machine::Day;
+use day_rules::{DayLimits, MAX_AUCTIONS, MAX_BIDS, MAX_TEXT};
 use std::alloc::Global;
 
 /// The limits of a day whose roster states none.
 const LIMITS: DayLimits = DayLimits {
-    auctions: 1_000_000,
-    bids: 33_554_432,
+    auctions: MAX_AUCTIONS,
+    bids: MAX_BIDS,
+    text: MAX_TEXT,
 };
 
 fn budgets_of(alloc: Global, campaigns: &[Campaign]) -> Result<Vec<Units>, OutOfMemory>
@@ -40,7 +46,7 @@ fn budgets_of(alloc: Global, campaigns: &[Campaign]) -> Result<Vec<Units>, OutOf
 /// A day with these campaigns.
 fn open_day(alloc: Global, campaigns: &[Campaign]) -> Result<Day, OutOfMemory>
     requires { AreSized campaigns.now }
-    ensures terms { IfOk result (λ day. day.terms ≡ terms_of campaigns.now) }
+    ensures terms { IfOk result (λ day. day.terms ≡ terms_by campaigns.now) }
     ensures history { IfOk result (λ day. day.history ≡ []) }
 {
     let budgets = budgets_of(alloc, campaigns)?;
@@ -49,13 +55,13 @@ fn open_day(alloc: Global, campaigns: &[Campaign]) -> Result<Day, OutOfMemory>
 }
 
 /// Writes the refusal of a last piece without a newline, unless it is empty.
-fn push_cut(out: &mut String, number: u64, input: &Input) -> Result<(), OutOfMemory>
-    ensures { OnOk result ((line : List ℕ) → Keeps input.now.overlong input.now.line line → string_bytes out.new ≡ string_bytes out.old ++ cut_line number line) }
+fn push_cut(out: &mut String, number: u64, buffer: &LineBuffer) -> Result<(), OutOfMemory>
+    ensures { OnOk result ((line : List ℕ) → Keeps line_limit buffer.now.overlong buffer.now.line line → string_bytes out.new ≡ string_bytes out.old ++ cut_line number line) }
 {
-    match input.line() {
+    match buffer.line() {
         Some([]) => Ok(()),
         _ => {
-            push_refused(out, number)?;
+            push_refusal(out, number, "form")?;
             Ok(())
         }
     }
@@ -67,66 +73,81 @@ fn push_close(
     day: &Day,
     campaigns: &[Campaign],
     number: u64,
-    input: &Input,
+    buffer: &LineBuffer,
 ) -> Result<(), OutOfMemory>
-    requires sized { AreSized campaigns.now }
-    requires terms { day.now.terms ≡ terms_of campaigns.now }
-    ensures { OnOk result ((line : List ℕ) → Keeps input.now.overlong input.now.line line
-        → string_bytes out.new ≡ string_bytes out.old ++ (cut_line number line ++ closing_table campaigns.now day.now.history)) }
+    requires { day.now.terms ≡ terms_by campaigns.now }
+    ensures { OnOk result ((line : List ℕ) → Keeps line_limit buffer.now.overlong buffer.now.line line
+        → string_bytes out.new ≡ string_bytes out.old ++ closing campaigns.now number line day.now.history) }
 {
-    push_cut(out, number, input)?;
-    push_table(out, day, campaigns)?;
+    push_cut(out, number, buffer)?;
+    push_table(out, campaigns, day.book(), day.awards(), day.entries())?;
     Ok(())
 }
 
-/// Puts what was written into the sink, and ends.
-pub(crate) fn end_with<K: Sink>(sink: &mut K, out: &mut String, ending: Ending) -> Ending
-    requires { ending ≢ Ending.WriteFault }
-    ensures ends { EndsPut result ending (K.held sink.old) (string_bytes out.old) (K.held sink.new) }
-    ensures later { K.faults sink.old ≤ K.faults sink.new }
-    ensures fault { result ≡ Ending.WriteFault → Rises (K.faults sink.old) (K.faults sink.new) }
-    ensures other { ending ≢ Ending.ReadFault → result ≢ Ending.ReadFault }
+/// Puts what was written into the sink, and ends so.
+pub(crate) fn put_end<S: Source, K: Sink>(
+    talk: &mut Talk<'_, S, K>,
+    ending: Result<(), Ending>,
+) -> Result<(), Ending>
+    requires { IsAnswer ending }
+    ensures ends { PutsEnd (state_of talk.old).held (state_of talk.new).held (state_of talk.old).out ending result }
+    ensures rest { (talk.new.source ≡ talk.old.source) × (talk.new.buffer ≡ talk.old.buffer) × (talk.new.room ≡ talk.old.room) }
+    ensures causes { HasCauses (state_of talk.old) (state_of talk.new) result }
+    ensures same { place_of talk.new ≡ place_of talk.old }
 {
-    match flush(sink, out) {
-        Ok(()) => ending,
-        Err(_) => Ending::WriteFault,
-    }
+    talk.put_out()?;
+    ending
 }
 
 /// Ends a script that was read to its end.
-fn close<K: Sink>(
+fn close<S: Source, K: Sink>(
     campaigns: &[Campaign],
     day: &Day,
     number: u64,
-    input: &Input,
-    sink: &mut K,
-    out: &mut String,
-) -> Ending
-    requires sized { AreSized campaigns.now }
-    requires terms { day.now.terms ≡ terms_of campaigns.now }
-    ensures ends { (line : List ℕ) → Keeps input.now.overlong input.now.line line
-        → EndsAs result Ending.Done (K.held sink.old) (string_bytes out.old) (cut_line number line ++ closing_table campaigns.now day.now.history) (K.held sink.new) }
-    ensures later { K.faults sink.old ≤ K.faults sink.new }
-    ensures fault { result ≡ Ending.WriteFault → Rises (K.faults sink.old) (K.faults sink.new) }
-    ensures other { result ≢ Ending.ReadFault }
+    talk: &mut Talk<'_, S, K>,
+) -> Result<(), Ending>
+    requires { day.now.terms ≡ terms_by campaigns.now }
+    ensures ends { (line : List ℕ) → Keeps line_limit talk.old.buffer.now.overlong talk.old.buffer.now.line line
+        → PutsEnd (state_of talk.old).held (state_of talk.new).held ((state_of talk.old).out ++ closing campaigns.now number line day.now.history) (Ok tt) result }
+    ensures rest { (talk.new.source ≡ talk.old.source) × (talk.new.buffer ≡ talk.old.buffer) × (talk.new.room ≡ talk.old.room) }
+    ensures causes { HasCauses (state_of talk.old) (state_of talk.new) result }
+    ensures same { place_of talk.new ≡ place_of talk.old }
 {
-    match push_close(out, day, campaigns, number, input) {
-        Ok(()) => end_with(sink, out, Ending::Done),
-        Err(_) => Ending::OutOfMemory,
-    }
+    push_close(talk.out, day, campaigns, number, talk.buffer)?;
+    put_end(talk, Ok(()))
 }
 
 /// Ends a script that passes the limit of an input.
-fn refuse_rest<K: Sink>(number: u64, sink: &mut K, out: &mut String) -> Ending
-    ensures ends { EndsAs result Ending.Refused (K.held sink.old) (string_bytes out.old) (toolong_line number) (K.held sink.new) }
-    ensures later { K.faults sink.old ≤ K.faults sink.new }
-    ensures fault { result ≡ Ending.WriteFault → Rises (K.faults sink.old) (K.faults sink.new) }
-    ensures other { result ≢ Ending.ReadFault }
+fn refuse_rest<S: Source, K: Sink>(number: u64, talk: &mut Talk<'_, S, K>) -> Result<(), Ending>
+    ensures ends { PutsEnd (state_of talk.old).held (state_of talk.new).held ((state_of talk.old).out ++ toolong_line number) (Err Refused) result }
+    ensures rest { (talk.new.source ≡ talk.old.source) × (talk.new.buffer ≡ talk.old.buffer) × (talk.new.room ≡ talk.old.room) }
+    ensures causes { HasCauses (state_of talk.old) (state_of talk.new) result }
+    ensures same { place_of talk.new ≡ place_of talk.old }
 {
-    match push_too_long(out, number) {
-        Ok(()) => end_with(sink, out, Ending::Refused),
-        Err(_) => Ending::OutOfMemory,
-    }
+    push_refusal(talk.out, number, "toolong")?;
+    put_end(talk, Err(Ending::Refused))
+}
+
+/// Answers the line that was read last.
+fn answer_next<S: Source, K: Sink>(
+    alloc: Global,
+    campaigns: &[Campaign],
+    day: &mut Day,
+    number: u64,
+    talk: &mut Talk<'_, S, K>,
+) -> Result<(), Ending>
+    requires few { length campaigns.now ≤ 1024 }
+    requires terms { day.old.terms ≡ terms_by campaigns.now }
+    ensures terms { day.new.terms ≡ day.old.terms }
+    ensures answered { OnOk result (AnswersKept campaigns.now day.old.history number (state_of talk.old) (state_of talk.new).out day.new.history) }
+    ensures failed { IfErr result (λ e. e ≡ Stopped NoMemory) }
+    ensures state { state_of talk.new ≡ record (state_of talk.old) { out = (state_of talk.new).out } }
+    ensures rest { (talk.new.source ≡ talk.old.source) × (talk.new.buffer ≡ talk.old.buffer) }
+    ensures causes { HasCauses (state_of talk.old) (state_of talk.new) result }
+    ensures same { place_of talk.new ≡ place_of talk.old }
+{
+    answer_line(alloc, campaigns, day, number, talk.buffer, talk.out)?;
+    Ok(())
 }
 
 /// Answers the lines of a script on a day that begins, and closes it.
@@ -134,34 +155,26 @@ fn run_lines<S: Source, K: Sink>(
     alloc: Global,
     campaigns: &[Campaign],
     day: &mut Day,
-    input: &mut Input,
-    source: &mut S,
-    sink: &mut K,
-    out: &mut String,
-) -> Ending
+    talk: &mut Talk<'_, S, K>,
+) -> Result<(), Ending>
     requires sized { AreSized campaigns.now }
-    requires terms { day.old.terms ≡ terms_of campaigns.now }
+    requires terms { day.old.terms ≡ terms_by campaigns.now }
     requires begins { day.old.history ≡ [] }
-    requires work { work_left input.old ≤ 2 * input_limit }
-    requires within { input.old.taken ≤ input_limit }
-    ensures ends { ScriptEndsTold campaigns.now input.old (S.tape source.old) (S.tape source.new) (K.held sink.old) (string_bytes out.old) (K.held sink.new) result }
-    ensures source_later { S.faults source.old ≤ S.faults source.new }
-    ensures sink_later { K.faults sink.old ≤ K.faults sink.new }
-    ensures read_fault { result ≡ Ending.ReadFault → Rises (S.faults source.old) (S.faults source.new) }
-    ensures write_fault { result ≡ Ending.WriteFault → Rises (K.faults sink.old) (K.faults sink.new) }
+    requires unwritten { (state_of talk.old).out ≡ [] }
+    requires within { (state_of talk.old).allowed ≤ input_limit }
+    ensures ends { EndsTalk (state_of talk.old).allowed (script_of campaigns.now []) (state_of talk.old) (S.tape talk.new.source.now) (K.held talk.new.sink.now) result }
+    ensures causes { HasCauses (state_of talk.old) (state_of talk.new) result }
+    ensures same { place_of talk.new ≡ place_of talk.old }
 {
     let mut number: u64 = 2;
     'lines: loop {
-        match next_line(input, source, sink, out) {
-            Next::Line => match answer_line(alloc, campaigns, day, number, input, out) {
-                Ok(()) => number += 1,
-                Err(_) => return Ending::OutOfMemory,
-            },
-            Next::End => return close(campaigns, day, number, input, sink, out),
-            Next::PastLimit => return refuse_rest(number, sink, out),
-            Next::ReadFault => return Ending::ReadFault,
-            Next::WriteFault => return Ending::WriteFault,
-            Next::OutOfMemory => return Ending::OutOfMemory,
+        match talk.next_line(LINE_LIMIT)? {
+            Next::Line => {
+                answer_next(alloc, campaigns, day, number, talk)?;
+                number += 1;
+            }
+            Next::End => return close(campaigns, day, number, talk),
+            Next::PastLimit => return refuse_rest(number, talk),
         }
     }
 }
@@ -170,22 +183,16 @@ fn run_lines<S: Source, K: Sink>(
 pub(crate) fn run_day<S: Source, K: Sink>(
     alloc: Global,
     campaigns: &[Campaign],
-    input: &mut Input,
-    source: &mut S,
-    sink: &mut K,
-    out: &mut String,
-) -> Ending
+    talk: &mut Talk<'_, S, K>,
+) -> Result<(), Ending>
     requires sized { AreSized campaigns.now }
-    requires work { work_left input.old ≤ 2 * input_limit }
-    requires within { input.old.taken ≤ input_limit }
-    ensures ends { ScriptEndsTold campaigns.now input.old (S.tape source.old) (S.tape source.new) (K.held sink.old) (string_bytes out.old) (K.held sink.new) result }
-    ensures source_later { S.faults source.old ≤ S.faults source.new }
-    ensures sink_later { K.faults sink.old ≤ K.faults sink.new }
-    ensures read_fault { result ≡ Ending.ReadFault → Rises (S.faults source.old) (S.faults source.new) }
-    ensures write_fault { result ≡ Ending.WriteFault → Rises (K.faults sink.old) (K.faults sink.new) }
+    requires unwritten { (state_of talk.old).out ≡ [] }
+    requires within { (state_of talk.old).allowed ≤ input_limit }
+    requires ahead { length talk.old.buffer.now.pending ≤ CHUNK }
+    ensures ends { EndsTalk (state_of talk.old).allowed (script_of campaigns.now []) (state_of talk.old) (S.tape talk.new.source.now) (K.held talk.new.sink.now) result }
+    ensures causes { HasCauses (state_of talk.old) (state_of talk.new) result }
+    ensures same { place_of talk.new ≡ place_of talk.old }
 {
-    match open_day(alloc, campaigns) {
-        Ok(mut day) => run_lines(alloc, campaigns, &mut day, input, source, sink, out),
-        Err(_) => Ending::OutOfMemory,
-    }
+    let mut day = open_day(alloc, campaigns)?;
+    run_lines(alloc, campaigns, &mut day, talk)
 }

@@ -1,71 +1,101 @@
-ghost use Rattle.std.specs.Prelude.{◌≡◌, ◌≤◌, ◌<◌, ◌++◌, length, map, All, OnOk, string_bytes, slice_index_or};
-ghost use Rattle.adx_units.specs.Money.{units};
+//! The closing table.
+ghost use Rattle.std.specs.Prelude.{◌≡◌, ◌<◌, ◌++◌, length, OnOk, string_bytes};
+ghost use Rattle.campaign_book.specs.Accounts.{account_at, IsAccount};
+ghost use Rattle.day_rules.specs.Books.{accounts_in, ask_count as ask_count_of, awards_of};
+ghost use Rattle.day_rules.specs.Terms.{Terms, budgets_after};
+ghost use Rattle.adx.specs.Output.{account_line, campaign_line, counts_line, closing_table};
 ghost use Rattle.std.specs.List.{flat_map, enumerate_from};
-ghost use Rattle.adx.specs.declared.roster.Campaign.{Campaign};
-ghost use Rattle.adx.specs.Output.{campaign_line, counts_line, closing_table};
 
-use crate::output::{push, push_number};
+use crate::output::push;
 use crate::roster::Campaign;
-use adx_json::push_text;
+use adx_json::{push_number, push_text};
 use adx_units::OutOfMemory;
+use campaign_book::Book;
+use day_rules::Entry;
 use discount_table::slab_of;
-use narrow_day::Day;
+use notice_book::Awards;
 
 /// Writes a campaign's row of the closing table.
 fn push_campaign(
     out: &mut String,
-    day: &Day,
-    place: u32,
     campaign: &Campaign,
+    book: &Book,
+    place: u32,
 ) -> Result<(), OutOfMemory>
-    requires there { place < length day.now.terms.budgets }
-    requires positive { 1 ≤ campaign.now.budget.0 }
-    requires budget { (slice_index_or day.now.terms.budgets place (units 0)).0 ≡ campaign.now.budget.0 }
-    ensures { OnOk result (string_bytes out.new ≡ string_bytes out.old ++ campaign_line day.now.history (place, campaign.now)) }
+    requires there { place < length book.now }
+    requires sound { IsAccount (account_at book.now place) }
+    ensures { OnOk result (string_bytes out.new ≡ string_bytes out.old ++ account_line campaign.now (account_at book.now place)) }
 {
-    let committed = day.committed(place).0;
+    let budget = book.budget(place).0;
     push(out, "{\"seat\":")?;
     push_text(out, campaign.seat.as_str())?;
     push(out, ",\"cid\":")?;
     push_text(out, campaign.cid.as_str())?;
     push(out, ",\"budget\":")?;
-    push_number(out, campaign.budget.0)?;
+    push_number(out, budget)?;
     push(out, ",\"reserved\":")?;
-    push_number(out, day.reserved(place).0)?;
+    push_number(out, book.reserved(place).0)?;
     push(out, ",\"billed\":")?;
-    push_number(out, day.billed(place).0)?;
+    push_number(out, book.billed(place).0)?;
     push(out, ",\"slab\":")?;
-    push_number(out, u64::from(slab_of(committed, campaign.budget.0)))?;
+    push_number(out, u64::from(slab_of(book.committed(place).0, budget)))?;
     push(out, "}\n")?;
     Ok(())
 }
 
+/// Writes a row for each campaign of the roster.
+fn push_rows(out: &mut String, campaigns: &[Campaign], book: &Book) -> Result<(), OutOfMemory>
+    requires { length book.now ≡ length campaigns.now }
+    ensures { OnOk result (string_bytes out.new ≡ string_bytes out.old ++ flat_map (campaign_line book.now) (enumerate_from 0 campaigns.now)) }
+{
+    for place in 0..book.count() {
+        push_campaign(out, &campaigns[place as usize], book, place)?;
+    }
+    Ok(())
+}
+
+/// The number of asks of a history.
+fn ask_count(entries: &[Entry]) -> u64
+    ensures { result ≡ ask_count_of entries.now }
+{
+    let mut count: u64 = 0;
+    for entry in entries {
+        if let Entry::Ask(_) = entry {
+            count += 1;
+        }
+    }
+    count
+}
+
 /// Writes the row of counts of the closing table.
-fn push_counts(out: &mut String, day: &Day) -> Result<(), OutOfMemory>
-    ensures { OnOk result (string_bytes out.new ≡ string_bytes out.old ++ counts_line day.now.history) }
+fn push_counts(out: &mut String, awards: &Awards, entries: &[Entry]) -> Result<(), OutOfMemory>
+    requires { awards.now.awards ≡ awards_of entries.now }
+    ensures { OnOk result (string_bytes out.new ≡ string_bytes out.old ++ counts_line entries.now) }
 {
     push(out, "{\"asks\":")?;
-    push_number(out, day.ask_count())?;
+    push_number(out, ask_count(entries))?;
     push(out, ",\"awards\":")?;
-    push_number(out, day.award_count())?;
+    push_number(out, u64::from(awards.len()))?;
     push(out, ",\"entries\":")?;
-    push_number(out, day.entries().len() as u64)?;
+    push_number(out, entries.len() as u64)?;
     push(out, "}\n")
 }
 
-/// Writes the closing table: a row for each campaign of the roster, and the counts.
+/// Writes the closing table: a row for each campaign of the roster, and the counts. The book and the
+/// awards are those of the history.
 pub(crate) fn push_table(
     out: &mut String,
-    day: &Day,
     campaigns: &[Campaign],
+    book: &Book,
+    awards: &Awards,
+    entries: &[Entry],
 ) -> Result<(), OutOfMemory>
-    requires budgets { day.now.terms.budgets ≡ map (λ (c : Campaign). c.budget) campaigns.now }
-    requires positive { All (λ (c : Campaign). 1 ≤ c.budget.0) campaigns.now }
-    requires few { length campaigns.now ≤ 1024 }
-    ensures { OnOk result (string_bytes out.new ≡ string_bytes out.old ++ closing_table campaigns.now day.now.history) }
+    requires campaigns { length book.now ≡ length campaigns.now }
+    requires awards { awards.now.awards ≡ awards_of entries.now }
+    ensures { OnOk result ((terms : Terms) → book.now ≡ accounts_in (budgets_after terms entries.now) (awards_of entries.now)
+        → string_bytes out.new ≡ string_bytes out.old ++ closing_table campaigns.now terms entries.now) }
 {
-    for (place, campaign) in campaigns.iter().enumerate() {
-        push_campaign(out, day, place as u32, campaign)?;
-    }
-    push_counts(out, day)
+    push_rows(out, campaigns, book)?;
+    push_counts(out, awards, entries)?;
+    Ok(())
 }

@@ -1,3 +1,4 @@
+//! Scripts with their output and status, in pieces, and with each take and each put failing in turn.
 use crate::command::adx;
 use adx_io::{MemorySink, MemorySource};
 use adx_units::Text;

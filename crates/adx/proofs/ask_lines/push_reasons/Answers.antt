@@ -2,7 +2,7 @@
 use Rattle.std.proofs.Common.{◌++◌, map, take, get_or, decimal, string_bytes, sym, ap, refl, ◌∙◌, append_assoc, arith}
 use Rattle.std.specs.List.{join_with_byte}
 use Rattle.adx_units.specs.declared.offer.Offer.{Offer}
-use Rattle.discount_table.specs.Choice.{no_offer}
+use Rattle.allocator_core.specs.Choice.{no_offer}
 use Rattle.adx.specs.Output.{comma_behind}
 use Rattle.adx.proofs.Joined.{joined_more}
 use Rattle.adx.proofs.ask_lines.push_reasons.Goals as goal

@@ -1,7 +1,7 @@
 -- One more award.
 use Rattle.std.proofs.Common.{◌+◌, ◌++◌, map, take, get_or, string_bytes, sym, ap, refl, ◌∙◌, append_assoc, arith}
 use Rattle.std.specs.List.{enumerate_from, join_with_byte}
-use Rattle.discount_table.specs.Choice.{no_offer}
+use Rattle.allocator_core.specs.Choice.{no_offer}
 use Rattle.adx.specs.Output.{comma_behind, award_text}
 use Rattle.adx.proofs.Joined.{numbered_more}
 use Rattle.adx.proofs.ask_lines.push_sold.Goals as goal

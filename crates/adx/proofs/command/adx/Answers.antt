@@ -1,11 +1,16 @@
--- The usage line.
-use Rattle.std.proofs.Common.{inl, inr, refl}
-use Rattle.adx.specs.Output.{usage_line}
-use Rattle.adx.proofs.Putting.{all_put, front_put}
+-- Each input has one output.
+use Rattle.adx.proofs.OneOutput.{whole_same}
+use Rattle.adx.proofs.Outputs.{has_outputs}
 use Rattle.adx.proofs.command.adx.Goals as goal
 
-pub returns-in-Ok-clause-usage : goal.returns-in-Ok-clause-usage
-returns-in-Ok-clause-usage g c = λ other. (refl, inl (refl, all_put (g.K.Sink.held c.args.sink.now) (g.K.Sink.held c.put_all.new.sink) usage_line c.in-Ok.field-0 (rw c.as_bytes.ensures.value at c.in-Ok.ensures.taken)))
+pub returns-clause-outputs : goal.returns-clause-outputs
+returns-clause-outputs g c = has_outputs
 
-pub returns-in-Err-clause-usage : goal.returns-in-Err-clause-usage
-returns-in-Err-clause-usage g c = λ other. (refl, inr (refl, front_put (g.K.Sink.held c.args.sink.now) (g.K.Sink.held c.put_all.new.sink) usage_line c.in-Err.field-0 (rw c.as_bytes.ensures.value at c.in-Err.ensures.taken)))
+pub returns-clause-one_output : goal.returns-clause-one_output
+returns-clause-one_output g c = whole_same
+
+pub returns-then-is_day-clause-outputs : goal.returns-then-is_day-clause-outputs
+returns-then-is_day-clause-outputs g c = has_outputs
+
+pub returns-then-is_day-clause-one_output : goal.returns-then-is_day-clause-one_output
+returns-then-is_day-clause-one_output g c = whole_same

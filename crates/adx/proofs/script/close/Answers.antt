@@ -1,13 +1,17 @@
 -- What was written behind the answers was put, or memory was refused.
-use Rattle.std.proofs.Common.{◌++◌, string_bytes}
-use Rattle.adx.specs.declared.ending.Ending.{Ending}
-use Rattle.adx.specs.Output.{closing_table}
-use Rattle.adx.specs.Script.{cut_line}
-use Rattle.adx.proofs.Putting.{ends_unput}
+use Rattle.std.proofs.Common.{◌∙◌, ◌++◌, ap, sym, subst, Ok, Err, string_bytes}
+use Rattle.std.proofs.lemmas.Result.{err_from_is_err_and}
+use Rattle.adx.specs.Running.{PutsEnd}
+use Rattle.adx.specs.Script.{closing}
+use Rattle.adx.proofs.Putting.{end_unput}
 use Rattle.adx.proofs.script.close.Goals as goal
 
-pub returns-in-Ok-clause-ends : goal.returns-in-Ok-clause-ends
-returns-in-Ok-clause-ends g c = λ line keeps. rw (c.in-Ok.ensures line keeps) at c.end_with.ensures.ends
+pub returns-clause-ends : goal.returns-clause-ends
+returns-clause-ends g c = λ line keeps. rw (c.in_ok-push_close.ensures line keeps) at c.put_end.ensures.ends
 
-pub returns-in-Err-clause-ends : goal.returns-in-Err-clause-ends
-returns-in-Err-clause-ends g c = λ line keeps. ends_unput Ending.Done (g.K.Sink.held c.args.sink.now) (string_bytes c.args.out.now ++ (cut_line c.args.number line ++ closing_table c.args.campaigns.now c.args.day.now.history))
+pub returns-in_err-push_close-clause-ends : goal.returns-in_err-push_close-clause-ends
+returns-in_err-push_close-clause-ends g c = λ line keeps.
+    let p = err_from_is_err_and c.from_residual.result c.from_residual.ensures.1 in
+    let held = g.K.Sink.held c.args.talk.now.sink.now in
+    let bytes = string_bytes c.args.talk.now.out.now ++ closing c.args.campaigns.now c.args.number line c.args.day.now.history in
+    subst (PutsEnd held held bytes (Ok tt)) (sym (p.1 ∙ ap Err p.2)) (end_unput held bytes (Ok tt))

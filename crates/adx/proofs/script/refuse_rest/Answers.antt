@@ -1,12 +1,18 @@
 -- What was written behind the answers was put, or memory was refused.
-use Rattle.std.proofs.Common.{◌++◌, string_bytes}
+use Rattle.std.proofs.Common.{◌∙◌, ◌++◌, ap, sym, subst, Err, string_bytes}
+use Rattle.std.proofs.lemmas.Result.{err_from_is_err_and}
 use Rattle.adx.specs.declared.ending.Ending.{Ending}
 use Rattle.adx.specs.Output.{toolong_line}
-use Rattle.adx.proofs.Putting.{ends_unput}
+use Rattle.adx.specs.Running.{PutsEnd}
+use Rattle.adx.proofs.Putting.{end_unput}
 use Rattle.adx.proofs.script.refuse_rest.Goals as goal
 
-pub returns-in-Ok-clause-ends : goal.returns-in-Ok-clause-ends
-returns-in-Ok-clause-ends g c = rw c.in-Ok.ensures at c.end_with.ensures.ends
+pub returns-clause-ends : goal.returns-clause-ends
+returns-clause-ends g c = rw c.in_ok-push_refusal.ensures at c.put_end.ensures.ends
 
-pub returns-in-Err-clause-ends : goal.returns-in-Err-clause-ends
-returns-in-Err-clause-ends g c = ends_unput Ending.Refused (g.K.Sink.held c.args.sink.now) (string_bytes c.args.out.now ++ (toolong_line c.args.number))
+pub returns-in_err-push_refusal-clause-ends : goal.returns-in_err-push_refusal-clause-ends
+returns-in_err-push_refusal-clause-ends g c =
+    let p = err_from_is_err_and c.from_residual.result c.from_residual.ensures.1 in
+    let held = g.K.Sink.held c.args.talk.now.sink.now in
+    let bytes = string_bytes c.args.talk.now.out.now ++ toolong_line c.args.number in
+    subst (PutsEnd held held bytes (Err Ending.Refused)) (sym (p.1 ∙ ap Err p.2)) (end_unput held bytes (Err Ending.Refused))

@@ -1,7 +1,17 @@
--- A day that could not be opened.
-use Rattle.std.proofs.Common.{string_bytes}
-use Rattle.adx.proofs.Runs.{run_unbegun}
+-- There was no memory for the day.
+use Rattle.std.proofs.Common.{◌∙◌, [], refl, sym, ap, subst, Err}
+use Rattle.std.proofs.lemmas.Result.{err_from_is_err_and}
+use Rattle.adx_io.specs.TalkState.{state_of}
+use Rattle.day_rules.proofs.Histories.{legal_none}
+use Rattle.adx.specs.Running.{EndsTalk}
+use Rattle.adx.specs.Script.{script_of, terms_by}
+use Rattle.adx.proofs.Days.{day_unopened}
+use Rattle.adx.proofs.Runs.{nothing_written}
 use Rattle.adx.proofs.script.run_day.Goals as goal
 
-pub returns-in-Err-clause-ends : goal.returns-in-Err-clause-ends
-returns-in-Err-clause-ends g c = run_unbegun c.args.campaigns.now c.args.input.now (g.S.Source.tape c.args.source.now) (g.K.Sink.held c.args.sink.now) (string_bytes c.args.out.now) c.requires.within
+pub returns-in_err-day-clause-ends : goal.returns-in_err-day-clause-ends
+returns-in_err-day-clause-ends g c =
+    let p = err_from_is_err_and c.from_residual.result c.from_residual.ensures.1 in
+    let talk = c.args.talk.now in
+    subst (EndsTalk (state_of talk).allowed (script_of c.args.campaigns.now []) (state_of talk) (g.S.Source.tape talk.source.now) (g.K.Sink.held talk.sink.now)) (sym (p.1 ∙ ap Err p.2))
+    (day_unopened (script_of c.args.campaigns.now []) (state_of talk) talk.buffer.now.pending (g.S.Source.tape talk.source.now) refl c.requires.ahead (nothing_written c.args.campaigns.now [] (legal_none (terms_by c.args.campaigns.now))))

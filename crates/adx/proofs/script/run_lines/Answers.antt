@@ -1,55 +1,73 @@
 -- Each end of the run, by the lines that led to it.
-use Rattle.std.proofs.Common.{◌∙◌, inl, inr, refl, arith, string_bytes}
+use Rattle.std.proofs.Common.{◌≡◌, ◌∙◌, [], refl, sym, ap, subst, arith, Ok, Err}
+use Rattle.std.specs.Borrow.{MutBor}
+use Rattle.std.proofs.lemmas.Result.{err_from_is_err_and}
+use Rattle.adx_io.specs.TalkState.{state_of}
+use Rattle.adx_io.specs.declared.stop.Stop.{Stop}
+use Rattle.adx_io.specs.declared.talk.Next.{Next}
+use Rattle.day_rules.proofs.Histories.{legal_none}
 use Rattle.adx.specs.declared.ending.Ending.{Ending}
-use Rattle.adx.specs.declared.reading.Next.{Next}
-use Rattle.adx.proofs.Runs.{run_starts, run_more, run_done, run_past, run_read_fault, run_aborted}
+use Rattle.adx.specs.Running.{EndsTalk}
+use Rattle.adx.specs.Script.{script_of, terms_by}
+use Rattle.adx.proofs.Runs.{run_starts, run_more, answer_leaves, run_done, run_past, run_stopped, run_unanswered}
 use Rattle.adx.proofs.script.run_lines.Goals as goal
 
 pub lines-init : goal.lines-init
 lines-init g c = record {
-  running = run_starts c.args.campaigns.now c.args.input.now (g.S.Source.tape c.args.source.now) (g.K.Sink.held c.args.sink.now) (string_bytes c.args.out.now) c.args.day.now.history c.requires.begins c.requires.within;
+  running = run_starts c.args.campaigns.now [] (state_of c.args.talk.now) c.args.day.now.history c.requires.begins c.requires.unwritten;
   terms = c.requires.terms;
   work = omega arith;
-  source_later = omega arith;
-  sink_later = omega arith;
+  read_same = refl;
+  write_same = refl;
+  place = refl;
 }
 
 pub lines-preserved : goal.lines-preserved
 lines-preserved g c =
-    let read = c.in-Line.ensures in record {
-      running = run_more c.args.campaigns.now c.args.input.now c.lines.input c.next_line.new.input (g.S.Source.tape c.args.source.now) (g.S.Source.tape c.lines.source) (g.S.Source.tape c.next_line.new.source) (g.K.Sink.held c.args.sink.now) (g.K.Sink.held c.lines.sink) (g.K.Sink.held c.next_line.new.sink) (string_bytes c.args.out.now) (string_bytes c.lines.out) (string_bytes c.next_line.new.out) (string_bytes c.answer_line.new.out) c.lines.day.history c.answer_line.new.day.history c.lines.number c.requires.sized.few read.within c.lines.invariant.running read.reads read.puts c.in-Ok.ensures.answered;
-      terms = c.in-Ok.ensures.terms ∙ c.lines.invariant.terms;
-      work = omega (arith, c.lines.invariant.work, read.goes_on refl);
-      source_later = omega (arith, c.lines.invariant.source_later, read.source_later);
-      sink_later = omega (arith, c.lines.invariant.sink_later, read.sink_later);
+    let is : c.next_line.result ≡ Ok Next.Line = c.in_ok-next_line.was ∙ ap Ok c.in-Line.is in
+    let same = c.answer_next.ensures.state in
+    let leaves = answer_leaves (state_of c.answer_next.new.talk) (state_of c.next_line.new.self) (state_of c.answer_next.new.talk).out same in record {
+      running = run_more c.args.campaigns.now [] (state_of c.args.talk.now) (state_of c.lines.talk) (state_of c.next_line.new.self) (state_of c.answer_next.new.talk) c.lines.day.history c.answer_next.new.day.history c.lines.number (state_of c.answer_next.new.talk).out
+          c.lines.invariant.running (rw is at c.next_line.ensures.reads) (rw is at c.next_line.ensures.puts) c.in_ok-answer_next-in-Line.ensures.answered same;
+      terms = c.answer_next.ensures.terms ∙ c.lines.invariant.terms;
+      work = omega (arith, c.lines.invariant.work, c.next_line.ensures.goes_on is, leaves.0);
+      read_same = leaves.1 ∙ c.next_line.ensures.causes.read_same (λ e. cc (e, is)) ∙ c.lines.invariant.read_same;
+      write_same = leaves.2 ∙ c.next_line.ensures.causes.write_same (λ e. cc (e, is)) ∙ c.lines.invariant.write_same;
+      place = c.answer_next.ensures.same ∙ c.next_line.ensures.same ∙ c.lines.invariant.place;
     }
+
+pub returns-in_err-next_line-clause-ends : goal.returns-in_err-next_line-clause-ends
+returns-in_err-next_line-clause-ends g c =
+    let p = err_from_is_err_and c.from_residual.result c.from_residual.ensures.1 in
+    let stop = c.in_err-next_line.field-0.0 in
+    let now = c.next_line.new.self in
+    subst (λ r. EndsTalk (state_of c.args.talk.now).allowed (script_of c.args.campaigns.now []) (state_of c.args.talk.now) (g.S.Source.tape now.source.now) (g.K.Sink.held now.sink.now) r) (sym (p.1 ∙ ap Err p.2))
+    (run_stopped c.args.campaigns.now [] (state_of c.args.talk.now) (state_of c.lines.talk) (state_of now) c.lines.day.history c.lines.number now.buffer.now.pending (g.S.Source.tape now.source.now) stop (legal_none (terms_by c.args.campaigns.now)) c.lines.invariant.running
+    c.in_err-next_line.ensures.reads c.next_line.ensures.ahead (λ other. c.in_err-next_line.ensures.looked (λ e. cc e) (λ e. other (cc e))) c.in_err-next_line.ensures.puts)
 
 pub returns-in-End-clause-ends : goal.returns-in-End-clause-ends
 returns-in-End-clause-ends g c =
-    let read = c.in-End.ensures in
-    run_done c.args.campaigns.now c.args.input.now c.lines.input c.next_line.new.input (g.S.Source.tape c.args.source.now) (g.S.Source.tape c.lines.source) (g.S.Source.tape c.next_line.new.source) (g.K.Sink.held c.args.sink.now) (g.K.Sink.held c.lines.sink) (g.K.Sink.held c.next_line.new.sink) (g.K.Sink.held c.close.new.sink) (string_bytes c.args.out.now) (string_bytes c.lines.out) (string_bytes c.next_line.new.out) c.lines.day.history c.lines.number c.close.result c.lines.invariant.running read.reads read.puts read.within c.close.ensures.ends
+    let is : c.next_line.result ≡ Ok Next.End = c.in_ok-next_line.was ∙ ap Ok c.in-End.is in
+    let now = c.next_line.new.self in
+    subst (λ t. EndsTalk (state_of c.args.talk.now).allowed (script_of c.args.campaigns.now []) (state_of c.args.talk.now) t (g.K.Sink.held c.close.new.talk.sink.now) c.close.result) (sym (ap (λ (x : MutBor _). g.S.Source.tape x.now) c.close.ensures.rest.0))
+    (run_done c.args.campaigns.now [] (state_of c.args.talk.now) (state_of c.lines.talk) (state_of now) c.lines.day.history c.lines.number now.buffer.now.pending (g.S.Source.tape now.source.now) (g.K.Sink.held c.close.new.talk.sink.now) c.close.result (legal_none (terms_by c.args.campaigns.now)) c.lines.invariant.running
+    (rw is at c.next_line.ensures.reads) (rw is at c.next_line.ensures.puts) c.close.ensures.ends)
 
 pub returns-in-PastLimit-clause-ends : goal.returns-in-PastLimit-clause-ends
 returns-in-PastLimit-clause-ends g c =
-    let read = c.in-PastLimit.ensures in
-    run_past c.args.campaigns.now c.args.input.now c.lines.input c.next_line.new.input (g.S.Source.tape c.args.source.now) (g.S.Source.tape c.lines.source) (g.S.Source.tape c.next_line.new.source) (g.K.Sink.held c.args.sink.now) (g.K.Sink.held c.lines.sink) (g.K.Sink.held c.next_line.new.sink) (g.K.Sink.held c.refuse_rest.new.sink) (string_bytes c.args.out.now) (string_bytes c.lines.out) (string_bytes c.next_line.new.out) c.lines.day.history c.lines.number c.refuse_rest.result c.lines.invariant.running read.reads read.puts c.refuse_rest.ensures.ends
+    let is : c.next_line.result ≡ Ok Next.PastLimit = c.in_ok-next_line.was ∙ ap Ok c.in-PastLimit.is in
+    let now = c.next_line.new.self in
+    subst (λ t. EndsTalk (state_of c.args.talk.now).allowed (script_of c.args.campaigns.now []) (state_of c.args.talk.now) t (g.K.Sink.held c.refuse_rest.new.talk.sink.now) c.refuse_rest.result) (sym (ap (λ (x : MutBor _). g.S.Source.tape x.now) c.refuse_rest.ensures.rest.0))
+    (run_past c.args.campaigns.now [] (state_of c.args.talk.now) (state_of c.lines.talk) (state_of now) c.lines.day.history c.lines.number now.buffer.now.pending (g.S.Source.tape now.source.now) (g.K.Sink.held c.refuse_rest.new.talk.sink.now) c.refuse_rest.result (legal_none (terms_by c.args.campaigns.now)) c.lines.invariant.running
+    (rw is at c.next_line.ensures.reads) (c.next_line.ensures.looked (λ e. cc (e, is)) (λ e. cc (e, is))) (rw is at c.next_line.ensures.puts) c.refuse_rest.ensures.ends)
 
-pub returns-in-ReadFault-clause-ends : goal.returns-in-ReadFault-clause-ends
-returns-in-ReadFault-clause-ends g c =
-    let read = c.in-ReadFault.ensures in
-    run_read_fault c.args.campaigns.now c.args.input.now c.lines.input c.next_line.new.input (g.S.Source.tape c.args.source.now) (g.S.Source.tape c.lines.source) (g.S.Source.tape c.next_line.new.source) (g.K.Sink.held c.args.sink.now) (g.K.Sink.held c.lines.sink) (g.K.Sink.held c.next_line.new.sink) (string_bytes c.args.out.now) (string_bytes c.lines.out) (string_bytes c.next_line.new.out) c.lines.day.history c.lines.number c.lines.invariant.running read.reads read.puts
-
-pub returns-in-WriteFault-clause-ends : goal.returns-in-WriteFault-clause-ends
-returns-in-WriteFault-clause-ends g c =
-    let read = c.in-WriteFault.ensures in
-    run_aborted c.args.campaigns.now c.args.input.now c.lines.input c.next_line.new.input (g.S.Source.tape c.args.source.now) (g.S.Source.tape c.lines.source) (g.S.Source.tape c.next_line.new.source) (g.K.Sink.held c.args.sink.now) (g.K.Sink.held c.lines.sink) (string_bytes c.args.out.now) (string_bytes c.lines.out) c.lines.day.history c.lines.number Next.WriteFault (g.K.Sink.held c.next_line.new.sink) Ending.WriteFault c.lines.invariant.running read.reads read.puts (inl refl)
-
-pub returns-in-OutOfMemory-clause-ends : goal.returns-in-OutOfMemory-clause-ends
-returns-in-OutOfMemory-clause-ends g c =
-    let read = c.in-OutOfMemory.ensures in
-    run_aborted c.args.campaigns.now c.args.input.now c.lines.input c.next_line.new.input (g.S.Source.tape c.args.source.now) (g.S.Source.tape c.lines.source) (g.S.Source.tape c.next_line.new.source) (g.K.Sink.held c.args.sink.now) (g.K.Sink.held c.lines.sink) (string_bytes c.args.out.now) (string_bytes c.lines.out) c.lines.day.history c.lines.number Next.OutOfMemory (g.K.Sink.held c.next_line.new.sink) Ending.OutOfMemory c.lines.invariant.running read.reads read.puts (inr refl)
-
-pub returns-in-Err-clause-ends : goal.returns-in-Err-clause-ends
-returns-in-Err-clause-ends g c =
-    let read = c.in-Line.ensures in
-    run_aborted c.args.campaigns.now c.args.input.now c.lines.input c.next_line.new.input (g.S.Source.tape c.args.source.now) (g.S.Source.tape c.lines.source) (g.S.Source.tape c.next_line.new.source) (g.K.Sink.held c.args.sink.now) (g.K.Sink.held c.lines.sink) (string_bytes c.args.out.now) (string_bytes c.lines.out) c.lines.day.history c.lines.number Next.Line (g.K.Sink.held c.next_line.new.sink) Ending.OutOfMemory c.lines.invariant.running read.reads (string_bytes c.next_line.new.out, read.puts) (inr refl)
+pub returns-in_err-answer_next-in-Line-clause-ends : goal.returns-in_err-answer_next-in-Line-clause-ends
+returns-in_err-answer_next-in-Line-clause-ends g c =
+    let p = err_from_is_err_and c.from_residual-in_err-answer_next-in-Line.result c.from_residual-in_err-answer_next-in-Line.ensures.1 in
+    let is : c.next_line.result ≡ Ok Next.Line = c.in_ok-next_line.was ∙ ap Ok c.in-Line.is in
+    let now = c.next_line.new.self in
+    let last = c.answer_next.new.talk in
+    subst (λ r. EndsTalk (state_of c.args.talk.now).allowed (script_of c.args.campaigns.now []) (state_of c.args.talk.now) (g.S.Source.tape last.source.now) (g.K.Sink.held last.sink.now) r) (sym (p.1 ∙ ap Err (p.2 ∙ c.in_err-answer_next-in-Line.ensures.failed)))
+    (subst (λ h. EndsTalk (state_of c.args.talk.now).allowed (script_of c.args.campaigns.now []) (state_of c.args.talk.now) (g.S.Source.tape last.source.now) h (Err (Ending.Stopped Stop.OutOfMemory))) (sym (answer_leaves (state_of last) (state_of now) (state_of last).out c.answer_next.ensures.state).3)
+    (subst (λ t. EndsTalk (state_of c.args.talk.now).allowed (script_of c.args.campaigns.now []) (state_of c.args.talk.now) t (g.K.Sink.held now.sink.now) (Err (Ending.Stopped Stop.OutOfMemory))) (sym (ap (λ (x : MutBor _). g.S.Source.tape x.now) c.answer_next.ensures.rest.0))
+    (run_unanswered c.args.campaigns.now [] (state_of c.args.talk.now) (state_of c.lines.talk) (state_of now) c.lines.day.history c.lines.number now.buffer.now.pending (g.S.Source.tape now.source.now) (legal_none (terms_by c.args.campaigns.now)) c.lines.invariant.running (rw is at c.next_line.ensures.reads) c.next_line.ensures.ahead (rw is at c.next_line.ensures.puts))))

@@ -3,14 +3,14 @@ use Rattle.std.proofs.Common.{◌++◌, take, string_bytes, sym, ap, ◌∙◌, 
 use Rattle.std.specs.List.{flat_map, enumerate_from}
 use Rattle.adx.specs.Output.{campaign_line}
 use Rattle.adx.proofs.Joined.{numbered_over_more}
-use Rattle.adx.proofs.table.push_table.Goals as goal
+use Rattle.adx.proofs.table.push_rows.Goals as goal
 
 pub loop-place-preserved : goal.loop-place-preserved
 loop-place-preserved c =
-    let i = c.loop-place.place in
+    let f = campaign_line c.args.book.now in
     let xs = c.args.campaigns.now in
+    let i = c.loop-place.place in
     let x = c.index-campaigns-place.result in
-    let f = campaign_line c.args.day.now.history in
     let before = flat_map f (enumerate_from 0 (take i xs)) in
     c.in_ok-push_campaign.ensures ∙ ap (λ b. b ++ f (i, x)) c.loop-place.invariant
     ∙ append_assoc (string_bytes c.args.out.now) before (f (i, x))

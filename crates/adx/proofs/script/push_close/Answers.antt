@@ -1,0 +1,15 @@
+-- The book has an account for each campaign.
+use Rattle.std.proofs.Common.{◌∙◌, List, length, ap}
+use Rattle.std.proofs.lemmas.List.{length-map}
+use Rattle.campaign_book.specs.Accounts.{Account}
+use Rattle.day_rules.specs.Books.{awards_of}
+use Rattle.day_rules.specs.Terms.{Terms, budgets_after}
+use Rattle.day_rules.proofs.Money.{accounts_length}
+use Rattle.adx.specs.declared.roster.Campaign.{Campaign}
+use Rattle.adx.proofs.script.push_close.Goals as goal
+
+pub push_table-requires-clause-campaigns : goal.push_table-requires-clause-campaigns
+push_table-requires-clause-campaigns c =
+    let day = c.args.day.now in
+    ap (λ (accounts : List Account). length accounts) c.book.ensures ∙ accounts_length (budgets_after day.terms day.history) (awards_of day.history)
+    ∙ ap (λ (t : Terms). length t.budgets) c.requires ∙ length-map c.args.campaigns.now (λ (x : Campaign). x.budget)
