@@ -1,0 +1,9 @@
+pub mod Faults
+pub mod Forms
+pub mod Pairs
+pub mod Rosters
+pub mod Seen
+pub mod Reasons
+pub mod Admission
+pub mod Sales
+pub mod Order

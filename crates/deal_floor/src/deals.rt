@@ -1,0 +1,108 @@
+//! The rules on lists of names, and on deals.
+ghost use Rattle.std.specs.Prelude.{◌≡◌, Some, option_map};
+ghost use Rattle.std.specs.List.{list_all, list_any, position};
+ghost use Rattle.rtb_request.specs.Distinct.{is_among as is_among_by};
+ghost use Rattle.rtb_request.specs.Seen.{deal_has_id};
+ghost use Rattle.deal_floor.specs.Admission.{allows as allows_by, advertisers_allowed, deal_is_open_to, deal_eligible_by, deal_in as deal_in_by, deal_by, charge_by};
+
+use adx_units::{Text, Units};
+use rtb_request::{Deal, Imp};
+use rtb_response::{Bid, SeatBid};
+
+/// Whether a name is one of some names.
+pub(crate) fn is_among(names: &[Text], name: &[u8]) -> bool
+    ensures { result ≡ is_among_by names.now name.now }
+{
+    names.iter().any(|other| other.as_bytes() == name)
+}
+
+/// Whether a list of those that are allowed allows a name; an empty one allows all.
+pub(crate) fn allows(names: &[Text], name: &[u8]) -> bool
+    ensures { result ≡ allows_by names.now name.now }
+{
+    names.is_empty() || is_among(names, name)
+}
+
+/// Whether one of the first names is one of the others.
+pub(crate) fn any_among(names: &[Text], others: &[Text]) -> bool
+    ensures { result ≡ list_any (is_among_by others.now) names.now }
+{
+    names.iter().any(|name| is_among(others, name.as_bytes()))
+}
+
+fn all_among(names: &[Text], others: &[Text]) -> bool
+    ensures { result ≡ list_all (is_among_by others.now) names.now }
+{
+    names.iter().all(|name| is_among(others, name.as_bytes()))
+}
+
+/// The deal of an impression that a bid names. None where it names none, or none of the impression.
+pub(crate) fn named_deal<'a>(imp: &'a Imp, bid: &Bid) -> Option<&'a Deal>
+    ensures { option_map (λ d. d.now) result ≡ deal_by bid.now.dealid (Some imp.now) }
+{
+    match &bid.dealid {
+        Some(id) => deal_in(imp, id),
+        None => None,
+    }
+}
+
+/// The first deal of an impression with an id.
+fn deal_in<'a>(imp: &'a Imp, id: &Text) -> Option<&'a Deal>
+    ensures { option_map (λ d. d.now) result ≡ deal_in_by imp.now id.now }
+{
+    let deals = imp.deals.as_slice();
+    deals.get(place_in(deals, id)?)
+}
+
+fn place_in(deals: &[Deal], id: &Text) -> Option<usize>
+    ensures { result ≡ position (deal_has_id id.now) deals.now }
+{
+    deals
+        .iter()
+        .position(|deal| deal.id.as_bytes() == id.as_bytes())
+}
+
+/// Whether the advertisers of a bid may use a deal.
+fn are_advertisers_allowed(deal: &Deal, bid: &Bid) -> bool
+    ensures { result ≡ advertisers_allowed deal.now bid.now }
+{
+    let adomain = bid.adomain.as_slice();
+    deal.wadomain.is_empty() || !adomain.is_empty() && all_among(adomain, deal.wadomain.as_slice())
+}
+
+/// Whether a deal is open to a bid: to its seat and its advertisers, and its fixed price isn't 0.
+fn is_open_to(seat: &SeatBid, bid: &Bid, deal: &Deal) -> bool
+    ensures { result ≡ deal_is_open_to seat.now bid.now deal.now }
+{
+    allows(deal.wseat.as_slice(), seat.seat.as_bytes())
+        && are_advertisers_allowed(deal, bid)
+        && !(deal.fixed && deal.floor.0 == 0)
+}
+
+/// Whether a bid's deal, or its want of one, is in order.
+pub(crate) fn is_deal_eligible(
+    seat: &SeatBid,
+    bid: &Bid,
+    private_only: bool,
+    deal: Option<&Deal>,
+) -> bool
+    ensures { result ≡ deal_eligible_by seat.now bid.now private_only (option_map (λ d. d.now) deal.entry) }
+{
+    if bid.dealid.is_none() {
+        return !private_only;
+    }
+    match deal {
+        Some(deal) => is_open_to(seat, bid, deal),
+        None => false,
+    }
+}
+
+/// What is paid: the price, or the floor of a fixed deal.
+pub(crate) fn charge_of(deal: Option<&Deal>, price: Units) -> Units
+    ensures { result ≡ charge_by (option_map (λ d. d.now) deal.entry) price.0 }
+{
+    match deal {
+        Some(deal) if deal.fixed => deal.floor,
+        _ => price,
+    }
+}
