@@ -1,0 +1,6 @@
+pub mod Lists
+pub mod Asked
+pub mod Awards
+pub mod RowLists
+pub mod Told
+pub mod Whole

@@ -1,0 +1,1 @@
+//! Days that are served, closed and checked.
