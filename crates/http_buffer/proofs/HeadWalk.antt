@@ -1,11 +1,11 @@
 -- The lines of a head, and that they are cut in one way.
-use Rattle.std.proofs.Common.{◌≡◌, ◌≢◌, ℕ, ◌+◌, ◌-◌, ◌<◌, ◌≤◌, List, [], ◌∷◌, ◌++◌, length, take, drop, All, Bool, true, false, refl, sym, ap, subst, ◌∙◌, append_assoc, append-nil, arith, length-append, length-drop}
+use Rattle.std.proofs.Common.{◌≡◌, ◌≢◌, ℕ, ◌+◌, ◌-◌, ◌≤◌, List, [], ◌∷◌, ◌++◌, length, take, drop, All, Bool, true, false, refl, sym, ap, ◌∙◌, append_assoc, append-nil, arith, length-append, length-drop}
 use Rattle.std.specs.List.{flat_map}
 use Rattle.std.proofs.lemmas.List.{drop_at, take_at, drop-append-le, flat_map_more, length-take-le, take-append-drop}
 use Rattle.std.proofs.lemmas.List.Elements.{All-append, All-nil, All-cons, All-head, All-tail}
 use Rattle.http_buffer.specs.Lines.{IsLine, ended, EndsAt, IsTooLong, IsOpen}
 use Rattle.http_buffer.proofs.Ranges.{part_is}
-use Rattle.http_buffer.specs.HeadEnds.{head_limit, is_empty_line, IsEmpty, IsFull, BeginsWithHead, HasNoHead, HeadEndsAt, NeverHasHead, HasNoHeadYet}
+use Rattle.http_buffer.specs.HeadEnds.{head_limit, is_empty_line, IsEmpty, IsFull, BeginsWithHead, HeadEndsAt, NeverHasHead, HasNoHeadYet}
 use Rattle.http_buffer.specs.Walks.{step, walk, count_of}
 use Rattle.http_buffer.specs.declared.head.Walk.{Walk}
 

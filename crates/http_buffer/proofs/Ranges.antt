@@ -1,8 +1,8 @@
 -- Parts of lists, cut by `drop` and `take`.
-use Rattle.std.proofs.Common.{◌≡◌, ℕ, ◌+◌, ◌-◌, ◌<◌, ◌≤◌, List, [], ◌∷◌, ◌++◌, length, get_or, take, drop, min, refl, sym, ap, ◌∙◌, arith, rules}
+use Rattle.std.proofs.Common.{◌≡◌, ℕ, ◌+◌, ◌-◌, ◌≤◌, List, [], ◌++◌, length, take, drop, sym, ap, ◌∙◌, arith}
 use Rattle.std.specs.List.{copy_within}
 use Rattle.std.proofs.lemmas.List.Edits.{take-paste, drop-paste}
-use Rattle.std.proofs.lemmas.List.{take-take, drop-drop, drop-append-le, take-append-drop, length-take, length-drop, length-take-le, drop-take, take-append-le, take_all, take_at, drop_at, drop_all}
+use Rattle.std.proofs.lemmas.List.{take-take, drop-drop, drop-append-le, take-append-drop, length-take, length-drop, length-take-le, drop-take, drop_at, drop_all}
 
 -- a part of a front that two lists share is shared
 pub part_below : {X : Type 0} (xs ys : List X) (i j n : ℕ) → j ≤ n → take n xs ≡ take n ys → drop i (take j xs) ≡ drop i (take j ys)

@@ -5,7 +5,7 @@ use Rattle.adx_io.specs.declared.failed.Failed.{Failed}
 use Rattle.http_buffer.specs.declared.offsets.Offsets.{Offsets}
 use Rattle.http_buffer.specs.Order.{IsOrdered, kept_of, pending_of}
 use Rattle.http_buffer.proofs.Ranges.{part_below, part_is, part_split}
-use Rattle.http_buffer.specs.State.{BufferState, Passes, Takes, IsAtEnd}
+use Rattle.http_buffer.specs.State.{BufferState, Passes, Takes}
 
 passes_both : (p q : List ℕ) (old mid new : Tape) → Passes p old mid → Passes q mid new → Passes (p ++ q) old new
 passes_both p q old mid new a b = record {

@@ -1,9 +1,8 @@
 -- Where the head of a message ends: at the first empty line behind a line that isn't empty (RFC 9112, sections 2.1 and
 -- 2.2). The bound is this project's own.
-use Rattle.std.specs.Prelude.{◌≡◌, ℕ, ◌+◌, ◌<◌, ◌≤◌, List, [], ◌∷◌, ◌++◌, length, take, drop, All, Bool, true, false, ◌==◌}
+use Rattle.std.specs.Prelude.{◌≡◌, ℕ, ◌<◌, ◌≤◌, List, [], ◌∷◌, ◌++◌, length, take, drop, All, Bool, true, false, ◌==◌}
 use Rattle.std.specs.List.{flat_map}
 use Rattle.http_buffer.specs.Lines.{IsLine, ended}
-use Rattle.http_buffer.specs.declared.head.Walk.{Walk}
 use Rattle.http_buffer.specs.declared.head.HeadEnd.{HeadEnd}
 
 -- the greatest length of a head, of a chunk line and of a trailer

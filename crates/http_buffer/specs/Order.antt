@@ -1,5 +1,5 @@
 -- How offsets cut a list of bytes; private clauses alone cite this file.
-use Rattle.std.specs.Prelude.{◌≡◌, ◌≤◌, ℕ, List, length, take, drop}
+use Rattle.std.specs.Prelude.{◌≤◌, ℕ, List, length, take, drop}
 use Rattle.http_buffer.specs.declared.offsets.Offsets.{Offsets}
 
 -- the offsets stand in their order within the bytes

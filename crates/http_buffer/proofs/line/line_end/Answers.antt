@@ -1,5 +1,5 @@
 -- What was searched holds no line feed.
-use Rattle.std.proofs.Common.{◌≡◌, Ok, length, drop, refl, sym, ap, subst, ◌∙◌, arith}
+use Rattle.std.proofs.Common.{Ok, length, drop, ap, subst, ◌∙◌, arith}
 use Rattle.http_buffer.specs.Lines.{IsLine, IsFeed}
 use Rattle.http_buffer.proofs.Taking.{takes_both}
 use Rattle.http_buffer.proofs.Seen.{seen_all, feed_ends, feed_late, no_feed, still_open}

@@ -1,6 +1,5 @@
 -- The bytes that are joined stand behind the kept ones.
-use Rattle.std.proofs.Common.{◌≡◌, ◌+◌, ◌++◌, ◌-◌, length, take, drop, refl, sym, ap, ◌∙◌, arith}
-use Rattle.http_buffer.specs.Order.{kept_of, pending_of}
+use Rattle.std.proofs.Common.{◌+◌, ◌∙◌, arith}
 use Rattle.http_buffer.proofs.Ranges.{joined_here, joined_moved, part_above, part_drop}
 use Rattle.http_buffer.proofs.offsets.join.Goals as goal
 

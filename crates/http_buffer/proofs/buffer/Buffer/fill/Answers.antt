@@ -4,7 +4,6 @@ use Rattle.std.specs.Vec.{with_items}
 use Rattle.std.proofs.lemmas.List.{with_items_is}
 use Rattle.http_buffer.specs.State.{BufferState}
 use Rattle.http_buffer.specs.Order.{kept_of, pending_of}
-use Rattle.http_buffer.proofs.Ranges.{part_below}
 use Rattle.http_buffer.proofs.Taking.{filled, gives, gives_none}
 use Rattle.http_buffer.proofs.buffer.Buffer.fill.Goals as goal
 
