@@ -1,10 +1,11 @@
 //! A text between quotation marks, with the escapes that it needs.
-ghost use Rattle.std.specs.Prelude.{◌≡◌, ◌<◌, ◌++◌, ◌∷◌, [], List, ℕ, IsTrue, OnOk, false, string_bytes};
+ghost use Rattle.std.specs.Prelude.{◌≡◌, ◌<◌, ◌≤◌, ◌++◌, ◌∷◌, [], List, ℕ, length, IsTrue, OnOk, false, string_bytes};
 ghost use Rattle.std.specs.List.{list_all, prefix_len, flat_map};
 ghost use Rattle.adx_json.specs.Spelling.{hex_digit as hex_digit_of, control_escape, escape, text_spelling};
 ghost use Rattle.adx_json.specs.Reading.{Stops, is_bare as is_bare_byte};
 
 use adx_units::OutOfMemory;
+use byte_runs::unescaped_len;
 
 /// Puts the text at the end, between quotation marks.
 pub fn push_text(out: &mut String, text: &str) -> Result<(), OutOfMemory>
@@ -31,14 +32,25 @@ fn push_escaped(out: &mut String, text: &str) -> Result<(), OutOfMemory>
     }
 }
 
-pub(crate) fn is_bare(byte: u8) -> bool
+fn is_bare(byte: u8) -> bool
     ensures { result ≡ is_bare_byte byte }
 {
     !(byte == b'"' || byte == b'\\' || byte < 32)
 }
 
-fn bare_len(bytes: &[u8]) -> usize
+/// How many bytes at the front need no escape.
+pub(crate) fn bare_len(bytes: &[u8]) -> usize
     ensures { result ≡ prefix_len is_bare_byte bytes.now }
+{
+    let front = unescaped_len(bytes);
+    let (_, rest) = bytes.split_at(front);
+    front + further_len(rest)
+}
+
+/// The same byte by byte.
+fn further_len(bytes: &[u8]) -> usize
+    ensures value { result ≡ prefix_len is_bare_byte bytes.now }
+    ensures bound { result ≤ length bytes.now }
 {
     bytes.iter().take_while(|byte| is_bare(**byte)).count()
 }

@@ -7,7 +7,7 @@ ghost use Rattle.adx_json.specs.Grammar.{is_short, short_value as short_value_of
 ghost use Rattle.adx_json.specs.Machine.{Frame, Role, in_text, characters, escaped, digits, stop_of, Tells, within_fault};
 ghost use Rattle.adx_json.specs.Found.{FoundDigit, FoundEscape, FoundText, AddsRun, FoundUnit};
 
-use crate::escape::is_bare;
+use crate::escape::bare_len;
 use crate::fault::Stop;
 use crate::front::{after, ascii_text};
 use crate::utf8::broken;
@@ -64,12 +64,6 @@ fn pieces_at(alloc: Global, bytes: &[u8]) -> Result<(Text, &[u8]), Stop>
         waiting = push_unit(&mut out, waiting, unit)?;
         left = rest;
     }
-}
-
-fn bare_len(bytes: &[u8]) -> usize
-    ensures { result ≡ prefix_len is_bare_byte bytes.now }
-{
-    bytes.iter().take_while(|byte| is_bare(**byte)).count()
 }
 
 /// What stands for itself at the front, and what stands behind it.

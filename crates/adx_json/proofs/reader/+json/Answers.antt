@@ -1,10 +1,9 @@
-use Rattle.std.proofs.Common.{◌≡◌, [], ◌∷◌, ◌++◌, true, false, refl, ap, ◌∙◌, arith}
-use Rattle.std.proofs.lemmas.List.{map-append}
+use Rattle.std.proofs.Common.{[], ◌∷◌, true, false, refl, ◌∙◌, arith}
 use Rattle.std.proofs.lemmas.Result.{err_from_is_err_and}
 use Rattle.adx_json.specs.Tree.{null, boolean, items_of, members_of}
 use Rattle.adx_json.specs.Machine.{at_value, at_first_item, at_first_name}
 use Rattle.adx_json.specs.Found.{StopsAt, StopsInside}
-use Rattle.adx_json.specs.View.{tree_of, trees_of, member_of, members_view}
+use Rattle.adx_json.specs.View.{tree_of, trees_of, members_view}
 use Rattle.adx_json.proofs.TextParts.{handed, at_byte}
 use Rattle.adx_json.proofs.Views.{tree_of-Null, tree_of-Bool, tree_of-Number, tree_of-Text, tree_of-List, tree_of-Object}
 use Rattle.adx_json.proofs.ReaderParts.{element_found, element_refused, value_empty, text_value, text_refused, list_value, list_refused, list_deep, object_value, object_refused, object_deep, word_value, word_refused, other_byte, number_value, number_refused}
@@ -48,9 +47,10 @@ items_at-returns-in-Some-after-clause-found t c =
     items_taken c.args.levels c.args.bytes.now c.args.pending.now.items.items c.items.pending.items.items c.element_at.new.pending.items.items c.push.new.self.items c.in_ok-items.items.items c.len-begun.result c.items.left.now c.in_ok-item.item c.in_ok-item.rest.now c.in-Some-after.end.now c.items.invariant.0 c.in_ok-item.ensures.kept.0 c.in_ok-push.ensures.items c.in_ok-item.ensures.found c.in-Some-after.ensures c.items.invariant.2 c.in_ok-items.ensures.tail
 
 pub items_at-returns-in-Some-after-clause-kept : goal.items_at-returns-in-Some-after-clause-kept
-items_at-returns-in-Some-after-clause-kept t c =
-    (c.in_ok-items.ensures.items ∙ items_left c.args.levels c.args.bytes.now c.args.pending.now.items.items c.items.pending.items.items c.element_at.new.pending.items.items c.push.new.self.items c.len-begun.result c.items.left.now c.in_ok-item.item c.items.invariant.0 c.in_ok-item.ensures.kept.0 c.in_ok-push.ensures.items c.items.invariant.2,
-     c.in_ok-item.ensures.kept.1 ∙ c.items.invariant.1)
+items_at-returns-in-Some-after-clause-kept t c = (
+  c.in_ok-items.ensures.items ∙ items_left c.args.levels c.args.bytes.now c.args.pending.now.items.items c.items.pending.items.items c.element_at.new.pending.items.items c.push.new.self.items c.len-begun.result c.items.left.now c.in_ok-item.item c.items.invariant.0 c.in_ok-item.ensures.kept.0 c.in_ok-push.ensures.items c.items.invariant.2,
+  c.in_ok-item.ensures.kept.1 ∙ c.items.invariant.1,
+)
 
 pub items_at-returns-in_default-after-2-clause-stops : goal.items_at-returns-in_default-after-2-clause-stops
 items_at-returns-in_default-after-2-clause-stops t c =
@@ -84,9 +84,10 @@ members_at-returns-in-Some-after-clause-found t c =
     members_taken c.args.levels c.args.bytes.now c.args.pending.now.members.items c.members.pending.members.items c.member_at.new.pending.members.items c.push.new.self.items c.in_ok-members.members.items c.len-begun.result c.members.left.now c.in_ok-member.member c.in_ok-member.rest.now c.in-Some-after.end.now c.members.invariant.0 c.in_ok-member.ensures.kept.1 c.in_ok-push.ensures.items c.in_ok-member.ensures.found c.in-Some-after.ensures c.members.invariant.2 c.in_ok-members.ensures.tail
 
 pub members_at-returns-in-Some-after-clause-kept : goal.members_at-returns-in-Some-after-clause-kept
-members_at-returns-in-Some-after-clause-kept t c =
-    (c.in_ok-member.ensures.kept.0 ∙ c.members.invariant.1,
-     c.in_ok-members.ensures.items ∙ members_left c.args.levels c.args.bytes.now c.args.pending.now.members.items c.members.pending.members.items c.member_at.new.pending.members.items c.push.new.self.items c.len-begun.result c.members.left.now c.in_ok-member.member c.members.invariant.0 c.in_ok-member.ensures.kept.1 c.in_ok-push.ensures.items c.members.invariant.2)
+members_at-returns-in-Some-after-clause-kept t c = (
+  c.in_ok-member.ensures.kept.0 ∙ c.members.invariant.1,
+  c.in_ok-members.ensures.items ∙ members_left c.args.levels c.args.bytes.now c.args.pending.now.members.items c.members.pending.members.items c.member_at.new.pending.members.items c.push.new.self.items c.len-begun.result c.members.left.now c.in_ok-member.member c.members.invariant.0 c.in_ok-member.ensures.kept.1 c.in_ok-push.ensures.items c.members.invariant.2,
+)
 
 pub members_at-returns-in_default-after-2-clause-stops : goal.members_at-returns-in_default-after-2-clause-stops
 members_at-returns-in_default-after-2-clause-stops t c =
