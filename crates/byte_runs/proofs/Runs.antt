@@ -12,7 +12,6 @@ use lib.Count.{count_trailing_zeros}
 pub run_bound : (q : ℕ → Bool) (d : List ℕ) (i : ℕ) → i ≤ length d → i + prefix_len q (drop i d) ≤ length d
 run_bound q d i h = omega (arith, prefix_len-le-length q (drop i d), length-drop i d)
 
-
 none_fails : (b : Bool) (n l m : ℕ) → n ≤ l → cond (not b) (1 + n) 0 ≡ 1 + l → (n ≡ l → m ≡ 0) → cond b 1 0 + 2 * m ≡ 0
 none_fails true n l m le e ih = let no : ⊥ = omega arith in absurd no
 none_fails false n l m le e ih = let z = ih (omega arith) in omega arith

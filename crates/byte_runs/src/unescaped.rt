@@ -13,8 +13,7 @@ fn stops(bytes: u8x16) -> u64
 {
     (bytes.simd_eq(u8x16::splat(b'"'))
         | bytes.simd_eq(u8x16::splat(b'\\'))
-        | (bytes - u8x16::splat(32)).simd_ge(u8x16::splat(96)))
-    .to_bitmask()
+        | (bytes - u8x16::splat(32)).simd_ge(u8x16::splat(96))).to_bitmask()
 }
 
 /// The end of the run from a place on, byte by byte.

@@ -1,6 +1,5 @@
 use Rattle.std.proofs.Common.{refl, sym, ap, ◌∙◌, arith}
 use lib.Count.{count_trailing_zeros}
-use Rattle.std.proofs.lemmas.List.Sums.{prefix_len-le-length}
 use Rattle.byte_runs.specs.Unescaped.{is_stop, is_unescaped}
 use Rattle.byte_runs.proofs.Runs.{run_bound, run_through, run_stops}
 use Rattle.byte_runs.proofs.unescaped.unescaped_len.Goals as goal
