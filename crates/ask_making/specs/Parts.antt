@@ -1,0 +1,26 @@
+-- The bids that were taken so far. Private: no public clause cites it.
+use Rattle.std.specs.Prelude.{◌≡◌, ◌≢◌, ◌≤◌, List, length, map, All}
+use Rattle.std.specs.List.{enumerate_from}
+use Rattle.adx_units.specs.declared.offer.Offer.{Offer}
+use Rattle.allocator_core.specs.declared.reason.TheConstants.{AWARDED, LOST_TO_HIGHER, OVER_BUDGET}
+use Rattle.rtb_request.specs.declared.bid_request.BidRequest.{BidRequest}
+use Rattle.deal_floor.specs.Admission.{kept_length}
+use Rattle.deal_floor.specs.declared.campaign.Campaign.{Campaign}
+use Rattle.day_rules.specs.Asks.{IsOffer, NeedsTexts}
+use Rattle.day_rules.specs.declared.ask.Kept.{Kept}
+use Rattle.day_rules.specs.declared.limits.TheConstants.{MAX_KEPT}
+use Rattle.ask_making.specs.Making.{SeatedBid, offer_of, kept_of}
+
+-- a bid is an offer that a day takes, which isn't decided yet, and its texts fit where it is admitted
+pub record FitsDay (r : BidRequest) (campaigns : List Campaign) (x : SeatedBid) : Type 0 where
+  pub offer : IsOffer (length campaigns) (length r.imps) (offer_of r campaigns x)
+  pub not_awarded : (offer_of r campaigns x).reason ≢ AWARDED
+  pub not_lost : (offer_of r campaigns x).reason ≢ LOST_TO_HIGHER
+  pub not_over : (offer_of r campaigns x).reason ≢ OVER_BUDGET
+  pub texts : NeedsTexts (offer_of r campaigns x) → kept_length x.bidid x.seat x.bid ≤ MAX_KEPT
+
+-- offers and texts are those of these bids
+pub record AreOf (r : BidRequest) (campaigns : List Campaign) (bids : List SeatedBid) (offers : List Offer) (kept : List Kept) : Type 0 where
+  pub offers_are : offers ≡ map (offer_of r campaigns) bids
+  pub kept_are : kept ≡ map kept_of (enumerate_from 0 bids)
+  pub fit : All (FitsDay r campaigns) bids

@@ -1,0 +1,147 @@
+//! Requests and answers with the asks that they make.
+use crate::make_ask;
+use adx_json::{push_number, read};
+use adx_units::{Id, Offer, OutOfMemory};
+use day_rules::{Ask, Kept};
+use deal_floor::Roster;
+use rtb_request::BidRequest;
+use rtb_response::BidAnswer;
+use std::alloc::Global;
+use std::test::Fail;
+
+/// Two bidders and three campaigns.
+const ROSTER: &str =
+    r#"{"day":"2025-03-01","bidders":[{"name":"b1"},{"name":"b2"}],"campaigns":[{"bidder":"b1","seat":"s1","cid":"c1","budget":0.01},{"bidder":"b2","seat":"s2","cid":"c1","budget":1},{"bidder":"b1","seat":"s1","cid":"c2","budget":2}]}"#;
+
+/// A request, the answers of two bidders, and the ask that they make: its id, the ids of its impressions, its offers
+/// (impression, campaign, charge, life, reason) and its kept texts (bid, seat, bidid, adid, nurl, burl, lurl, body).
+const ASKS: [(&str, &str, &str, &str); 5] = [
+    (
+        "{\"id\":\"a\",\"imp\":[{\"id\":\"1\"}]}",
+        "null",
+        "null",
+        "a [1] [] []",
+    ),
+    (
+        "{\"id\":\"a\",\"imp\":[{\"id\":\"1\"}]}",
+        "{\"id\":\"b\",\"seatbid\":[{\"bid\":[{}]}]}",
+        "{\"id\":\"a\",\"seatbid\":[{\"bid\":[]}]}",
+        "a [1] [] []",
+    ),
+    (
+        "{\"id\":\"a\",\"imp\":[{\"id\":\"1\"}]}",
+        "{\"id\":\"a\",\"seatbid\":[{\"seat\":\"s1\",\"bid\":[{\"id\":\"x\",\"impid\":\"1\",\"price\":2.5,\"cid\":\"c1\"}]}]}",
+        "null",
+        "a [1] [0 0 2500000 3600 65535] [0 s1      {\"cid\":\"c1\"}]",
+    ),
+    (
+        "{\"id\":\"a\",\"imp\":[{\"id\":\"1\"}]}",
+        "null",
+        "{\"id\":\"a\",\"seatbid\":[{\"seat\":\"s1\",\"bid\":[{\"id\":\"x\",\"impid\":\"1\",\"price\":2.5,\"cid\":\"c1\"}]}]}",
+        "a [1] [0 0 0 0 3] [0 s1      {\"cid\":\"c1\"}]",
+    ),
+    (
+        "{\"imp\":[{\"id\":\"1\"},{\"id\":\"2\",\"bidfloor\":0.25}],\"id\":\"a\"}",
+        "{\"id\":\"a\",\"bidid\":\"k\",\"seatbid\":[{\"seat\":\"s1\",\"bid\":[{\"id\":\"x\",\"impid\":\"2\",\"price\":0.5,\"cid\":\"c2\",\"exp\":9},7]},{\"seat\":\"s2\",\"bid\":[{\"id\":\"y\",\"impid\":\"1\",\"price\":1,\"cid\":\"c1\",\"lurl\":\"l\"}]}]}",
+        "{\"id\":\"a\",\"seatbid\":[{\"seat\":\"s2\",\"bid\":[{\"id\":\"y\",\"impid\":\"1\",\"price\":1,\"cid\":\"c1\",\"adid\":\"d\",\"nurl\":\"n\",\"burl\":\"b\",\"lurl\":\"l\"}]}]}",
+        "a [1 2] [1 2 500000 9 65535,16 0 0 0 3,0 0 0 0 3,0 1 1000000 3600 65535] [0 s1 k     {\"cid\":\"c2\",\"exp\":9},1 s1 k     ,2 s2 k    l {\"cid\":\"c1\"},3 s2  d n b l {\"cid\":\"c1\",\"adid\":\"d\"}]",
+    ),
+];
+
+fn push_offer(out: &mut String, offer: &Offer) -> Result<(), OutOfMemory> {
+    push_number(out, offer.imp as u64)?;
+    out.push_str(" ")?;
+    push_number(out, offer.campaign as u64)?;
+    out.push_str(" ")?;
+    push_number(out, offer.charge.0)?;
+    out.push_str(" ")?;
+    push_number(out, offer.life as u64)?;
+    out.push_str(" ")?;
+    push_number(out, offer.reason as u64)
+}
+
+fn push_kept(out: &mut String, kept: &Kept) -> Result<(), OutOfMemory> {
+    push_number(out, kept.bid as u64)?;
+    for text in [
+        &kept.seat,
+        &kept.bidid,
+        &kept.adid,
+        &kept.nurl,
+        &kept.burl,
+        &kept.lurl,
+        &kept.body,
+    ] {
+        out.push_str(" ")?;
+        out.push_str(text.as_str())?;
+    }
+    Ok(())
+}
+
+fn push_ask(out: &mut String, ask: &Ask) -> Result<(), OutOfMemory> {
+    out.push_str(ask.auction.as_str())?;
+    out.push_str(" [")?;
+    for (at, imp) in ask.imps.as_slice().iter().enumerate() {
+        out.push_str(if at == 0 { "" } else { " " })?;
+        out.push_str(imp.as_str())?;
+    }
+    out.push_str("] [")?;
+    for (at, offer) in ask.offers.as_slice().iter().enumerate() {
+        out.push_str(if at == 0 { "" } else { "," })?;
+        push_offer(out, offer)?;
+    }
+    out.push_str("] [")?;
+    for (at, kept) in ask.kept.as_slice().iter().enumerate() {
+        out.push_str(if at == 0 { "" } else { "," })?;
+        push_kept(out, kept)?;
+    }
+    Ok(out.push_str("]")?)
+}
+
+/// The answer to an auction that a text is. None where it is none.
+fn answer_of(alloc: Global, auction: &Id, text: &str) -> Result<Option<BidAnswer>, Fail> {
+    let Ok(tree) = read(alloc, text.as_bytes()) else {
+        return Err(Fail::from(OutOfMemory));
+    };
+    Ok(BidAnswer::of(alloc, &tree, auction).ok())
+}
+
+fn request_of(alloc: Global, text: &str) -> Result<BidRequest, Fail> {
+    let Ok(tree) = read(alloc, text.as_bytes()) else {
+        return Err(Fail::from(OutOfMemory));
+    };
+    let Ok(request) = BidRequest::of(alloc, &tree) else {
+        return Err(Fail::from(OutOfMemory));
+    };
+    Ok(request)
+}
+
+fn roster_of(alloc: Global, text: &str) -> Result<Roster, Fail> {
+    let Ok(tree) = read(alloc, text.as_bytes()) else {
+        return Err(Fail::from(OutOfMemory));
+    };
+    let Ok(roster) = Roster::of(alloc, &tree) else {
+        return Err(Fail::from(OutOfMemory));
+    };
+    Ok(roster)
+}
+
+#[test]
+fn asks_have_all_bids_with_their_texts(rt: HostRuntime) -> Result<(), Fail> {
+    let alloc = rt.alloc();
+    let roster = roster_of(alloc, ROSTER)?;
+    let most = roster.bidders.len();
+    for (request, first, second, want) in ASKS {
+        let request = request_of(alloc, request)?;
+        let mut answers = Vec::new(alloc);
+        answers.push(answer_of(alloc, &request.id, first)?)?;
+        answers.push(answer_of(alloc, &request.id, second)?)?;
+        if answers.len() > most {
+            return Err(Fail::from(OutOfMemory));
+        }
+        let ask = make_ask(alloc, &request, &roster, answers.as_slice(), 7)?;
+        let mut got = String::new(alloc);
+        push_ask(&mut got, &ask)?;
+        assert_eq!(rt; got.as_str(), want);
+    }
+    Ok(())
+}

@@ -1,0 +1,5 @@
+pub mod Members
+pub mod Meanings
+pub mod Rosters
+pub mod Found
+pub mod Whys

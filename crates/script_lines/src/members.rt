@@ -1,0 +1,113 @@
+//! The members of a script line, and what they are.
+ghost use Rattle.std.specs.Prelude.{◌≡◌, ◌≤◌, length, option_map, codes, IfSome};
+ghost use Rattle.adx_json.specs.Named.{member_in};
+ghost use Rattle.adx_json.specs.View.{tree_of, trees_of};
+ghost use Rattle.tree_view.specs.Values.{number_in as number_by, whole_by};
+ghost use Rattle.script_lines.specs.Members.{answers_in as answers_by, ask_moment as ask_moment_by, is_null_or_object, is_null_or_object as is_null_or_object_by};
+ghost use Rattle.std.specs.List.{list_all};
+
+use crate::limits::LATEST_MOMENT;
+use adx_json::Json;
+use adx_units::whole_up_to;
+use tree_view::{items_in, members_in, met, number_in};
+
+/// The members of a line that its kinds know, in one walk.
+#[derive(Clone, Copy)]
+pub(crate) struct LineMembers<'a> {
+    pub(crate) ask: Option<&'a Json>,
+    pub(crate) answers: Option<&'a Json>,
+    pub(crate) now: Option<&'a Json>,
+    pub(crate) notice: Option<&'a Json>,
+    pub(crate) auction: Option<&'a Json>,
+    pub(crate) bid: Option<&'a Json>,
+    pub(crate) tick: Option<&'a Json>,
+}
+
+/// The members of a line's value. A value that is no object has none.
+pub(crate) fn line_members(value: &Json) -> LineMembers<'_>
+    ensures ask { option_map (λ t. tree_of t.now) result.ask ≡ member_in (codes "ask") (tree_of value.now) }
+    ensures answers { option_map (λ t. tree_of t.now) result.answers ≡ member_in (codes "answers") (tree_of value.now) }
+    ensures now { option_map (λ t. tree_of t.now) result.now ≡ member_in (codes "now") (tree_of value.now) }
+    ensures notice { option_map (λ t. tree_of t.now) result.notice ≡ member_in (codes "notice") (tree_of value.now) }
+    ensures auction { option_map (λ t. tree_of t.now) result.auction ≡ member_in (codes "auction") (tree_of value.now) }
+    ensures bid { option_map (λ t. tree_of t.now) result.bid ≡ member_in (codes "bid") (tree_of value.now) }
+    ensures tick { option_map (λ t. tree_of t.now) result.tick ≡ member_in (codes "tick") (tree_of value.now) }
+{
+    let mut ask: Option<&Json> = None;
+    let mut answers: Option<&Json> = None;
+    let mut now: Option<&Json> = None;
+    let mut notice: Option<&Json> = None;
+    let mut auction: Option<&Json> = None;
+    let mut bid: Option<&Json> = None;
+    let mut tick: Option<&Json> = None;
+    for member in members_in(value) {
+        ask = met(ask, "ask", member);
+        answers = met(answers, "answers", member);
+        now = met(now, "now", member);
+        notice = met(notice, "notice", member);
+        auction = met(auction, "auction", member);
+        bid = met(bid, "bid", member);
+        tick = met(tick, "tick", member);
+    }
+    LineMembers {
+        ask,
+        answers,
+        now,
+        notice,
+        auction,
+        bid,
+        tick,
+    }
+}
+
+/// The whole number of at most `most` that a value is.
+pub(crate) fn whole_in(value: Option<&Json>, most: u64) -> Option<u64>
+    ensures value { result ≡ whole_by most (number_by (option_map (λ t. tree_of t.now) value.entry)) }
+    ensures small { IfSome result (λ n. n ≤ most) }
+{
+    whole_up_to(number_in(value)?.as_bytes(), most)
+}
+
+/// The moment of an ask; 0 where none is given.
+pub(crate) fn ask_moment(value: Option<&Json>) -> Option<u64>
+    ensures value { result ≡ ask_moment_by (option_map (λ t. tree_of t.now) value.entry) }
+    ensures small { IfSome result (λ n. n ≤ LATEST_MOMENT) }
+{
+    if value.is_none() {
+        return Some(0);
+    }
+    whole_in(value, LATEST_MOMENT)
+}
+
+/// The answers that a line gives for so many bidders. None where they aren't of their form.
+pub(crate) fn answers_in(value: Option<&Json>, bidders: usize) -> Option<&[Json]>
+    ensures value { option_map (λ ts. trees_of ts.now) result ≡ answers_by bidders (option_map (λ t. tree_of t.now) value.entry) }
+    ensures few { IfSome result (λ ts. length ts.now ≤ bidders) }
+{
+    match value {
+        None => Some(&[]),
+        Some(Json::List(_)) => {
+            let trees = items_in(value);
+            (trees.len() <= bidders && are_null_or_objects(trees)).then_some(trees)
+        }
+        Some(_) => None,
+    }
+}
+
+fn are_null_or_objects(trees: &[Json]) -> bool
+    ensures { result ≡ list_all is_null_or_object (trees_of trees.now) }
+{
+    all_null_or_objects(trees)
+}
+
+fn all_null_or_objects(trees: &[Json]) -> bool
+    ensures { result ≡ list_all (λ t. is_null_or_object (tree_of t)) trees.now }
+{
+    trees.iter().all(|tree| is_null_or_object(tree))
+}
+
+fn is_null_or_object(tree: &Json) -> bool
+    ensures { result ≡ is_null_or_object_by (tree_of tree.now) }
+{
+    matches!(tree, Json::Null | Json::Object(_))
+}
