@@ -225,7 +225,7 @@ head_found at end w n bytes s e not is =
       within = within;
     }
 
-empty_is_line : (line : List ℕ) → is_empty_line line ≡ true → IsLine line
+pub empty_is_line : (line : List ℕ) → is_empty_line line ≡ true → IsLine line
 empty_is_line [] e = All-nil (λ b. b ≢ 10)
 empty_is_line (b ∷ []) e = All-cons (λ b. b ≢ 10) b [] (λ is. let f : is_empty_line (10 ∷ []) ≡ true = ap (λ x. is_empty_line (x ∷ [])) (sym is) ∙ e in cc) (All-nil (λ b. b ≢ 10))
 empty_is_line (b ∷ c ∷ more) e = absurd (cc)
@@ -234,7 +234,7 @@ empties_are_lines : (lines : List (List ℕ)) → All IsEmpty lines → All IsLi
 empties_are_lines [] all = All-nil IsLine
 empties_are_lines (x ∷ lines) all = All-cons IsLine x lines (empty_is_line x (All-head IsEmpty x lines all)) (empties_are_lines lines (All-tail IsEmpty x lines all))
 
-fulls_are_lines : (lines : List (List ℕ)) → All IsFull lines → All IsLine lines
+pub fulls_are_lines : (lines : List (List ℕ)) → All IsFull lines → All IsLine lines
 fulls_are_lines [] all = All-nil IsLine
 fulls_are_lines (x ∷ lines) all = All-cons IsLine x lines (IsFull.is_line (All-head IsFull x lines all)) (fulls_are_lines lines (All-tail IsFull x lines all))
 

@@ -1,0 +1,5 @@
+pub mod Told
+pub mod BodyParts
+pub mod ChunkParts
+pub mod Trailers
+pub mod Joins

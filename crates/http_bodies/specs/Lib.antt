@@ -1,0 +1,3 @@
+pub mod Chunks
+pub mod BodyForms
+pub mod Steps
