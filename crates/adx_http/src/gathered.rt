@@ -1,3 +1,4 @@
+//! Pieces of a reply that are gathered before a sink takes them.
 ghost use Rattle.std.specs.Prelude.{◌≡◌, ◌≤◌, ◌+◌, ◌++◌, ℕ, List, [], length, take, Option, true, false};
 ghost use Rattle.adx_io.specs.Streams.{HasCause};
 

@@ -1,3 +1,4 @@
+//! Replies, and their bytes as a sink takes them.
 ghost use Rattle.std.specs.Prelude.{◌≡◌, ℕ, List, [], ◌++◌, Option};
 ghost use Rattle.adx_http.specs.Written.{Writes, WritesBy};
 ghost use Rattle.adx_http.specs.Replies.{phrase, when, field_line, status_line, field_lines, has_body, reply_bytes};

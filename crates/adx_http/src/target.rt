@@ -1,3 +1,4 @@
+//! The path and the query of a request's target.
 ghost use Rattle.std.specs.Prelude.{◌≡◌, ◌≤◌, length, position, option_map, IfOk};
 ghost use Rattle.std.specs.List.{position_or_len};
 ghost use Rattle.std.specs.Cow.{cow_str_bytes};

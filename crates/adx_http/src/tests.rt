@@ -1,3 +1,4 @@
+//! Replies and targets, each with its bytes.
 use crate::{Reply, query_value, read_target, write_reply};
 use adx_io::MemorySink;
 use std::test::Fail;

@@ -1,3 +1,4 @@
+//! Why no message was read.
 use std::fmt;
 
 /// Why no message was read.

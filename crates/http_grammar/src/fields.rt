@@ -1,3 +1,4 @@
+//! What the fields of a head say: the values of a name, codings, and `close`.
 ghost use Rattle.std.specs.Prelude.{◌≡◌, ℕ, ◌<◌, ◌+◌, List, [], ◌∷◌, ◌++◌, length, take, drop, cond, Bool, ◌||◌, not, codes};
 ghost use Rattle.std.specs.Str.{str_eq_ignore_ascii_case};
 ghost use Rattle.http_grammar.specs.Heads.{pairs_at, AreWithin};

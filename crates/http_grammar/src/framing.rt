@@ -1,3 +1,5 @@
+//! How the fields of a message frame its body.
+
 /// How the fields of a message frame its body.
 #[derive(Clone, Copy, Debug, PartialEq, Eq)]
 pub enum Framing {

@@ -1,3 +1,4 @@
+//! Heads as the spans of their parts: a whole slice is a head of the grammar, or none.
 ghost use Rattle.std.specs.Prelude.{length, IfSome};
 ghost use Rattle.httparse.specs.Spans.{IsRequestWithin, IsResponseWithin};
 ghost use Rattle.http_grammar.specs.Heads.{ReadsRequestAlone, ReadsResponseAlone};

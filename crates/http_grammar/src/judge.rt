@@ -1,3 +1,4 @@
+//! The tests of a head, in their order.
 ghost use Rattle.std.specs.Prelude.{◌≡◌, ◌≢◌, ◌⊎◌, ◌↔◌, ◌≤◌, ◌<◌, ℕ, length, IsTrue, MatchOption, MatchResult};
 ghost use Rattle.http_grammar.specs.Heads.{pairs_at, AreWithin};
 ghost use Rattle.http_grammar.specs.Fields.{HasHost};

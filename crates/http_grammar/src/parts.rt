@@ -1,3 +1,4 @@
+//! What the head of a request or a response says to its reader.
 ghost use Rattle.std.specs.Prelude.{◌≡◌, ◌≤◌, length, MatchResult, IfOk};
 ghost use Rattle.http_grammar.specs.Requests.{SaysRequest, RefusesRequest, SaysResponse, RefusesResponse};
 

@@ -1,3 +1,4 @@
+//! Heads by the rules of RFC 9110 and RFC 9112.
 use crate::{Framing, HttpFault, Verb, request_parts};
 use httparse::spans::EMPTY_HEADER_SPAN;
 use std::test::Fail;

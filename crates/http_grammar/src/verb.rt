@@ -1,3 +1,4 @@
+//! The kinds of methods that are told apart.
 ghost use Rattle.std.specs.Prelude.{◌≡◌};
 ghost use Rattle.http_grammar.specs.Requests.{verb_of_method};
 
