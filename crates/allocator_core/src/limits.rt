@@ -1,3 +1,5 @@
+//! How many impressions and offers are settled at once.
+
 /// The most impressions of an ask.
 pub const IMP_LIMIT: usize = 16;
 

@@ -19,22 +19,11 @@ use Rattle.day_asks.specs.KeptTexts.{IsShort}
 use Rattle.day_asks.specs.OfferTests.{trimmed}
 
 -- the texts that stay are those of the bids that have any, each trimmed
-stays_one : (offers : List Offer) (k : Kept) (wins told : Bool) → is_winners offers k ≡ wins → may_be_told k ≡ told → (rest : List Kept)
+pub stays_one : (offers : List Offer) (k : Kept) (wins told : Bool) → is_winners offers k ≡ wins → may_be_told k ≡ told → (rest : List Kept)
     → cons_option (stays offers k) rest ≡ cond (is_some (stays offers k)) (trimmed offers k ∷ rest) rest
 stays_one offers k true told w t rest = rw w refl
 stays_one offers k false true w t rest = rw (w, t) refl
 stays_one offers k false false w t rest = rw (w, t) refl
-
-map_cond : (f : Kept → Kept) (b : Bool) (k : Kept) (ks : List Kept) → map f (cond b (k ∷ ks) ks) ≡ cond b (f k ∷ map f ks) (map f ks)
-map_cond f true k ks = refl
-map_cond f false k ks = refl
-
-pub kept_by_two : (offers : List Offer) (kept : List Kept) → map (trimmed offers) (filter (λ k. is_some (stays offers k)) kept) ≡ settled_kept offers kept
-kept_by_two offers [] = refl
-kept_by_two offers (k ∷ ks) =
-    map_cond (trimmed offers) (is_some (stays offers k)) k (filter (λ k. is_some (stays offers k)) ks)
-    ∙ (ap (λ (t : List Kept). cond (is_some (stays offers k)) (trimmed offers k ∷ t) t) (kept_by_two offers ks)
-    ∙ sym (stays_one offers k (is_winners offers k) (may_be_told k) refl refl (settled_kept offers ks)))
 
 -- each is a winner's, or short
 abbrev IsWinnersOrShort : List Offer → Kept → Type 0

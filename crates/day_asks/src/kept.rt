@@ -1,5 +1,5 @@
 //! The kept texts of bids: what they count, and which of them stay.
-ghost use Rattle.std.specs.Prelude.{◌≡◌, ◌*◌, ◌^◌, ◌<◌, ◌≤◌, All, is_some, length};
+ghost use Rattle.std.specs.Prelude.{◌≡◌, ◌*◌, ◌^◌, ◌<◌, ◌≤◌, All, is_some, length, take};
 ghost use Rattle.day_rules.specs.Asks.{is_winners as is_winners_of, may_be_told as may_be_told_of, settled_kept, stays as what_stays};
 ghost use Rattle.day_rules.specs.Books.{kept_size, text_size as text_size_of};
 ghost use Rattle.day_asks.specs.KeptTexts.{IsShort, sizes_of};
@@ -60,16 +60,31 @@ fn trim(alloc: Global, offers: &[Offer], kept: &mut Kept)
     }
 }
 
+/// Moves the texts that stay beside offers that were decided to the front, trimmed and in their order,
+/// and tells how many they are.
+fn settle_front(alloc: Global, offers: &[Offer], kept: &mut [Kept]) -> usize
+    ensures front { take result kept.new ≡ settled_kept offers.now kept.old }
+    ensures within { result ≤ length kept.new }
+{
+    let mut count = 0;
+    for place in 0..kept.len() {
+        if stays(offers, &kept[place]) {
+            trim(alloc, offers, &mut kept[place]);
+            kept.swap(count, place);
+            count += 1;
+        }
+    }
+    count
+}
+
 /// The texts that stay beside offers that were decided, without memory.
 pub fn settle_kept(alloc: Global, offers: &[Offer], mut kept: Vec<Kept>) -> Vec<Kept>
     ensures { result.items ≡ settled_kept offers.now kept.items }
 {
-    kept.retain(|texts| stays(offers, texts));
+    let count = settle_front(alloc, offers, &mut kept);
+    kept.truncate(count);
     // Most texts go, and what stays is held as long as the day.
     kept.shrink_to_fit();
-    for texts in kept.iter_mut() {
-        trim(alloc, offers, texts);
-    }
     kept
 }
 

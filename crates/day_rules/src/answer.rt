@@ -1,3 +1,4 @@
+//! What a day answers to a call.
 use notice_book::End;
 
 /// A limit of the day.

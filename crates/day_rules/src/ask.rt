@@ -1,3 +1,4 @@
+//! Asks: a request for bids with all that was bid, and the texts of bids that a day keeps.
 use adx_units::{Id, Offer, Sequence, Text};
 
 /// The texts of one bid that the day keeps.
