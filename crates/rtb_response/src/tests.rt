@@ -1,3 +1,4 @@
+//! Tables of answers with their first fault, of bids, and the exchange's answer.
 use crate::bid::Bid;
 use crate::bid_answer::BidAnswer;
 use crate::exchange_answer::write_answer;
@@ -9,120 +10,47 @@ use std::alloc::{AllocError, Global};
 use std::fmt::Write;
 use std::test::Fail;
 
-/// The members of an answer, and its fault. The faults come in their order, each with the one behind it where both
-/// can stand together.
-const FAULTS: [(&str, Option<AnswerFault>); 20] = [
-    ("", Some(AnswerFault::NoId)),
-    ("\"id\":null", Some(AnswerFault::NoId)),
-    ("\"id\":1,\"cur\":\"EUR\"", Some(AnswerFault::NoId)),
-    ("\"id\":\"b\"", Some(AnswerFault::OtherId)),
-    ("\"id\":\"b\",\"cur\":\"EUR\"", Some(AnswerFault::OtherId)),
-    (
-        "\"id\":\"a\",\"cur\":\"EUR\"",
-        Some(AnswerFault::OtherCurrency),
-    ),
-    (
-        "\"id\":\"a\",\"cur\":[\"USD\"]",
-        Some(AnswerFault::OtherCurrency),
-    ),
-    (
-        "\"id\":\"a\",\"cur\":\"usd\",\"seatbid\":{}",
-        Some(AnswerFault::OtherCurrency),
-    ),
-    (
-        "\"id\":\"a\",\"seatbid\":{\"bid\":[]}",
-        Some(AnswerFault::BadField {
-            field: Field::Seatbid,
-        }),
-    ),
-    (
-        "\"id\":\"a\",\"seatbid\":\"s\"",
-        Some(AnswerFault::BadField {
-            field: Field::Seatbid,
-        }),
-    ),
-    (
-        "\"id\":\"a\",\"seatbid\":[{\"bid\":[]},{}]",
-        Some(AnswerFault::BadField {
-            field: Field::SeatbidBid,
-        }),
-    ),
-    (
-        "\"id\":\"a\",\"seatbid\":[{\"bid\":null}]",
-        Some(AnswerFault::BadField {
-            field: Field::SeatbidBid,
-        }),
-    ),
-    (
-        "\"id\":\"a\",\"seatbid\":[[]]",
-        Some(AnswerFault::BadField {
-            field: Field::SeatbidBid,
-        }),
-    ),
-    (
-        "\"id\":\"a\",\"seatbid\":[{\"bid\":{}}]",
-        Some(AnswerFault::BadField {
-            field: Field::SeatbidBid,
-        }),
-    ),
-    ("\"id\":\"a\"", None),
-    ("\"id\":\"a\",\"cur\":null,\"seatbid\":null", None),
-    ("\"id\":\"a\",\"cur\":\"USD\",\"seatbid\":[]", None),
-    ("\"seatbid\":[{\"bid\":[7]}],\"id\":\"a\"", None),
-    ("\"seatbid\":[{\"bid\":[]}],\"id\":\"a\"", None),
-    ("\"bidid\":null,\"id\":\"a\",\"nbr\":2", None),
-];
+/// In each line the word of the first fault, or "bids", and then an answer to the request a. The faults come in their
+/// order, each with the one behind it where both can stand together.
+const FAULTS: &str = r#"noid []
+noid 7
+noid {}
+noid {"id":null}
+noid {"id":1,"cur":"EUR"}
+otherid {"id":"b"}
+otherid {"id":"b","cur":"EUR"}
+othercur {"id":"a","cur":"EUR"}
+othercur {"id":"a","cur":["USD"]}
+othercur {"id":"a","cur":"usd","seatbid":{}}
+seatbid {"id":"a","seatbid":{"bid":[]}}
+seatbid {"id":"a","seatbid":"s"}
+seatbid.bid {"id":"a","seatbid":[{"bid":[]},{}]}
+seatbid.bid {"id":"a","seatbid":[{"bid":null}]}
+seatbid.bid {"id":"a","seatbid":[[]]}
+seatbid.bid {"id":"a","seatbid":[{"bid":{}}]}
+seatbid.bid {"id":"a","seatbid":[{"bid":[0,0,0,0,0,0,0,0,0,0,0,0,0,0,0,0,0,0,0,0,0,0,0,0,0,0,0,0,0,0,0,0,0,0,0,0,0,0,0,0,0,0,0,0,0,0,0,0,0,0,0,0,0,0,0,0,0,0,0,0,0,0,0,0,0]},{"bid":[0]},{}]}
+manybids {"id":"a","seatbid":[{"bid":[0,0,0,0,0,0,0,0,0,0,0,0,0,0,0,0,0,0,0,0,0,0,0,0,0,0,0,0,0,0,0,0,0,0,0,0,0,0,0,0,0,0,0,0,0,0,0,0,0,0,0,0,0,0,0,0,0,0,0,0,0,0,0,0,0]},{"bid":[]}]}
+manybids {"id":"a","seatbid":[{"bid":[0,0,0,0,0,0,0,0,0,0,0,0,0,0,0,0,0,0,0,0,0,0,0,0,0,0,0,0,0,0,0,0,0]},{"bid":[0,0,0,0,0,0,0,0,0,0,0,0,0,0,0,0,0,0,0,0,0,0,0,0,0,0,0,0,0,0,0,0]}]}
+manybids {"id":"a","seatbid":[{"bid":[0]},{"bid":[0,0,0,0,0,0,0,0,0,0,0,0,0,0,0,0,0,0,0,0,0,0,0,0,0,0,0,0,0,0,0,0,0,0,0,0,0,0,0,0,0,0,0,0,0,0,0,0,0,0,0,0,0,0,0,0,0,0,0,0,0,0,0,0]}]}
+bids {"id":"a","seatbid":[{"bid":[0,0,0,0,0,0,0,0,0,0,0,0,0,0,0,0,0,0,0,0,0,0,0,0,0,0,0,0,0,0,0,0]},{"bid":[0,0,0,0,0,0,0,0,0,0,0,0,0,0,0,0,0,0,0,0,0,0,0,0,0,0,0,0,0,0,0,0]}]}
+bids {"id":"a"}
+bids {"id":"a","cur":null,"seatbid":null}
+bids {"id":"a","cur":"USD","seatbid":[]}
+bids {"seatbid":[{"bid":[7]}],"id":"a"}
+bids {"seatbid":[{"bid":[]}],"id":"a"}
+bids {"bidid":null,"id":"a","nbr":2}"#;
 
-/// How many bids two seats have, whether a seat without bids stands behind them, and the fault.
-const COUNTS: [(usize, usize, bool, Option<AnswerFault>); 5] = [
-    (32, 32, false, None),
-    (65, 0, false, Some(AnswerFault::TooManyBids)),
-    (33, 32, false, Some(AnswerFault::TooManyBids)),
-    (1, 64, false, Some(AnswerFault::TooManyBids)),
-    (
-        65,
-        1,
-        true,
-        Some(AnswerFault::BadField {
-            field: Field::SeatbidBid,
-        }),
-    ),
-];
-
-/// A bid, and what is told of it: whether it is whole, its id, impression, price, seconds, deal, notices, `adid`,
-/// `cid`, domains, categories and body.
-const BIDS: [(&str, &str); 9] = [
-    ("7", "false||||NotNumber|0|-||||||||"),
-    ("{}", "false||||NotNumber|0|-||||||||{}"),
-    (
-        "{\"id\":\"b\",\"impid\":\"1\",\"price\":\"2\",\"exp\":60.0}",
-        "true|b|1||NotNumber|0|-||||||||{\"exp\":60.0}",
-    ),
-    (
-        "{\"id\":\"b\",\"impid\":1,\"price\":0,\"exp\":2147483647}",
-        "false|b|||NotPositive|2147483647|-||||||||{\"exp\":2147483647}",
-    ),
-    (
-        "{\"id\":null,\"impid\":\"1\",\"price\":1000000.000001,\"dealid\":\"\"}",
-        "false||1||TooLarge|0|deal ||||||||{\"dealid\":\"\"}",
-    ),
-    (
-        "{\"adomain\":[\"x\",1,null,\"y\"],\"cat\":\"c\",\"nurl\":5,\"exp\":2147483648}",
-        "false||||NotNumber|0|-||||||x,y,||{\"adomain\":[\"x\",1,null,\"y\"],\"cat\":\"c\",\"exp\":2147483648}",
-    ),
-    (
-        "{\"id\":\"b\",\"impid\":\"1\",\"price\":2.5,\"nurl\":\"n\",\"burl\":\"u\",\"lurl\":\"l\",\"adm\":\"<img>\",\"adid\":\"d\",\"cid\":\"c\",\"cat\":[\"IAB3\"],\"w\":300,\"h\":250,\"exp\":60,\"dealid\":\"e\"}",
-        "true|b|1||2500000|60|deal e|n|u|l|d|c||IAB3,|{\"adm\":\"<img>\",\"adid\":\"d\",\"cid\":\"c\",\"cat\":[\"IAB3\"],\"w\":300,\"h\":250,\"exp\":60,\"dealid\":\"e\"}",
-    ),
-    (
-        "{\"id\":\"v\",\"impid\":\"2\",\"price\":12,\"adm\":\"<VAST version=\\\"4.2\\\"/>\",\"dur\":30}",
-        "true|v|2||12000000|0|-||||||||{\"adm\":\"<VAST version=\\\"4.2\\\"/>\",\"dur\":30}",
-    ),
-    (
-        "{\"price\":0.5,\"id\":\"n\",\"impid\":\"3\",\"mtype\":4,\"adm\":\"{\\\"native\\\":{\\\"assets\\\":[]}}\"}",
-        "true|n|3||500000|0|-||||||||{\"mtype\":4,\"adm\":\"{\\\"native\\\":{\\\"assets\\\":[]}}\"}",
-    ),
-];
+/// In each line a bid, and what is told of it: whether it is whole, its id, impression, price, seconds, deal, notices,
+/// `adid`, `cid`, domains, categories and body.
+const BIDS: &str = r#"7 tells false||||NotNumber|0|-||||||||
+{} tells false||||NotNumber|0|-||||||||{}
+{"id":"b","impid":"1","price":"2","exp":60.0} tells true|b|1||NotNumber|0|-||||||||{"exp":60.0}
+{"id":"b","impid":1,"price":0,"exp":2147483647} tells false|b|||NotPositive|2147483647|-||||||||{"exp":2147483647}
+{"id":null,"impid":"1","price":1000000.000001,"dealid":""} tells false||1||TooLarge|0|deal ||||||||{"dealid":""}
+{"adomain":["x",1,null,"y"],"cat":"c","nurl":5,"exp":2147483648} tells false||||NotNumber|0|-||||||x,y,||{"adomain":["x",1,null,"y"],"cat":"c","exp":2147483648}
+{"id":"b","impid":"1","price":2.5,"nurl":"n","burl":"u","lurl":"l","adm":"<img>","adid":"d","cid":"c","cat":["IAB3"],"w":300,"h":250,"exp":60,"dealid":"e"} tells true|b|1||2500000|60|deal e|n|u|l|d|c||IAB3,|{"adm":"<img>","adid":"d","cid":"c","cat":["IAB3"],"w":300,"h":250,"exp":60,"dealid":"e"}
+{"id":"v","impid":"2","price":12,"adm":"<VAST version=\"4.2\"/>","dur":30} tells true|v|2||12000000|0|-||||||||{"adm":"<VAST version=\"4.2\"/>","dur":30}
+{"price":0.5,"id":"n","impid":"3","mtype":4,"adm":"{\"native\":{\"assets\":[]}}"} tells true|n|3||500000|0|-||||||||{"mtype":4,"adm":"{\"native\":{\"assets\":[]}}"}"#;
 
 fn push_texts(out: &mut String, texts: &[Text]) -> Result<(), AllocError> {
     for text in texts {
@@ -174,64 +102,83 @@ fn told(alloc: Global, bid: &Bid) -> Result<String, AllocError> {
     Ok(out)
 }
 
-fn push_bids(out: &mut String, bids: usize) -> Result<(), AllocError> {
-    out.push_str("{\"bid\":[")?;
-    for place in 0..bids {
-        out.push_str(if place == 0 { "{}" } else { ",{}" })?;
+/// The word of an answer's first fault, and "bids" where it has none.
+fn word_of(answer: &Result<BidAnswer, AnswerFault>) -> &'static str {
+    match answer {
+        Ok(_) => "bids",
+        Err(AnswerFault::NoId) => "noid",
+        Err(AnswerFault::OtherId) => "otherid",
+        Err(AnswerFault::OtherCurrency) => "othercur",
+        Err(
+            AnswerFault::BadField {
+                field: Field::Seatbid,
+            },
+        ) => "seatbid",
+        Err(
+            AnswerFault::BadField {
+                field: Field::SeatbidBid,
+            },
+        ) => "seatbid.bid",
+        Err(AnswerFault::TooManyBids) => "manybids",
+        Err(AnswerFault::OutOfMemory) => "memory",
     }
-    out.push_str("]}")
 }
 
-fn answer_of(alloc: Global, id: &Id, text: &str) -> Result<Result<BidAnswer, AnswerFault>, Fail> {
+fn answer_of(alloc: Global, text: &str) -> Result<Result<BidAnswer, AnswerFault>, Fail> {
+    let id = Id::of(alloc, "a")?.ok_or(OutOfMemory)?;
     let tree = read(alloc, text.as_bytes())?;
-    Ok(BidAnswer::of(alloc, &tree, id))
+    Ok(BidAnswer::of(alloc, &tree, &id))
+}
+
+/// Whether an answer's first fault is the one of that word, or it has none and the word is "bids".
+fn is_answer(alloc: Global, text: &str, want: &str) -> Result<bool, Fail> {
+    let answer = answer_of(alloc, text)?;
+    Ok(word_of(&answer) == want)
 }
 
 #[test]
 fn answers_give_bids_or_their_first_fault(rt: HostRuntime) -> Result<(), Fail> {
-    let alloc = rt.alloc();
-    let id = Id::of(alloc, "a")?.ok_or(OutOfMemory)?;
-    for (members, want) in FAULTS {
-        let mut text = String::from_str(alloc, "{")?;
-        text.push_str(members)?;
-        text.push_str("}")?;
-        assert_eq!(rt; answer_of(alloc, &id, text.as_str())?.err(), want);
-    }
-    for (first, second, without, want) in COUNTS {
-        let mut text = String::from_str(alloc, "{\"id\":\"a\",\"seatbid\":[")?;
-        push_bids(&mut text, first)?;
-        text.push_str(",")?;
-        push_bids(&mut text, second)?;
-        text.push_str(if without { ",{}]}" } else { "]}" })?;
-        assert_eq!(rt; answer_of(alloc, &id, text.as_str())?.err(), want);
+    assert_eq!(rt; FAULTS.lines().count(), 27);
+    for line in FAULTS.lines() {
+        let (want, text) = line.split_once(' ').ok_or("no answer")?;
+        assert!(rt; is_answer(rt.alloc(), text, want)?, "{line}");
     }
     Ok(())
 }
 
+/// Whether the answer has a seat without bids that are sold together, and one of a seat with one bid of which this is
+/// told.
+fn is_told(alloc: Global, answer: &BidAnswer, want: &str) -> Result<bool, Fail> {
+    let [empty, seat] = answer.seats.as_slice() else {
+        return Ok(false);
+    };
+    let [only] = seat.bids.as_slice() else {
+        return Ok(false);
+    };
+    let groups = empty.all_or_none && empty.bids.is_empty() && !seat.all_or_none;
+    let named = answer.bidid.as_str() == "r" && seat.seat.as_str() == "s";
+    Ok(groups && named && told(alloc, only)?.as_str() == want)
+}
+
+fn is_bid(alloc: Global, bid: &str, want: &str) -> Result<bool, Fail> {
+    let mut text = String::from_str(alloc, AROUND)?;
+    text.push_str(bid)?;
+    text.push_str("]}]}")?;
+    match answer_of(alloc, text.as_str())? {
+        Ok(answer) => is_told(alloc, &answer, want),
+        Err(_) => Ok(false),
+    }
+}
+
+/// What stands before a bid.
+const AROUND: &str = r#"{"id":"a","bidid":"r","seatbid":[{"bid":[],"group":1},{"seat":"s","bid":["#;
+
 #[test]
 fn bids_are_read_member_by_member(rt: HostRuntime) -> Result<(), Fail> {
-    let alloc = rt.alloc();
-    let id = Id::of(alloc, "a")?.ok_or(OutOfMemory)?;
-    for (bid, want) in BIDS {
-        let mut text = String::from_str(
-            alloc,
-            "{\"id\":\"a\",\"bidid\":\"r\",\"seatbid\":[{\"bid\":[],\"group\":1},{\"seat\":\"s\",\"bid\":[",
-        )?;
-        text.push_str(bid)?;
-        text.push_str("]}]}")?;
-        let Ok(answer) = answer_of(alloc, &id, text.as_str())? else {
-            return Err(Fail::from(OutOfMemory));
-        };
-        assert_eq!(rt; answer.bidid.as_str(), "r");
-        let [empty, seat] = answer.seats.as_slice() else {
-            return Err(Fail::from(OutOfMemory));
-        };
-        assert!(rt; empty.all_or_none && empty.bids.is_empty() && !seat.all_or_none);
-        assert_eq!(rt; seat.seat.as_str(), "s");
-        let [only] = seat.bids.as_slice() else {
-            return Err(Fail::from(OutOfMemory));
-        };
-        assert_eq!(rt; told(alloc, only)?.as_str(), want);
+    assert_eq!(rt; BIDS.lines().count(), 9);
+    for line in BIDS.lines() {
+        let (bid, want) = line.split_once(" tells ").ok_or("nothing told")?;
+        assert!(rt; is_bid(rt.alloc(), bid, want)?, "{line}");
     }
     Ok(())
 }
