@@ -4,3 +4,4 @@ pub mod DealSteps
 pub mod ImpSteps
 pub mod RequestSteps
 pub mod Copies
+pub mod Kept

@@ -1,5 +1,5 @@
 -- A copy of a request part by part, each change at its own part. Private: no public clause cites it.
-use Rattle.std.specs.Prelude.{ℕ, List, Bool, codes, if◌then◌else◌}
+use Rattle.std.specs.Prelude.{ℕ, List, codes, if◌then◌else◌}
 use Rattle.std.specs.Str.{bytes_eq}
 use Rattle.adx_json.specs.Tree.{Tree, null, boolean, number, text, list, object, Items, no_items, item, Members, no_members, member}
 use Rattle.rtb_request.specs.ForBidders.{deal_for_bidders}

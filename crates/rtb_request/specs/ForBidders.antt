@@ -1,7 +1,7 @@
 -- What bidders are asked: the request as it came, but for the members of an auction that is held again.
 -- This project's own: each sale is first price (`at` 1 of BidRequest) in USD, and of a deal's `at` only 3, the fixed
 -- price, stays (OpenRTB 2.6, sections 3.2.1 and 3.2.12).
-use Rattle.std.specs.Prelude.{ℕ, List, map, codes, if◌then◌else◌}
+use Rattle.std.specs.Prelude.{ℕ, List, codes, if◌then◌else◌}
 use Rattle.std.specs.Str.{bytes_eq}
 use Rattle.adx_json.specs.Tree.{Tree, null, boolean, number, text, list, object, Items, no_items, item, Members, no_members, member}
 use Rattle.adx_json.specs.Named.{with_member}

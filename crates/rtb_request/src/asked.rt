@@ -1,6 +1,8 @@
 //! What bidders are asked: a copy of the request, but for the members of an auction that is held again.
-ghost use Rattle.std.specs.Prelude.{◌≡◌, map, IfOk, true};
+ghost use Rattle.std.specs.Prelude.{◌≡◌, ◌≤◌, map, max, IfOk, true};
 ghost use Rattle.adx_json.specs.Named.{with_member as tree_with_member, IsObject};
+ghost use Rattle.adx_json.specs.Tree.{levels};
+ghost use Rattle.adx_json.specs.WellFormed.{IsWellFormed};
 ghost use Rattle.adx_json.specs.View.{tree_of, trees_of, members_view};
 ghost use Rattle.tree_view.specs.Values.{given as given_in, is_number_text as is_number_by};
 ghost use Rattle.rtb_request.specs.ForBidders.{request_for_bidders, one as one_tree, dollars_alone as dollars_tree};
@@ -49,9 +51,19 @@ impl Part {
 }
 
 /// What bidders are asked for a request: a copy with `at` 1 and `cur` ["USD"], in which each deal whose `at` isn't 3 has
-/// `at` 1. A member that is there keeps its place, and one that isn't comes last. What is no object stays as it is.
-#[tactic(auto, using(crate::proofs::Copies::request_is))]
+/// `at` 1. A member that is there keeps its place, and one that isn't comes last. What is no object stays as it is. A
+/// request that was read may be written and is read again.
 pub fn for_bidders(alloc: Global, tree: &Json) -> Result<Json, OutOfMemory>
+    ensures tree { IfOk result (λ asked. tree_of asked ≡ request_for_bidders (tree_of tree.now)) }
+    ensures well_formed { IsWellFormed (tree_of tree.now) → IfOk result (λ asked. IsWellFormed (tree_of asked)) }
+    ensures shallow { IfOk result (λ asked. levels (tree_of asked) ≤ max 2 (levels (tree_of tree.now))) }
+{
+    let asked = asked_of(alloc, tree)?;
+    Ok(asked)
+}
+
+#[tactic(auto, using(crate::proofs::Copies::request_is))]
+fn asked_of(alloc: Global, tree: &Json) -> Result<Json, OutOfMemory>
     ensures { IfOk result (λ asked. tree_of asked ≡ request_for_bidders (tree_of tree.now)) }
 {
     let copy = copied(alloc, Part::Request, tree)?;

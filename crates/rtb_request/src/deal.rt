@@ -1,3 +1,4 @@
+//! A deal of an impression.
 ghost use Rattle.std.specs.Prelude.{◌≤◌};
 ghost use Rattle.adx_units.specs.declared.price.TheConstants.{PRICE_LIMIT};
 

@@ -1,3 +1,4 @@
+//! Why a request has no view.
 ghost use Rattle.std.specs.Prelude.{◌≡◌};
 ghost use Rattle.rtb_request.specs.Faults.{name_of};
 ghost use Rattle.rtb_request.specs.declared.fault.RequestFault.TheVariants.{BadField};

@@ -1,3 +1,4 @@
+//! An impression of a request.
 ghost use Rattle.std.specs.Prelude.{◌≡◌, ◌≤◌, map, true};
 ghost use Rattle.adx_units.specs.declared.price.TheConstants.{PRICE_LIMIT};
 ghost use Rattle.rtb_request.specs.declared.imp.TheConstants.{MOST_SECONDS};

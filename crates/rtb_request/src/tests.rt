@@ -1,3 +1,4 @@
+//! A table of requests with their first fault, views, and what bidders are asked.
 use crate::{BidRequest, RequestFault, for_bidders};
 use adx_json::{read, write};
 use std::alloc::Global;

@@ -1,5 +1,5 @@
-use Rattle.std.proofs.Common.{map, drop, ◌+◌, ◌≡◌, Err, ◌∙◌, sym}
-use Rattle.adx_json.specs.View.{tree_of, trees_of}
+use Rattle.std.proofs.Common.{◌∙◌, sym}
+use Rattle.adx_json.specs.View.{tree_of}
 use Rattle.tree_view.proofs.Items.{left_is}
 use Rattle.rtb_request.proofs.DealSteps.{step_on, step_off}
 use Rattle.rtb_request.proofs.deal_reader.deals_of.Goals as goal
