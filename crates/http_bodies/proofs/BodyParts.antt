@@ -31,7 +31,7 @@ pub short : (size : ℕ) (before mid : BufferState) (old new : Option Tape) → 
     → WhereTold old new (λ o n. length (coming before o) < size)
 short size before mid old new t less end =
     told_end old new (λ o n. coming before o ≡ coming mid n) (λ o n. length (coming before o) < size) end
-        (λ o n none e. let k = ap length e in let j = ap length none in omega (arith, k, j, less, length-append mid.pending n.left)) (flow before mid old new t)
+    (λ o n none e. let k = ap length e in let j = ap length none in omega (arith, k, j, less, length-append mid.pending n.left)) (flow before mid old new t)
 
 pub to_end : (limit : ℕ) (before mid now : BufferState) (old new : Option Tape) → Takes before mid old new → length mid.pending < limit + 1 → IsAtEnd new → now ≡ keeping mid (length mid.pending)
     → (b : List ℕ) × (now.kept ≡ before.kept ++ b) × WhereTold old new (λ o n. IsBodyThen limit Body.ToEnd (coming before o) b (coming now n))
@@ -40,13 +40,13 @@ to_end limit before mid now old new t less end is = (
   ap (λ (b : BufferState). b.kept) is ∙ ap (λ l. l ++ take (length mid.pending) mid.pending) t.kept,
   told_end old new (λ o n. coming before o ≡ coming mid n) (λ o n. IsBodyThen limit Body.ToEnd (coming before o) (take (length mid.pending) mid.pending) (coming now n)) end
       (λ o n none e.
-          let all : take (length mid.pending) mid.pending ≡ mid.pending = take_all (length mid.pending) mid.pending (omega arith) in
-          let whole : coming before o ≡ mid.pending = e ∙ ap (λ l. mid.pending ++ l) none ∙ append-nil mid.pending in
-          let k = ap length all in (
-            all ∙ sym whole,
-            ap (λ (b : BufferState). b.pending ++ n.left) is ∙ ap (λ l. drop (length mid.pending) mid.pending ++ l) none ∙ append-nil (drop (length mid.pending) mid.pending) ∙ drop_all (length mid.pending) mid.pending (omega arith),
-            omega (arith, k, less),
-          ))
+      let all : take (length mid.pending) mid.pending ≡ mid.pending = take_all (length mid.pending) mid.pending (omega arith) in
+      let whole : coming before o ≡ mid.pending = e ∙ ap (λ l. mid.pending ++ l) none ∙ append-nil mid.pending in
+      let k = ap length all in (
+        all ∙ sym whole,
+        ap (λ (b : BufferState). b.pending ++ n.left) is ∙ ap (λ l. drop (length mid.pending) mid.pending ++ l) none ∙ append-nil (drop (length mid.pending) mid.pending) ∙ drop_all (length mid.pending) mid.pending (omega arith),
+        omega (arith, k, less),
+      ))
       (flow before mid old new t),
 )
 
@@ -54,4 +54,4 @@ pub past : (limit : ℕ) (before mid : BufferState) (old new : Option Tape) → 
     → WhereTold old new (λ o n. FailsBody limit Body.ToEnd (coming before o) HttpFault.BodyTooLong)
 past limit before mid old new t more =
     told_map old new (λ o n. coming before o ≡ coming mid n) (λ o n. FailsBody limit Body.ToEnd (coming before o) HttpFault.BodyTooLong)
-        (λ o n e. let k = ap length e in omega (arith, k, more, length-append mid.pending n.left)) (flow before mid old new t)
+    (λ o n e. let k = ap length e in omega (arith, k, more, length-append mid.pending n.left)) (flow before mid old new t)

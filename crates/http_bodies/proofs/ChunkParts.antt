@@ -63,29 +63,29 @@ pub line_bad : (before mid : BufferState) (old new : Option Tape) (end : ℕ) �
 line_bad before mid old new end t e none =
     let first = first_line head_limit end mid.pending e in
     told_map old new (λ o n. coming before o ≡ coming mid n) (λ o n. IsBadLine (coming before o))
-        (λ o n f. inl (
-          e.line,
-          e.rest ++ n.left,
-          e.is_line,
-          f ∙ ap (λ p. p ++ n.left) first.1 ∙ append_assoc (ended e.line) e.rest n.left,
-          (let i = e.end_is in let w = e.within in omega (arith, i, w, length-append e.line (10 ∷ []))),
-          λ l is same. none l is (first.0 ∙ same),
-        ))
-        (flow before mid old new t)
+    (λ o n f. inl (
+      e.line,
+      e.rest ++ n.left,
+      e.is_line,
+      f ∙ ap (λ p. p ++ n.left) first.1 ∙ append_assoc (ended e.line) e.rest n.left,
+      (let i = e.end_is in let w = e.within in omega (arith, i, w, length-append e.line (10 ∷ []))),
+      λ l is same. none l is (first.0 ∙ same),
+    ))
+    (flow before mid old new t)
 
 pub line_long : (before mid : BufferState) (old new : Option Tape) → Takes before mid old new → IsTooLong 0 head_limit mid.pending → WhereTold old new (λ o n. IsBadLine (coming before o))
 line_long before mid old new t l =
     told_map old new (λ o n. coming before o ≡ coming mid n) (λ o n. IsBadLine (coming before o))
-        (λ o n f. inr (l.line, l.rest ++ n.left, l.is_line, f ∙ ap (λ p. p ++ n.left) l.behind ∙ append_assoc l.line l.rest n.left, (let g = l.long in omega (arith, g))))
-        (flow before mid old new t)
+    (λ o n f. inr (l.line, l.rest ++ n.left, l.is_line, f ∙ ap (λ p. p ++ n.left) l.behind ∙ append_assoc l.line l.rest n.left, (let g = l.long in omega (arith, g))))
+    (flow before mid old new t)
 
 pub line_open : (before mid : BufferState) (old new : Option Tape) → Takes before mid old new → IsOpen 0 head_limit mid.pending → IsAtEnd new → WhereTold old new (λ o n. IsOpenLine (coming before o))
 line_open before mid old new t p end =
     told_end old new (λ o n. coming before o ≡ coming mid n) (λ o n. IsOpenLine (coming before o)) end
-        (λ o n none f.
-            let all : coming before o ≡ mid.pending = f ∙ ap (λ l. mid.pending ++ l) none ∙ append-nil mid.pending in
-            subst IsOpenLine (sym all) (p.is_line, p.short))
-        (flow before mid old new t)
+    (λ o n none f.
+    let all : coming before o ≡ mid.pending = f ∙ ap (λ l. mid.pending ++ l) none ∙ append-nil mid.pending in
+    subst IsOpenLine (sym all) (p.is_line, p.short))
+    (flow before mid old new t)
 
 -- two bytes stand at the front
 pub two_of : (bytes : List ℕ) → 2 ≤ length bytes → (x y : ℕ) × (rest : List ℕ) × (bytes ≡ x ∷ y ∷ rest)
@@ -106,7 +106,7 @@ data_gives size before mid kept now old new t there ends is is2 =
       length-take-le size p (omega (arith, there)),
       told_map old new (λ o n. coming before o ≡ coming mid n) (λ o n. coming before o ≡ (take size p ++ crlf_bytes) ++ coming now n)
           (λ o n f. f ∙ parts_of size p n.left ∙ ap (λ l. take size p ++ l) (parts_of 2 q n.left ∙ ap (λ l. l ++ (drop 2 q ++ n.left)) crlf ∙ ap (λ l. crlf_bytes ++ (l ++ n.left)) (sym rest))
-              ∙ sym (append_assoc (take size p) crlf_bytes (now.pending ++ n.left)))
+          ∙ sym (append_assoc (take size p) crlf_bytes (now.pending ++ n.left)))
           (flow before mid old new t),
     )
 
@@ -117,13 +117,13 @@ data_bad size before mid old new t there ends =
     let two = two_of (drop size p) (omega (arith, length-drop size p, there)) in
     let test : bytes_eq (two.0 ∷ two.1 ∷ []) crlf_bytes ≡ false = ap (λ l. bytes_eq (take 2 l) crlf_bytes) (sym two.3) ∙ ends in
     told_map old new (λ o n. coming before o ≡ coming mid n) (λ o n. EndsBadly size (coming before o))
-        (λ o n f. record {
-          data_bytes = take size p;
-          x = two.0;
-          y = two.1;
-          rest = two.2 ++ n.left;
-          size_is = length-take-le size p (omega (arith, there));
-          bytes_are = f ∙ parts_of size p n.left ∙ ap (λ l. take size p ++ (l ++ n.left)) two.3;
-          other = λ same. let yes_is : bytes_eq (two.0 ∷ two.1 ∷ []) crlf_bytes ≡ true = (bytes_eq-Decides (two.0 ∷ two.1 ∷ []) crlf_bytes).1 same in cc (test, yes_is);
-        })
-        (flow before mid old new t)
+    (λ o n f. record {
+      data_bytes = take size p;
+      x = two.0;
+      y = two.1;
+      rest = two.2 ++ n.left;
+      size_is = length-take-le size p (omega (arith, there));
+      bytes_are = f ∙ parts_of size p n.left ∙ ap (λ l. take size p ++ (l ++ n.left)) two.3;
+      other = λ same. let yes_is : bytes_eq (two.0 ∷ two.1 ∷ []) crlf_bytes ≡ true = (bytes_eq-Decides (two.0 ∷ two.1 ∷ []) crlf_bytes).1 same in cc (test, yes_is);
+    })
+    (flow before mid old new t)

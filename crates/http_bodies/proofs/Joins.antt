@@ -41,8 +41,8 @@ one_chunk limit size b d bytes mid behind rest h c e is some fits =
     let m = ap length sum in
     let s = c.size_is in
     let bytes_is : mid ≡ print_chunk chunk ++ rest =
-        c.bytes_are ∙ ap (λ l. print_chunk_line c.line ++ l) (e ∙ append_assoc d crlf_bytes rest) ∙ sym (append_assoc (print_chunk_line c.line) d (crlf_bytes ++ rest))
-        ∙ sym (append_assoc (print_chunk_line c.line ++ d) crlf_bytes rest) in (
+    c.bytes_are ∙ ap (λ l. print_chunk_line c.line ++ l) (e ∙ append_assoc d crlf_bytes rest) ∙ sym (append_assoc (print_chunk_line c.line) d (crlf_bytes ++ rest))
+    ∙ sym (append_assoc (print_chunk_line c.line ++ d) crlf_bytes rest) in (
       h.0 ++ chunk ∷ [],
       record {
         each = All-append IsChunk h.0 (chunk ∷ []) (HasChunks.each h.1) (All-cons IsChunk chunk [] (record { line = c.is_line; short = c.short; some = omega (arith, is, some); size = s ∙ sym is }) (All-nil IsChunk));
@@ -66,8 +66,8 @@ joining_more limit room size next before at line now old mid m2 new j l d some f
           (λ o m n h e. one_chunk limit size j.b d.0 (coming before o) (coming at m) e.0 (coming now n) h e.1 e.2 d.2 some (omega (arith, c, fits)))
           j.told
           (told_then mid m2 new (λ m k. BeginsChunk (coming at m) size (coming line k)) (λ k n. coming line k ≡ (d.0 ++ crlf_bytes) ++ coming now n)
-              (λ m n. (behind : List ℕ) × BeginsChunk (coming at m) size behind × (behind ≡ (d.0 ++ crlf_bytes) ++ coming now n))
-              (λ m k n c e. (coming line k, c, e)) l.1 d.3);
+          (λ m n. (behind : List ℕ) × BeginsChunk (coming at m) size behind × (behind ≡ (d.0 ++ crlf_bytes) ++ coming now n))
+          (λ m k n c e. (coming line k, c, e)) l.1 d.3);
     }
 
 -- what is wrong behind the chunks is wrong with the body
@@ -75,7 +75,7 @@ fails : (limit room : ℕ) (before at : BufferState) (old mid new : Option Tape)
     → WhereTold mid new (λ m n. FailsAt limit (length (IsJoining.b j)) (coming at m) fault) → WhereTold old new (λ o n. FailsChunks limit (coming before o) fault)
 fails limit room before at old mid new fault j w =
     told_then old mid new (λ o m. HasJoined limit j.b (coming before o) (coming at m)) (λ m n. FailsAt limit (length j.b) (coming at m) fault) (λ o n. FailsChunks limit (coming before o) fault)
-        (λ o m n h f. record { chunks = h.0; behind = coming at m; before = h.1; fails = subst (λ l. FailsAt limit (length l) (coming at m) fault) (sym h.2) f }) j.told w
+    (λ o m n h f. record { chunks = h.0; behind = coming at m; before = h.1; fails = subst (λ l. FailsAt limit (length l) (coming at m) fault) (sym h.2) f }) j.told w
 
 pub line_fails : (limit room : ℕ) (before at now : BufferState) (old mid new : Option Tape) (fault : HttpFault) → IsJoining limit room before at old mid → LineGives at now mid new (Err fault)
     → BodyGives limit Body.Chunked before now old new (Err fault)
@@ -95,21 +95,21 @@ pub too_long : (limit room size : ℕ) (before at line : BufferState) (old mid n
 too_long limit room size before at line old mid new j l some more =
     let c = j.count in
     fails limit room before at old mid new ChunkFault.too_long j
-        (told_map mid new (λ m n. BeginsChunk (coming at m) size (coming line n)) (λ m n. FailsAt limit (length j.b) (coming at m) ChunkFault.too_long)
-            (λ m n b. (size, coming line n, b, some, omega (arith, c, more))) l.1)
+    (told_map mid new (λ m n. BeginsChunk (coming at m) size (coming line n)) (λ m n. FailsAt limit (length j.b) (coming at m) ChunkFault.too_long)
+    (λ m n b. (size, coming line n, b, some, omega (arith, c, more))) l.1)
 
 pub data_fails : (limit room size : ℕ) (before at line now : BufferState) (old mid m2 new : Option Tape) (fault : HttpFault) → IsJoining limit room before at old mid
     → LineGives at line mid m2 (Ok size) → 0 < size → size ≤ room → DataGives size line now m2 new (Err fault) → BodyGives limit Body.Chunked before now old new (Err fault)
 data_fails limit room size before at line now old mid m2 new HttpFault.Cut j l some fits d =
     let c = j.count in
     fails limit room before at old mid new ChunkFault.cut j
-        (told_then mid m2 new (λ m k. BeginsChunk (coming at m) size (coming line k)) (λ k n. length (coming line k) < size + 2) (λ m n. FailsAt limit (length j.b) (coming at m) ChunkFault.cut)
-            (λ m k n b e. inr (inr (size, coming line k, b, some, omega (arith, c, fits), e))) l.1 d)
+    (told_then mid m2 new (λ m k. BeginsChunk (coming at m) size (coming line k)) (λ k n. length (coming line k) < size + 2) (λ m n. FailsAt limit (length j.b) (coming at m) ChunkFault.cut)
+    (λ m k n b e. inr (inr (size, coming line k, b, some, omega (arith, c, fits), e))) l.1 d)
 data_fails limit room size before at line now old mid m2 new HttpFault.BadChunk j l some fits d =
     let c = j.count in
     fails limit room before at old mid new ChunkFault.bad j
-        (told_then mid m2 new (λ m k. BeginsChunk (coming at m) size (coming line k)) _ (λ m n. FailsAt limit (length j.b) (coming at m) ChunkFault.bad)
-            (λ m k n b e. inr (inr (size, coming line k, b, some, omega (arith, c, fits), e))) l.1 d)
+    (told_then mid m2 new (λ m k. BeginsChunk (coming at m) size (coming line k)) _ (λ m n. FailsAt limit (length j.b) (coming at m) ChunkFault.bad)
+    (λ m k n b e. inr (inr (size, coming line k, b, some, omega (arith, c, fits), e))) l.1 d)
 data_fails limit room size before at line now old mid m2 new HttpFault.ReadFault j l some fits d = d
 data_fails limit room size before at line now old mid m2 new HttpFault.BodyTooLong j l some fits d = absurd d
 data_fails limit room size before at line now old mid m2 new HttpFault.BadHead j l some fits d = d
@@ -138,17 +138,17 @@ trailer_ends limit room size before at line now old mid m2 new (Ok done) j l non
       })
       j.told
       (told_then mid m2 new (λ m k. BeginsChunk (coming at m) size (coming line k)) (λ k n. (trailer : List ℕ) × IsTrailer trailer × (coming line k ≡ trailer ++ coming now n))
-          (λ m n. (behind : List ℕ) × BeginsChunk (coming at m) 0 behind × ((trailer : List ℕ) × IsTrailer trailer × (behind ≡ trailer ++ coming now n)))
-          (λ m k n b e. (coming line k, subst (λ z. BeginsChunk (coming at m) z (coming line k)) none b, e)) l.1 t.1),
+      (λ m n. (behind : List ℕ) × BeginsChunk (coming at m) 0 behind × ((trailer : List ℕ) × IsTrailer trailer × (behind ≡ trailer ++ coming now n)))
+      (λ m k n b e. (coming line k, subst (λ z. BeginsChunk (coming at m) z (coming line k)) none b, e)) l.1 t.1),
 )
 trailer_ends limit room size before at line now old mid m2 new (Err HttpFault.Cut) j l none t =
     fails limit room before at old mid new ChunkFault.cut j
-        (told_then mid m2 new (λ m k. BeginsChunk (coming at m) size (coming line k)) _ (λ m n. FailsAt limit (length j.b) (coming at m) ChunkFault.cut)
-            (λ m k n b e. inr (inl (coming line k, subst (λ z. BeginsChunk (coming at m) z (coming line k)) none b, e))) l.1 t)
+    (told_then mid m2 new (λ m k. BeginsChunk (coming at m) size (coming line k)) _ (λ m n. FailsAt limit (length j.b) (coming at m) ChunkFault.cut)
+    (λ m k n b e. inr (inl (coming line k, subst (λ z. BeginsChunk (coming at m) z (coming line k)) none b, e))) l.1 t)
 trailer_ends limit room size before at line now old mid m2 new (Err HttpFault.BadChunk) j l none t =
     fails limit room before at old mid new ChunkFault.bad j
-        (told_then mid m2 new (λ m k. BeginsChunk (coming at m) size (coming line k)) _ (λ m n. FailsAt limit (length j.b) (coming at m) ChunkFault.bad)
-            (λ m k n b e. inr (inl (coming line k, subst (λ z. BeginsChunk (coming at m) z (coming line k)) none b, e))) l.1 t)
+    (told_then mid m2 new (λ m k. BeginsChunk (coming at m) size (coming line k)) _ (λ m n. FailsAt limit (length j.b) (coming at m) ChunkFault.bad)
+    (λ m k n b e. inr (inl (coming line k, subst (λ z. BeginsChunk (coming at m) z (coming line k)) none b, e))) l.1 t)
 trailer_ends limit room size before at line now old mid m2 new (Err HttpFault.ReadFault) j l none t = t
 trailer_ends limit room size before at line now old mid m2 new (Err HttpFault.BodyTooLong) j l none t = absurd t
 trailer_ends limit room size before at line now old mid m2 new (Err HttpFault.BadHead) j l none t = t

@@ -30,7 +30,7 @@ told_end (Some o) (Some n) P Q e f w = f o n e w
 pub flow : (a b : BufferState) (old new : Option Tape) → Takes a b old new → WhereTold old new (λ o n. coming a o ≡ coming b n)
 flow a b old new t =
     told_map old new (Passes t.piece) (λ o n. coming a o ≡ coming b n)
-        (λ o n p. ap (λ l. a.pending ++ l) (Passes.left p) ∙ sym (append_assoc a.pending t.piece n.left) ∙ ap (λ l. l ++ n.left) (sym t.pending)) t.told
+    (λ o n p. ap (λ l. a.pending ++ l) (Passes.left p) ∙ sym (append_assoc a.pending t.piece n.left) ∙ ap (λ l. l ++ n.left) (sym t.pending)) t.told
 
 pub advances : (a b : BufferState) (old new : Option Tape) → Takes a b old new → Advances old new
 advances a b old new t = told_map old new (Passes t.piece) (λ o n. (piece : List ℕ) × Passes piece o n) (λ o n p. (t.piece, p)) t.told
@@ -44,7 +44,7 @@ passes_both p q old mid new a b = record {
 pub advances_both : (a b c : Option Tape) → Advances a b → Advances b c → Advances a c
 advances_both a b c v w =
     told_then a b c (λ o n. (piece : List ℕ) × Passes piece o n) (λ o n. (piece : List ℕ) × Passes piece o n) (λ o n. (piece : List ℕ) × Passes piece o n)
-        (λ o m n p q. (p.0 ++ q.0, passes_both p.0 q.0 o m n p.1 q.1)) v w
+    (λ o m n p q. (p.0 ++ q.0, passes_both p.0 q.0 o m n p.1 q.1)) v w
 
 pub advances_none : (a : Option Tape) → Advances a a
 advances_none a = told_same a (λ o n. (piece : List ℕ) × Passes piece o n) (λ t. ([], record { taken = sym (append-nil t.taken); left = refl }))

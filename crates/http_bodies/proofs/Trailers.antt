@@ -103,15 +103,15 @@ trailer_many at count end before mid old new t s many e some =
     let p = mid.pending in
     let run = run_line at count end p s e some in
     told_map old new (λ o n. coming before o ≡ coming mid n) (λ o n. IsBadTrailer (coming before o))
-        (λ o n f. inl (
-          run.lines,
-          drop end p ++ n.left,
-          run.full,
-          (let c = run.count_is in omega (arith, c, many)),
-          f ∙ ap (λ l. l ++ n.left) run.bytes_are ∙ append_assoc (flat_map ended run.lines) (drop end p) n.left,
-          (let k = run.at_is in let w = e.within in omega (arith, k, w)),
-        ))
-        (flow before mid old new t)
+    (λ o n f. inl (
+      run.lines,
+      drop end p ++ n.left,
+      run.full,
+      (let c = run.count_is in omega (arith, c, many)),
+      f ∙ ap (λ l. l ++ n.left) run.bytes_are ∙ append_assoc (flat_map ended run.lines) (drop end p) n.left,
+      (let k = run.at_is in let w = e.within in omega (arith, k, w)),
+    ))
+    (flow before mid old new t)
 
 all_front : (a b : List (List ℕ)) → All IsFull (a ++ b) → All IsFull a
 all_front [] b all = All-nil IsFull
@@ -132,7 +132,7 @@ no_trailer bound at count bytes line p whole s is_line is long trailer rest t e 
     let size = ap length t.trailer_is in
     let k = s.at_is in
     let found = among bound theirs s.lines line p rest (trailer_lines trailer t) (fulls_are_lines s.lines s.full) is_line (omega (arith, size, short)) (omega (arith, k, long))
-        (sym is ∙ e ∙ ap (λ l. l ++ rest) t.trailer_is) in
+    (sym is ∙ e ∙ ap (λ l. l ++ rest) t.trailer_is) in
     let full = all_last t.lines t.last (all_front theirs found.0 (subst (All IsFull) found.1 s.full)) in
     let some = full.some in
     let none = t.ends in
@@ -145,15 +145,15 @@ trailer_long at count before mid old new t s l =
     let g = l.long in
     let all : mid.pending ≡ flat_map ended s.lines ++ (l.line ++ l.rest) = s.bytes_are ∙ ap (λ x. flat_map ended s.lines ++ x) l.behind in
     told_map old new (λ o n. coming before o ≡ coming mid n) (λ o n. IsBadTrailer (coming before o))
-        (λ o n f.
-            let whole : coming before o ≡ flat_map ended s.lines ++ (l.line ++ (l.rest ++ n.left)) =
-                f ∙ ap (λ x. x ++ n.left) all ∙ append_assoc (flat_map ended s.lines) (l.line ++ l.rest) n.left ∙ ap (λ x. flat_map ended s.lines ++ x) (append_assoc l.line l.rest n.left) in
-            let size = ap length whole in
-            inr (
-              omega (arith, size, k, g, length-append (flat_map ended s.lines) (l.line ++ (l.rest ++ n.left)), length-append l.line (l.rest ++ n.left)),
-              λ trailer rest tr e. no_trailer head_limit at count mid.pending l.line (l.rest ++ n.left) (coming before o) s l.is_line whole g trailer rest tr e tr.short,
-            ))
-        (flow before mid old new t)
+    (λ o n f.
+    let whole : coming before o ≡ flat_map ended s.lines ++ (l.line ++ (l.rest ++ n.left)) =
+    f ∙ ap (λ x. x ++ n.left) all ∙ append_assoc (flat_map ended s.lines) (l.line ++ l.rest) n.left ∙ ap (λ x. flat_map ended s.lines ++ x) (append_assoc l.line l.rest n.left) in
+    let size = ap length whole in
+    inr (
+      omega (arith, size, k, g, length-append (flat_map ended s.lines) (l.line ++ (l.rest ++ n.left)), length-append l.line (l.rest ++ n.left)),
+      λ trailer rest tr e. no_trailer head_limit at count mid.pending l.line (l.rest ++ n.left) (coming before o) s l.is_line whole g trailer rest tr e tr.short,
+    ))
+    (flow before mid old new t)
 
 pub trailer_open : (at count : ℕ) (before mid : BufferState) (old new : Option Tape) → Takes before mid old new → IsRun at count mid.pending → count ≤ line_count_limit → IsOpen at head_limit mid.pending → IsAtEnd new
     → WhereTold old new (λ o n. IsOpenTrailer (coming before o))
@@ -163,17 +163,17 @@ trailer_open at count before mid old new t s few p end =
     let j = ap length s.bytes_are in
     let split = length-append (flat_map ended s.lines) (drop at b) in
     told_end old new (λ o n. coming before o ≡ coming mid n) (λ o n. IsOpenTrailer (coming before o)) end
-        (λ o n none f.
-            let all : coming before o ≡ b = f ∙ ap (λ l. b ++ l) none ∙ append-nil b in
-            let whole : coming before o ≡ flat_map ended s.lines ++ (drop at b ++ []) = all ∙ s.bytes_are ∙ ap (λ x. flat_map ended s.lines ++ x) (sym (append-nil (drop at b))) in
-            let size = ap length all in
-            let less = p.short in (
-              omega (arith, size, less),
-              (λ trailer rest tr e. let m = ap length e in no_trailer (length b) at count b (drop at b) [] (coming before o) s p.is_line whole (omega (arith, j, k, split)) trailer rest tr e
-                  (omega (arith, m, size, length-append trailer rest))),
-              λ bad. not_bad at count b (coming before o) s few p.is_line whole size less bad,
-            ))
-        (flow before mid old new t)
+    (λ o n none f.
+    let all : coming before o ≡ b = f ∙ ap (λ l. b ++ l) none ∙ append-nil b in
+    let whole : coming before o ≡ flat_map ended s.lines ++ (drop at b ++ []) = all ∙ s.bytes_are ∙ ap (λ x. flat_map ended s.lines ++ x) (sym (append-nil (drop at b))) in
+    let size = ap length all in
+    let less = p.short in (
+      omega (arith, size, less),
+      (λ trailer rest tr e. let m = ap length e in no_trailer (length b) at count b (drop at b) [] (coming before o) s p.is_line whole (omega (arith, j, k, split)) trailer rest tr e
+          (omega (arith, m, size, length-append trailer rest))),
+      λ bad. not_bad at count b (coming before o) s few p.is_line whole size less bad,
+    ))
+    (flow before mid old new t)
   where
     not_bad : (at count : ℕ) (b bytes : List ℕ) → (s : IsRun at count b) → count ≤ line_count_limit → IsLine (drop at b) → bytes ≡ flat_map ended (IsRun.lines s) ++ (drop at b ++ []) → length bytes ≡ length b → length b < head_limit → IsBadTrailer bytes → ⊥
     not_bad at count b bytes s few line whole size less (inl many) =
@@ -181,7 +181,7 @@ trailer_open at count before mid old new t s few p end =
         let j = ap length s.bytes_are in
         let m = ap length many.4 in
         let found = among (length b) many.0 s.lines (drop at b) [] many.1 (fulls_are_lines many.0 many.2) (fulls_are_lines s.lines s.full) line
-            (omega (arith, m, size, length-append (flat_map ended many.0) many.1)) (omega (arith, j, k, length-append (flat_map ended s.lines) (drop at b))) (sym whole ∙ many.4) in
+        (omega (arith, m, size, length-append (flat_map ended many.0) many.1)) (omega (arith, j, k, length-append (flat_map ended s.lines) (drop at b))) (sym whole ∙ many.4) in
         let c = s.count_is in
         let l = ap length found.1 in
         let more = many.3 in

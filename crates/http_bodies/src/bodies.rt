@@ -47,11 +47,7 @@ pub fn body_of_response(framing: Option<Framing>) -> Body
 }
 
 /// Joins a body of so many bytes to what is kept.
-fn read_sized<S: Source>(
-    buffer: &mut Buffer,
-    source: &mut S,
-    size: usize,
-) -> Result<(), HttpFault>
+fn read_sized<S: Source>(buffer: &mut Buffer, source: &mut S, size: usize) -> Result<(), HttpFault>
     requires { length buffer.old.kept + size ≤ buffer.old.room }
     ensures gives { (limit : ℕ) → BodyGives limit (Body.Sized size) buffer.old buffer.new (S.tape source.old) (S.tape source.new) result }
     ensures room { buffer.new.room ≡ buffer.old.room }
@@ -70,11 +66,7 @@ fn read_sized<S: Source>(
 }
 
 /// Joins all bytes up to the source's end to what is kept.
-fn read_to_end<S: Source>(
-    buffer: &mut Buffer,
-    source: &mut S,
-    limit: u32,
-) -> Result<(), HttpFault>
+fn read_to_end<S: Source>(buffer: &mut Buffer, source: &mut S, limit: u32) -> Result<(), HttpFault>
     requires { length buffer.old.kept + limit + 1 ≤ buffer.old.room }
     ensures gives { BodyGives limit Body.ToEnd buffer.old buffer.new (S.tape source.old) (S.tape source.new) result }
     ensures room { buffer.new.room ≡ buffer.old.room }

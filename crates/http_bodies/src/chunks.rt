@@ -17,13 +17,7 @@ fn size_of(line: &[u8]) -> Option<u64>
     ensures { MatchOption result (IsNoLine line.now) (IsLineOf line.now) }
 {
     match parse_chunk_size(line) {
-        Ok(Status::Complete((len, size))) => {
-            if len == line.len() {
-                Some(size)
-            } else {
-                None
-            }
-        }
+        Ok(Status::Complete((len, size))) => { if len == line.len() { Some(size) } else { None } }
         Ok(Status::Partial) => None,
         Err(_) => None,
     }
