@@ -9,7 +9,8 @@ use Rattle.notice_book.specs.declared.award.Award.{Award}
 use Rattle.day_rules.specs.declared.ask.Ask.{Ask}
 use Rattle.day_rules.specs.declared.entry.Entry.{Entry}
 use Rattle.day_rules.specs.Books.{awards_of, committed}
-use Rattle.day_rules.specs.Terms.{terms_of}
+use Rattle.day_rules.specs.DayState.{IsDay}
+use Rattle.day_rules.specs.Terms.{Terms, terms_of}
 use Rattle.day_rules.proofs.Counting.{day_asks}
 use Rattle.day_rules.proofs.Within.{held_sum, within_budget}
 use Rattle.bid_record.specs.declared.record.Record.{Record}
@@ -122,3 +123,10 @@ pub earned_same : (opened : OpenedDay) (history : List Entry) (r : Record) (pick
 earned_same opened history r picks h =
     ap₂ (λ (cs : List CampaignRow) (imps : List Impression). sum_by (λ (p : ℕ × CampaignRow). min p.1.budget.0 (assigned picks imps p.0)) (enumerate_from 0 cs))
     (sym h.campaigns) (sym h.impressions_are)
+
+-- a day's history is one of its campaigns
+pub history_of : (campaigns : List CampaignRow) (terms : Terms) (history : List Entry) → budgets_of campaigns ≡ terms.budgets → IsDay terms history → IsHistoryOf campaigns history
+history_of campaigns terms history same day = record {
+  limits = terms.limits;
+  is_day = subst (λ (bs : List Units). IsDay (terms_of bs terms.limits) history) (sym same) day;
+}

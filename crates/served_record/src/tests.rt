@@ -1,1 +1,345 @@
-//! Days that are served, closed and checked.
+//! Days that are served, closed and checked, with their documents.
+ghost use Rattle.std.specs.Prelude.{◌≡◌, ◌≤◌, ◌^◌, ◌∷◌, [], IfOk, IfSome, Some};
+ghost use Rattle.adx_units.specs.Money.{units};
+ghost use Rattle.day_rules.specs.DayState.{IsDay};
+ghost use Rattle.bid_record.specs.Records.{IsCampaign, IsName};
+ghost use Rattle.served_record.specs.Opened.{budgets_of};
+
+use crate::{ClosedDay, OpenedDay, close_day};
+use adx_units::{Id, Offer, OutOfMemory, Sequence, Text, Units};
+use bid_record::{CampaignRow, write_record};
+use cert_check::{Verdict, check};
+use day_machine::{Ask, Day, DayLimits, Entry, Kept};
+use dual_cert::write_cert;
+use std::alloc::Global;
+use std::process::Abort;
+use std::test::Fail;
+
+/// A name of a table.
+fn name(alloc: Global, text: &str) -> Result<Id, OutOfMemory>
+    ensures value { IfOk result (λ i. i ≡ text.now) }
+    ensures named { IfOk result (λ i. IsName i) }
+{
+    let id = Id::of(alloc, text)?.ok_or(OutOfMemory)?;
+    let _bytes = id.as_bytes();
+    Ok(id)
+}
+
+/// A campaign of the seat `s1`.
+fn campaign(alloc: Global, cid: &str, budget: u64) -> Result<CampaignRow, OutOfMemory>
+    requires positive { 1 ≤ budget }
+    requires within { budget ≤ 10 ^ 15 }
+    ensures row { IfOk result (λ c. IsCampaign 2 c) }
+    ensures cid { IfOk result (λ c. c.cid ≡ cid.now) }
+    ensures budget { IfOk result (λ c. c.budget ≡ units budget) }
+    ensures changes { IfOk result (λ c. c.changes ≡ Some 0) }
+{
+    Ok(CampaignRow {
+        seat: name(alloc, "s1")?,
+        cid: name(alloc, cid)?,
+        budget: Units(budget),
+        changes: Some(0),
+    })
+}
+
+/// The first of March 2025, with two campaigns.
+fn opened(alloc: Global) -> Result<OpenedDay, OutOfMemory>
+    ensures { IfOk result (λ o. budgets_of o.campaigns ≡ units 100 ∷ units 10000 ∷ []) }
+{
+    let mut campaigns = Vec::new(alloc);
+    campaigns.push(campaign(alloc, "c1", 100)?)?;
+    campaigns.push(campaign(alloc, "c2", 10_000)?)?;
+    Ok(OpenedDay {
+        day: Text::of(alloc, "2025-03-01")?,
+        campaigns: Sequence::from(campaigns),
+    })
+}
+
+/// A bid: its impression, campaign, charge, life and reason.
+type Bid = (u32, u32, u64, u32, u16);
+
+/// An ask of a table: its auction, moment, first award, impressions, bids, and the places of those awarded.
+#[derive(Clone, Copy)]
+struct Row {
+    auction: &'static str,
+    now: u64,
+    first: u32,
+    imps: &'static [&'static str],
+    bids: &'static [Bid],
+    awarded: &'static [u32],
+}
+
+/// An entry of a table.
+#[derive(Clone, Copy)]
+enum Given {
+    Ask(Row),
+    Win(u32),
+    Bill(u32),
+    Loss(u32),
+    Expire(u64),
+}
+
+/// The texts of an awarded bid.
+fn texts_of(alloc: Global, bid: u32) -> Result<Kept, OutOfMemory> {
+    Ok(Kept {
+        bid,
+        seat: Text::of(alloc, "s1")?,
+        bidid: Text::of(alloc, "")?,
+        adid: Text::of(alloc, "")?,
+        nurl: Text::of(alloc, "")?,
+        burl: Text::of(alloc, "")?,
+        lurl: Text::of(alloc, "")?,
+        body: Text::of(alloc, "{}")?,
+    })
+}
+
+/// The texts of the awarded bids.
+fn kept(alloc: Global, awarded: &[u32]) -> Result<Vec<Kept>, OutOfMemory> {
+    let mut kept = Vec::new(alloc);
+    for bid in awarded {
+        kept.push(texts_of(alloc, *bid)?)?;
+    }
+    Ok(kept)
+}
+
+/// The offers of bids.
+fn offers(alloc: Global, bids: &[Bid]) -> Result<Vec<Offer>, OutOfMemory> {
+    let mut offers = Vec::new(alloc);
+    for (imp, campaign, charge, life, reason) in bids.iter().copied() {
+        offers.push(Offer {
+            imp,
+            campaign,
+            charge: Units(charge),
+            life,
+            reason,
+        })?;
+    }
+    Ok(offers)
+}
+
+/// The ids of impressions.
+fn imps(alloc: Global, names: &[&'static str]) -> Result<Vec<Id>, OutOfMemory> {
+    let mut imps = Vec::new(alloc);
+    for text in names {
+        imps.push(name(alloc, text)?)?;
+    }
+    Ok(imps)
+}
+
+/// The ask of a row.
+fn ask(alloc: Global, row: Row) -> Result<Ask, OutOfMemory> {
+    Ok(Ask {
+        auction: name(alloc, row.auction)?,
+        digest: [7; 32],
+        now: row.now,
+        first: row.first,
+        imps: Sequence::from(imps(alloc, row.imps)?),
+        offers: Sequence::from(offers(alloc, row.bids)?),
+        kept: Sequence::from(kept(alloc, row.awarded)?),
+    })
+}
+
+/// The entry of a row.
+fn entry(alloc: Global, given: Given) -> Result<Entry, OutOfMemory> {
+    Ok(match given {
+        Given::Ask(row) => Entry::Ask(ask(alloc, row)?),
+        Given::Win(award) => Entry::Win { award },
+        Given::Bill(award) => Entry::Bill { award },
+        Given::Loss(award) => Entry::Loss { award },
+        Given::Expire(now) => Entry::Expire { now },
+    })
+}
+
+/// A day of the two campaigns without entries.
+fn open(alloc: Global) -> Result<Day, OutOfMemory>
+    ensures budgets { IfOk result (λ d. d.terms.budgets ≡ units 100 ∷ units 10000 ∷ []) }
+    ensures day { IfOk result (λ d. IsDay d.terms d.history) }
+{
+    let limits = DayLimits {
+        auctions: 100,
+        bids: 100,
+        text: 100_000,
+    };
+    Day::new(alloc, &[Units(100), Units(10_000)], limits)
+}
+
+/// Adds the entry where it is legal, and tells whether it was.
+fn follow(day: &mut Day, entry: Entry) -> Result<bool, OutOfMemory>
+    requires { IsDay day.old.terms day.old.history }
+    ensures terms { day.new.terms ≡ day.old.terms }
+    ensures day { IsDay day.new.terms day.new.history }
+{
+    if !day.legal(&entry) {
+        return Ok(false);
+    }
+    day.prepare(&entry)?;
+    day.commit(entry);
+    Ok(true)
+}
+
+/// The day that these entries make. None where one of them isn't legal.
+fn played(alloc: Global, table: &[Given]) -> Result<Option<Day>, OutOfMemory>
+    ensures budgets { IfOk result (λ o. IfSome o (λ d. d.terms.budgets ≡ units 100 ∷ units 10000 ∷ [])) }
+    ensures day { IfOk result (λ o. IfSome o (λ d. IsDay d.terms d.history)) }
+{
+    let mut day = open(alloc)?;
+    for given in table {
+        if !follow(&mut day, entry(alloc, *given)?)? {
+            return Ok(None);
+        }
+    }
+    Ok(Some(day))
+}
+
+/// The day closed.
+fn closed(alloc: Global, day: &Day) -> Result<ClosedDay, OutOfMemory>
+    requires budgets { day.now.terms.budgets ≡ units 100 ∷ units 10000 ∷ [] }
+    requires day { IsDay day.now.terms day.now.history }
+{
+    let opened = opened(alloc)?;
+    close_day(alloc, opened, day.entries())
+}
+
+/// A day's entries, its documents, and the bound that a checker accepts.
+#[derive(Clone, Copy)]
+struct Case {
+    table: &'static [Given],
+    record: &'static str,
+    cert: &'static str,
+    bound: u128,
+}
+
+/// Of two bids that weigh the same the first is awarded; what its budget doesn't hold stands in the
+/// record too.
+const FIRST: &[Given] = &[
+    Given::Ask(Row {
+        auction: "a1",
+        now: 1,
+        first: 0,
+        imps: &["1"],
+        bids: &[(0, 0, 100, 3_600, 0), (0, 1, 100, 3_600, 102)],
+        awarded: &[0],
+    }),
+    Given::Ask(Row {
+        auction: "a2",
+        now: 1,
+        first: 1,
+        imps: &["1"],
+        bids: &[(0, 0, 100, 3_600, 1001)],
+        awarded: &[],
+    }),
+    Given::Ask(Row {
+        auction: "a3",
+        now: 1,
+        first: 1,
+        imps: &["1"],
+        bids: &[(0, 1, 200, 3_600, 0)],
+        awarded: &[0],
+    }),
+];
+
+fn first() -> Case {
+    Case {
+        table: FIRST,
+        record: "adx-record 2\nday 2025-03-01\ncampaign 0 100 0 \"s1\" \"c1\"\ncampaign 1 10000 0 \"s1\" \"c2\"\nimp 0 \"a1\" \"1\" 0 live 0:100 1:100\nimp 1 \"a2\" \"1\" - - 0:100\nimp 2 \"a3\" \"1\" 0 live 1:200\nend 3\n",
+        cert: "adx-cert 1\nalpha 0 1000000000\nalpha 1 11790157\nbeta 0 99\nbeta 1 0\nbeta 2 198\nbound 514\n",
+        bound: 514,
+    }
+}
+
+/// Each end, impressions without a sale and without a bid, and bids that were refused.
+const SECOND: &[Given] = &[
+    Given::Ask(Row {
+        auction: "a",
+        now: 10,
+        first: 0,
+        imps: &["1", "2"],
+        bids: &[
+            (1, 1, 30, 50, 0),
+            (0, 0, 0, 0, 100),
+            (0, 0, 60, 50, 0),
+            (16, 0, 0, 0, 3),
+            (0, 1, 60, 50, 102),
+        ],
+        awarded: &[0, 2],
+    }),
+    Given::Ask(Row {
+        auction: "b",
+        now: 10,
+        first: 2,
+        imps: &["1"],
+        bids: &[(0, 0, 41, 10, 1001), (0, 1, 5, 10, 0)],
+        awarded: &[1],
+    }),
+    Given::Bill(0),
+    Given::Ask(Row {
+        auction: "c",
+        now: 12,
+        first: 3,
+        imps: &["x"],
+        bids: &[],
+        awarded: &[],
+    }),
+    Given::Loss(1),
+    Given::Expire(21),
+    Given::Ask(Row {
+        auction: "d",
+        now: 21,
+        first: 3,
+        imps: &["1", "2"],
+        bids: &[(0, 1, 7, 1_000, 0), (1, 1, 8, 1_000, 0)],
+        awarded: &[0, 1],
+    }),
+    Given::Win(3),
+    Given::Bill(4),
+];
+
+fn second() -> Case {
+    Case {
+        table: SECOND,
+        record: "adx-record 2\nday 2025-03-01\ncampaign 0 100 0 \"s1\" \"c1\"\ncampaign 1 10000 0 \"s1\" \"c2\"\nimp 0 \"a\" \"1\" 0 billed 0:60 1:60\nimp 1 \"a\" \"2\" 0 lost 1:30\nimp 2 \"b\" \"1\" 1 expired 0:41 1:5\nimp 3 \"c\" \"x\" - -\nimp 4 \"d\" \"1\" 0 live 1:7\nimp 5 \"d\" \"2\" 0 billed 1:8\nend 6\n",
+        cert: "adx-cert 1\nalpha 0 479053822\nalpha 1 0\nbeta 0 60\nbeta 1 30\nbeta 2 22\nbeta 3 0\nbeta 4 7\nbeta 5 8\nbound 174\n",
+        bound: 174,
+    }
+}
+
+/// A day without an ask.
+fn empty() -> Case {
+    Case {
+        table: &[],
+        record: "adx-record 2\nday 2025-03-01\ncampaign 0 100 0 \"s1\" \"c1\"\ncampaign 1 10000 0 \"s1\" \"c2\"\nend 0\n",
+        cert: "adx-cert 1\nalpha 0 0\nalpha 1 0\nbound 0\n",
+        bound: 0,
+    }
+}
+
+/// The day of a case, closed.
+fn closed_of(alloc: Global, case: Case) -> Result<ClosedDay, OutOfMemory> {
+    let day = played(alloc, case.table)?.ok_or(OutOfMemory)?;
+    closed(alloc, &day)
+}
+
+/// Compares a closed day's documents with those of its case.
+fn compare(
+    rt: &impl Abort,
+    alloc: Global,
+    closed: &ClosedDay,
+    case: Case,
+) -> Result<(), OutOfMemory> {
+    let document = write_record(alloc, &closed.record)?;
+    assert_eq!(rt; document.as_str(), case.record);
+    let document = write_cert(alloc, &closed.cert)?;
+    assert_eq!(rt; document.as_str(), case.cert);
+    let accepted = Verdict::Accepted { bound: case.bound };
+    assert_eq!(rt; check(&closed.record, &closed.cert), accepted);
+    Ok(())
+}
+
+#[test]
+fn days_are_closed_and_checked(rt: HostRuntime) -> Result<(), Fail> {
+    for case in [first(), second(), empty()] {
+        let closed = closed_of(rt.alloc(), case)?;
+        compare(&rt, rt.alloc(), &closed, case)?;
+    }
+    Ok(())
+}
