@@ -11,8 +11,9 @@ use adx_units::Counted;
 use std::hint::spin_loop;
 use std::sync::Wait;
 
-/// How often a thread looks before it sleeps.
-const SPINS: u32 = 100;
+/// How often a thread looks before it sleeps: for longer than it takes to wake a sleeper. Else, once one sleeps, all
+/// whose turns come behind it sleep too, and each hand-over wakes one.
+const SPINS: u32 = 10_000;
 
 /// The low bits of a bell, which a sleep compares.
 const LOW_BITS: u64 = 1 << 32;
