@@ -1,2 +1,1 @@
 pub mod Discount
-pub mod Choice

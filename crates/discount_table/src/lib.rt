@@ -2,7 +2,7 @@
 //!
 //! A bid is weighed by its charge times the discount of its campaign's slab, so that a campaign
 //! that has spent much loses to a fresh one at nearly equal bids.
-//! The definitions of the table and of the choice by weight stand in `specs`; stands on `adx_units`.
+//! The definition of the table stands in `specs`; stands on `adx_units`.
 #![tactic(auto)]
 
 mod table;
