@@ -1,10 +1,11 @@
 -- The bytes of a record behind its gate, and the frame that holds them. This project's own.
 use Rattle.std.specs.Prelude.{◌≡◌, ℕ, ◌-◌, ◌≤◌, List, [], ◌∷◌, ◌++◌, length, take, drop}
 use Rattle.std.specs.Int.{w32, to_le_bytes}
+use Rattle.adx_io.specs.declared.frame.TheConstants.{LONGEST_PAYLOAD}
 
 -- the longest payload of a record, in bytes
 abbrev pub longest_payload : ℕ
-longest_payload = 67108864
+longest_payload = LONGEST_PAYLOAD
 
 -- a payload behind its length
 abbrev pub body : List ℕ → List ℕ

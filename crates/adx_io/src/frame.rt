@@ -107,7 +107,7 @@ fn empty(bytes: &mut Vec<u8>)
 /// Makes of the record of a payload of so many bytes that of a longer one.
 fn lengthen(bytes: &mut Vec<u8>, len: usize, piece: &[u8]) -> Result<(), OutOfMemory>
     requires place { vec_len bytes.old ≡ len + 5 }
-    requires fits { len + length piece.now ≤ 67108864 }
+    requires fits { len + length piece.now ≤ LONGEST_PAYLOAD }
     ensures ok { OnOk result (bytes.new.items ≡ record_of (take len (drop 4 bytes.old.items) ++ piece.now)) }
     ensures err { OnErr result (bytes.new.items ≡ bytes.old.items) }
     ensures succeeds { vec_len bytes.old + length piece.now ≤ vec_capacity bytes.old → IsOk result }
