@@ -10,7 +10,7 @@ use Rattle.httparse.specs.Spans.{IsChunkLineAt}
 use Rattle.httparse.proofs.ChunkLemmas.{chunk_line_unique}
 use Rattle.http_buffer.specs.State.{BufferState, Takes, IsAtEnd}
 use Rattle.http_buffer.specs.Lines.{IsLine, ended, EndsAt, IsTooLong, IsOpen}
-use Rattle.http_buffer.specs.HeadEnds.{head_limit}
+use Rattle.http_buffer.specs.declared.head.TheConstants.{HEAD_LIMIT}
 use Rattle.http_bodies.specs.Chunks.{BeginsChunk, IsBadLine, IsOpenLine, EndsBadly}
 use Rattle.http_bodies.specs.Steps.{coming, IsLineOf, IsNoLine, ends_behind}
 use Rattle.http_bodies.proofs.Told.{told_map, told_end, flow}
@@ -41,7 +41,7 @@ first_line bound end bytes e =
     let i = e.end_is in
     (ap (take end) all ∙ take_at (ended e.line) e.rest end (omega (arith, i, length-append e.line (10 ∷ []))), all)
 
-pub line_gives : (before mid now : BufferState) (old new : Option Tape) (end size : ℕ) → Takes before mid old new → EndsAt 0 head_limit mid.pending end → end ≤ length mid.pending
+pub line_gives : (before mid now : BufferState) (old new : Option Tape) (end size : ℕ) → Takes before mid old new → EndsAt 0 HEAD_LIMIT mid.pending end → end ≤ length mid.pending
     → IsLineOf (take end mid.pending) size → now ≡ skipping mid end
     → (now.kept ≡ before.kept) × WhereTold old new (λ o n. BeginsChunk (coming before o) size (coming now n))
 line_gives before mid now old new end size t e there l is = (
@@ -58,10 +58,10 @@ line_gives before mid now old new end size t e there l is = (
       (flow before mid old new t),
 )
 
-pub line_bad : (before mid : BufferState) (old new : Option Tape) (end : ℕ) → Takes before mid old new → EndsAt 0 head_limit mid.pending end → IsNoLine (take end mid.pending)
+pub line_bad : (before mid : BufferState) (old new : Option Tape) (end : ℕ) → Takes before mid old new → EndsAt 0 HEAD_LIMIT mid.pending end → IsNoLine (take end mid.pending)
     → WhereTold old new (λ o n. IsBadLine (coming before o))
 line_bad before mid old new end t e none =
-    let first = first_line head_limit end mid.pending e in
+    let first = first_line HEAD_LIMIT end mid.pending e in
     told_map old new (λ o n. coming before o ≡ coming mid n) (λ o n. IsBadLine (coming before o))
     (λ o n f. inl (
       e.line,
@@ -73,13 +73,13 @@ line_bad before mid old new end t e none =
     ))
     (flow before mid old new t)
 
-pub line_long : (before mid : BufferState) (old new : Option Tape) → Takes before mid old new → IsTooLong 0 head_limit mid.pending → WhereTold old new (λ o n. IsBadLine (coming before o))
+pub line_long : (before mid : BufferState) (old new : Option Tape) → Takes before mid old new → IsTooLong 0 HEAD_LIMIT mid.pending → WhereTold old new (λ o n. IsBadLine (coming before o))
 line_long before mid old new t l =
     told_map old new (λ o n. coming before o ≡ coming mid n) (λ o n. IsBadLine (coming before o))
     (λ o n f. inr (l.line, l.rest ++ n.left, l.is_line, f ∙ ap (λ p. p ++ n.left) l.behind ∙ append_assoc l.line l.rest n.left, (let g = l.long in omega (arith, g))))
     (flow before mid old new t)
 
-pub line_open : (before mid : BufferState) (old new : Option Tape) → Takes before mid old new → IsOpen 0 head_limit mid.pending → IsAtEnd new → WhereTold old new (λ o n. IsOpenLine (coming before o))
+pub line_open : (before mid : BufferState) (old new : Option Tape) → Takes before mid old new → IsOpen 0 HEAD_LIMIT mid.pending → IsAtEnd new → WhereTold old new (λ o n. IsOpenLine (coming before o))
 line_open before mid old new t p end =
     told_end old new (λ o n. coming before o ≡ coming mid n) (λ o n. IsOpenLine (coming before o)) end
     (λ o n none f.

@@ -6,10 +6,12 @@ use Rattle.std.proofs.lemmas.List.Elements.{All-append, All-nil, All-cons, All-h
 use Rattle.adx_io.specs.Streams.{Tape, WhereTold}
 use Rattle.http_buffer.specs.State.{BufferState, Takes, IsAtEnd}
 use Rattle.http_buffer.specs.Lines.{IsLine, ended, EndsAt, IsTooLong, IsOpen}
-use Rattle.http_buffer.specs.HeadEnds.{head_limit, is_empty_line, IsFull}
+use Rattle.http_buffer.specs.HeadEnds.{is_empty_line, IsFull}
+use Rattle.http_buffer.specs.declared.head.TheConstants.{HEAD_LIMIT}
 use Rattle.http_buffer.proofs.Ranges.{part_is}
 use Rattle.http_buffer.proofs.HeadWalk.{among, empty_is_line, fulls_are_lines}
-use Rattle.http_bodies.specs.Chunks.{line_count_limit, IsTrailer, HasNoTrailer, IsBadTrailer, IsOpenTrailer}
+use Rattle.http_bodies.specs.Chunks.{IsTrailer, HasNoTrailer, IsBadTrailer, IsOpenTrailer}
+use Rattle.http_bodies.specs.declared.chunks.TheConstants.{LINE_COUNT_LIMIT}
 use Rattle.http_bodies.specs.Steps.{coming}
 use Rattle.http_bodies.proofs.Told.{told_map, told_end, flow}
 use Rattle.http_bodies.proofs.BodyParts.{parts_of}
@@ -57,11 +59,11 @@ line_is at bound end bytes now b e is same =
     let k : end - 1 ≡ at + length e.line = let i = e.end_is in omega (arith, i) in
     sym (is ∙ ap is_empty_line (ap (λ l. drop at (take (end - 1) l)) same ∙ ap (λ n. drop at (take n bytes)) k ∙ part_is bytes at (length e.line) ∙ ap (take (length e.line)) e.behind ∙ take_at e.line (10 ∷ e.rest) (length e.line) refl))
 
-pub run_line : (at count end : ℕ) (bytes : List ℕ) → IsRun at count bytes → (e : EndsAt at head_limit bytes end) → is_empty_line (EndsAt.line e) ≡ false → IsRun end (count + 1) bytes
+pub run_line : (at count end : ℕ) (bytes : List ℕ) → IsRun at count bytes → (e : EndsAt at HEAD_LIMIT bytes end) → is_empty_line (EndsAt.line e) ≡ false → IsRun end (count + 1) bytes
 run_line at count end bytes s e some =
     let lines = s.lines ++ e.line ∷ [] in
-    let all = one_more s.lines at head_limit end bytes s.bytes_are e in
-    let long = more_length s.lines at head_limit end bytes s.at_is e in
+    let all = one_more s.lines at HEAD_LIMIT end bytes s.bytes_are e in
+    let long = more_length s.lines at HEAD_LIMIT end bytes s.at_is e in
     let rest : drop end bytes ≡ e.rest = ap (drop end) all ∙ drop_at (flat_map ended lines) e.rest end long in record {
       lines = lines;
       full = All-append IsFull s.lines (e.line ∷ []) s.full (All-cons IsFull e.line [] (record { is_line = e.is_line; some = some }) (All-nil IsFull));
@@ -70,14 +72,14 @@ run_line at count end bytes s e some =
       count_is = let c = s.count_is in omega (arith, c, length-append s.lines (e.line ∷ []));
     }
 
-pub trailer_found : (at count end : ℕ) (before mid now : BufferState) (old new : Option Tape) → Takes before mid old new → IsRun at count mid.pending → count ≤ line_count_limit
-    → (e : EndsAt at head_limit mid.pending end) → is_empty_line (EndsAt.line e) ≡ true → now ≡ skipping mid end
+pub trailer_found : (at count end : ℕ) (before mid now : BufferState) (old new : Option Tape) → Takes before mid old new → IsRun at count mid.pending → count ≤ LINE_COUNT_LIMIT
+    → (e : EndsAt at HEAD_LIMIT mid.pending end) → is_empty_line (EndsAt.line e) ≡ true → now ≡ skipping mid end
     → (now.kept ≡ before.kept) × WhereTold old new (λ o n. (trailer : List ℕ) × IsTrailer trailer × (coming before o ≡ trailer ++ coming now n))
 trailer_found at count end before mid now old new t s few e none is =
     let p = mid.pending in
     let lines = s.lines ++ e.line ∷ [] in
-    let all = one_more s.lines at head_limit end p s.bytes_are e in
-    let long = more_length s.lines at head_limit end p s.at_is e in
+    let all = one_more s.lines at HEAD_LIMIT end p s.bytes_are e in
+    let long = more_length s.lines at HEAD_LIMIT end p s.at_is e in
     let front : take end p ≡ flat_map ended lines = ap (take end) all ∙ take_at (flat_map ended lines) e.rest end long in (
       ap (λ (b : BufferState). b.kept) is ∙ t.kept,
       told_map old new (λ o n. coming before o ≡ coming mid n) (λ o n. (trailer : List ℕ) × IsTrailer trailer × (coming before o ≡ trailer ++ coming now n))
@@ -97,8 +99,8 @@ trailer_found at count end before mid now old new t s few e none is =
           (flow before mid old new t),
     )
 
-pub trailer_many : (at count end : ℕ) (before mid : BufferState) (old new : Option Tape) → Takes before mid old new → IsRun at count mid.pending → count ≡ line_count_limit
-    → (e : EndsAt at head_limit mid.pending end) → is_empty_line (EndsAt.line e) ≡ false → WhereTold old new (λ o n. IsBadTrailer (coming before o))
+pub trailer_many : (at count end : ℕ) (before mid : BufferState) (old new : Option Tape) → Takes before mid old new → IsRun at count mid.pending → count ≡ LINE_COUNT_LIMIT
+    → (e : EndsAt at HEAD_LIMIT mid.pending end) → is_empty_line (EndsAt.line e) ≡ false → WhereTold old new (λ o n. IsBadTrailer (coming before o))
 trailer_many at count end before mid old new t s many e some =
     let p = mid.pending in
     let run = run_line at count end p s e some in
@@ -138,7 +140,7 @@ no_trailer bound at count bytes line p whole s is_line is long trailer rest t e 
     let none = t.ends in
     absurd (cc (some, none))
 
-pub trailer_long : (at count : ℕ) (before mid : BufferState) (old new : Option Tape) → Takes before mid old new → IsRun at count mid.pending → IsTooLong at head_limit mid.pending
+pub trailer_long : (at count : ℕ) (before mid : BufferState) (old new : Option Tape) → Takes before mid old new → IsRun at count mid.pending → IsTooLong at HEAD_LIMIT mid.pending
     → WhereTold old new (λ o n. IsBadTrailer (coming before o))
 trailer_long at count before mid old new t s l =
     let k = s.at_is in
@@ -151,11 +153,11 @@ trailer_long at count before mid old new t s l =
     let size = ap length whole in
     inr (
       omega (arith, size, k, g, length-append (flat_map ended s.lines) (l.line ++ (l.rest ++ n.left)), length-append l.line (l.rest ++ n.left)),
-      λ trailer rest tr e. no_trailer head_limit at count mid.pending l.line (l.rest ++ n.left) (coming before o) s l.is_line whole g trailer rest tr e tr.short,
+      λ trailer rest tr e. no_trailer HEAD_LIMIT at count mid.pending l.line (l.rest ++ n.left) (coming before o) s l.is_line whole g trailer rest tr e tr.short,
     ))
     (flow before mid old new t)
 
-pub trailer_open : (at count : ℕ) (before mid : BufferState) (old new : Option Tape) → Takes before mid old new → IsRun at count mid.pending → count ≤ line_count_limit → IsOpen at head_limit mid.pending → IsAtEnd new
+pub trailer_open : (at count : ℕ) (before mid : BufferState) (old new : Option Tape) → Takes before mid old new → IsRun at count mid.pending → count ≤ LINE_COUNT_LIMIT → IsOpen at HEAD_LIMIT mid.pending → IsAtEnd new
     → WhereTold old new (λ o n. IsOpenTrailer (coming before o))
 trailer_open at count before mid old new t s few p end =
     let k = s.at_is in
@@ -175,7 +177,7 @@ trailer_open at count before mid old new t s few p end =
     ))
     (flow before mid old new t)
   where
-    not_bad : (at count : ℕ) (b bytes : List ℕ) → (s : IsRun at count b) → count ≤ line_count_limit → IsLine (drop at b) → bytes ≡ flat_map ended (IsRun.lines s) ++ (drop at b ++ []) → length bytes ≡ length b → length b < head_limit → IsBadTrailer bytes → ⊥
+    not_bad : (at count : ℕ) (b bytes : List ℕ) → (s : IsRun at count b) → count ≤ LINE_COUNT_LIMIT → IsLine (drop at b) → bytes ≡ flat_map ended (IsRun.lines s) ++ (drop at b ++ []) → length bytes ≡ length b → length b < HEAD_LIMIT → IsBadTrailer bytes → ⊥
     not_bad at count b bytes s few line whole size less (inl many) =
         let k = s.at_is in
         let j = ap length s.bytes_are in

@@ -4,11 +4,9 @@ use Rattle.std.specs.List.{flat_map}
 use Rattle.httparse.specs.Ascii.{crlf_bytes}
 use Rattle.httparse.specs.Grammar.{ChunkLine, IsChunkLine, print_chunk_line, chunk_size}
 use Rattle.http_buffer.specs.Lines.{IsLine, ended}
-use Rattle.http_buffer.specs.HeadEnds.{head_limit, IsEmpty, IsFull}
-
--- the greatest number of lines behind the first of a head, and of a trailer
-abbrev pub line_count_limit : ℕ
-line_count_limit = 64
+use Rattle.http_buffer.specs.HeadEnds.{IsEmpty, IsFull}
+use Rattle.http_buffer.specs.declared.head.TheConstants.{HEAD_LIMIT}
+use Rattle.http_bodies.specs.declared.chunks.TheConstants.{LINE_COUNT_LIMIT}
 
 pub record Chunk : Type 0 where
   pub line : ChunkLine
@@ -20,7 +18,7 @@ print_chunk c = print_chunk_line c.line ++ c.bytes ++ crlf_bytes
 -- a chunk has at least one byte, and as many as its line says
 pub record IsChunk (c : Chunk) : Type 0 where
   pub line : IsChunkLine c.line
-  pub short : length (print_chunk_line c.line) ≤ head_limit
+  pub short : length (print_chunk_line c.line) ≤ HEAD_LIMIT
   pub some : 0 < length c.bytes
   pub size : chunk_size c.line ≡ length c.bytes
 
@@ -37,7 +35,7 @@ pub record HasChunks (limit : ℕ) (bytes : List ℕ) (chunks : List Chunk) (res
 pub record BeginsChunk (bytes : List ℕ) (size : ℕ) (rest : List ℕ) : Type 0 where
   pub line : ChunkLine
   pub is_line : IsChunkLine line
-  pub short : length (print_chunk_line line) ≤ head_limit
+  pub short : length (print_chunk_line line) ≤ HEAD_LIMIT
   pub size_is : chunk_size line ≡ size
   pub bytes_are : bytes ≡ print_chunk_line line ++ rest
 
@@ -47,9 +45,9 @@ pub record IsTrailer (trailer : List ℕ) : Type 0 where
   pub last : List ℕ
   pub full : All IsFull lines
   pub ends : IsEmpty last
-  pub few : length lines ≤ line_count_limit
+  pub few : length lines ≤ LINE_COUNT_LIMIT
   pub trailer_is : trailer ≡ flat_map ended (lines ++ last ∷ [])
-  pub short : length trailer ≤ head_limit
+  pub short : length trailer ≤ HEAD_LIMIT
 
 -- no trailer ends in the bytes
 abbrev pub HasNoTrailer : List ℕ → Type 0
@@ -70,23 +68,23 @@ pub record IsChunkedThen (limit : ℕ) (bytes body rest : List ℕ) : Type 0 whe
 -- the line up to its LF is no chunk line within the bound, or so many bytes hold no LF
 abbrev pub IsBadLine : List ℕ → Type 0
 IsBadLine bytes =
-    ((line rest : List ℕ) × IsLine line × (bytes ≡ ended line ++ rest) × (length (ended line) ≤ head_limit)
+    ((line rest : List ℕ) × IsLine line × (bytes ≡ ended line ++ rest) × (length (ended line) ≤ HEAD_LIMIT)
     × ((l : ChunkLine) → IsChunkLine l → ended line ≡ print_chunk_line l → ⊥))
-    ⊎ ((line rest : List ℕ) × IsLine line × (bytes ≡ line ++ rest) × (head_limit ≤ length line))
+    ⊎ ((line rest : List ℕ) × IsLine line × (bytes ≡ line ++ rest) × (HEAD_LIMIT ≤ length line))
 
 -- no line ends in the bytes, which end before the bound
 abbrev pub IsOpenLine : List ℕ → Type 0
-IsOpenLine bytes = IsLine bytes × (length bytes < head_limit)
+IsOpenLine bytes = IsLine bytes × (length bytes < HEAD_LIMIT)
 
 -- a line too many that isn't empty has ended, or so many bytes hold no whole trailer
 abbrev pub IsBadTrailer : List ℕ → Type 0
 IsBadTrailer bytes =
-    ((lines : List (List ℕ)) × (rest : List ℕ) × All IsFull lines × (line_count_limit < length lines)
-    × (bytes ≡ flat_map ended lines ++ rest) × (length (flat_map ended lines) ≤ head_limit))
-    ⊎ ((head_limit ≤ length bytes) × HasNoTrailer bytes)
+    ((lines : List (List ℕ)) × (rest : List ℕ) × All IsFull lines × (LINE_COUNT_LIMIT < length lines)
+    × (bytes ≡ flat_map ended lines ++ rest) × (length (flat_map ended lines) ≤ HEAD_LIMIT))
+    ⊎ ((HEAD_LIMIT ≤ length bytes) × HasNoTrailer bytes)
 
 abbrev pub IsOpenTrailer : List ℕ → Type 0
-IsOpenTrailer bytes = (length bytes < head_limit) × HasNoTrailer bytes × (IsBadTrailer bytes → ⊥)
+IsOpenTrailer bytes = (length bytes < HEAD_LIMIT) × HasNoTrailer bytes × (IsBadTrailer bytes → ⊥)
 
 -- a chunk's data and the two bytes behind it have come, and those aren't CR and LF
 pub record EndsBadly (size : ℕ) (bytes : List ℕ) : Type 0 where

@@ -7,7 +7,8 @@ use Rattle.adx_io.specs.Streams.{Tape, WhereTold, Rises}
 use Rattle.http_buffer.specs.State.{BufferState, Passes}
 use Rattle.http_grammar.specs.declared.fault.HttpFault.{HttpFault}
 use Rattle.httparse.specs.Grammar.{IsChunkLine, chunk_size, ChunkLine, print_chunk_line}
-use Rattle.http_bodies.specs.Chunks.{line_count_limit, IsChunkedThen, BeginsChunk, IsBadLine, IsOpenLine, IsTrailer, IsBadTrailer, IsOpenTrailer, EndsBadly, ChunkFault, FailsAt}
+use Rattle.http_bodies.specs.Chunks.{IsChunkedThen, BeginsChunk, IsBadLine, IsOpenLine, IsTrailer, IsBadTrailer, IsOpenTrailer, EndsBadly, ChunkFault, FailsAt}
+use Rattle.http_bodies.specs.declared.chunks.TheConstants.{LINE_COUNT_LIMIT}
 use Rattle.http_bodies.specs.BodyForms.{IsBodyThen, FailsBody}
 use Rattle.http_bodies.specs.declared.bodies.Body.{Body}
 

@@ -2,12 +2,11 @@
 ghost use Rattle.std.specs.Prelude.{◌≡◌, ◌≤◌, ◌+◌, ℕ, length};
 ghost use Rattle.http_bodies.specs.BodyForms.{body_of_request, body_of_response};
 ghost use Rattle.http_bodies.specs.Steps.{Advances, ReadsBy, BodyGives, FitsBody};
-ghost use Rattle.http_buffer.specs.HeadEnds.{head_limit};
 ghost use Rattle.http_bodies.specs.declared.bodies.Body.{Body};
 
 use crate::chunks::read_chunks;
 use adx_io::Source;
-use http_buffer::{Buffer, need};
+use http_buffer::{Buffer, HEAD_LIMIT, need};
 use http_grammar::{Framing, HttpFault};
 
 /// How the body of a message is framed (RFC 9112, section 6).
@@ -92,7 +91,7 @@ pub fn read_body<S: Source>(
     body: Body,
     limit: u32,
 ) -> Result<(), HttpFault>
-    requires room { length buffer.old.kept + limit + head_limit + 2 ≤ buffer.old.room }
+    requires room { length buffer.old.kept + limit + HEAD_LIMIT + 2 ≤ buffer.old.room }
     requires fits { FitsBody limit body }
     ensures gives { BodyGives limit body buffer.old buffer.new (S.tape source.old) (S.tape source.new) result }
     ensures room { buffer.new.room ≡ buffer.old.room }

@@ -1,11 +1,11 @@
 //! A body in chunks (RFC 9112, section 7.1).
 ghost use Rattle.std.specs.Prelude.{◌≡◌, ◌≤◌, ◌<◌, ◌+◌, ◌-◌, ◌^◌, ℕ, length, take, drop, Bool, MatchOption};
-ghost use Rattle.http_buffer.specs.HeadEnds.{head_limit, is_empty_line};
+ghost use Rattle.http_buffer.specs.HeadEnds.{is_empty_line};
 ghost use Rattle.http_bodies.specs.Steps.{Advances, ReadsBy, BodyGives, LineGives, DataGives, TrailerGives, IsLineOf, IsNoLine, ends_behind};
 ghost use Rattle.http_bodies.specs.declared.bodies.Body.{Body};
 
 use adx_io::Source;
-use http_buffer::{Buffer, HEAD_LIMIT, Line, line_end, need};
+use http_buffer::{Buffer, HEAD_LIMIT, Line, is_empty_line, line_end, need};
 use http_grammar::HttpFault;
 use httparse::{Status, parse_chunk_size};
 
@@ -25,7 +25,7 @@ fn size_of(line: &[u8]) -> Option<u64>
 
 /// Passes over a chunk line, and says its size.
 fn read_chunk_line<S: Source>(buffer: &mut Buffer, source: &mut S) -> Result<u64, HttpFault>
-    requires { length buffer.old.kept + head_limit ≤ buffer.old.room }
+    requires { length buffer.old.kept + HEAD_LIMIT ≤ buffer.old.room }
     ensures gives { LineGives buffer.old buffer.new (S.tape source.old) (S.tape source.new) result }
     ensures room { buffer.new.room ≡ buffer.old.room }
     ensures advances { Advances (S.tape source.old) (S.tape source.new) }
@@ -87,17 +87,6 @@ fn read_chunk_data<S: Source>(
     }
 }
 
-/// Whether a line is empty.
-fn is_empty(line: &[u8]) -> bool
-    ensures { result ≡ is_empty_line line.now }
-{
-    match line {
-        [] => true,
-        [byte] => *byte == b'\r',
-        _ => false,
-    }
-}
-
 /// Whether the line that ends there is empty.
 fn is_empty_to(bytes: &[u8], at: usize, end: usize) -> bool
     requires order { at < end }
@@ -106,12 +95,12 @@ fn is_empty_to(bytes: &[u8], at: usize, end: usize) -> bool
 {
     let (front, _) = bytes.split_at(end - 1);
     let (_, line) = front.split_at(at);
-    is_empty(line)
+    is_empty_line(line)
 }
 
 /// Passes over a trailer.
 fn read_trailer<S: Source>(buffer: &mut Buffer, source: &mut S) -> Result<(), HttpFault>
-    requires { length buffer.old.kept + head_limit ≤ buffer.old.room }
+    requires { length buffer.old.kept + HEAD_LIMIT ≤ buffer.old.room }
     ensures gives { TrailerGives buffer.old buffer.new (S.tape source.old) (S.tape source.new) result }
     ensures room { buffer.new.room ≡ buffer.old.room }
     ensures advances { Advances (S.tape source.old) (S.tape source.new) }
@@ -146,7 +135,7 @@ pub(crate) fn read_chunks<S: Source>(
     source: &mut S,
     limit: u32,
 ) -> Result<(), HttpFault>
-    requires { length buffer.old.kept + limit + head_limit + 2 ≤ buffer.old.room }
+    requires { length buffer.old.kept + limit + HEAD_LIMIT + 2 ≤ buffer.old.room }
     ensures gives { BodyGives limit Body.Chunked buffer.old buffer.new (S.tape source.old) (S.tape source.new) result }
     ensures room { buffer.new.room ≡ buffer.old.room }
     ensures advances { Advances (S.tape source.old) (S.tape source.new) }

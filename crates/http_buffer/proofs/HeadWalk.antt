@@ -5,7 +5,8 @@ use Rattle.std.proofs.lemmas.List.{drop_at, take_at, drop-append-le, flat_map_mo
 use Rattle.std.proofs.lemmas.List.Elements.{All-append, All-nil, All-cons, All-head, All-tail}
 use Rattle.http_buffer.specs.Lines.{IsLine, ended, EndsAt, IsTooLong, IsOpen}
 use Rattle.http_buffer.proofs.Ranges.{part_is}
-use Rattle.http_buffer.specs.HeadEnds.{head_limit, is_empty_line, IsEmpty, IsFull, BeginsWithHead, HeadEndsAt, NeverHasHead, HasNoHeadYet}
+use Rattle.http_buffer.specs.HeadEnds.{is_empty_line, IsEmpty, IsFull, BeginsWithHead, HeadEndsAt, NeverHasHead, HasNoHeadYet}
+use Rattle.http_buffer.specs.declared.head.TheConstants.{HEAD_LIMIT}
 use Rattle.http_buffer.specs.Walks.{step, walk, count_of}
 use Rattle.http_buffer.specs.declared.head.Walk.{Walk}
 
@@ -199,14 +200,14 @@ step_count (Walk.Full m) true = omega arith
 step_count (Walk.Full m) false = omega arith
 step_count (Walk.Over m) b = omega arith
 
-pub head_found : (at end : ℕ) (w : Walk) (n : ℕ) (bytes : List ℕ) → IsScanned at w bytes → EndsAt at head_limit bytes end → ((m : ℕ) → w ≡ Walk.Over m → ⊥)
+pub head_found : (at end : ℕ) (w : Walk) (n : ℕ) (bytes : List ℕ) → IsScanned at w bytes → EndsAt at HEAD_LIMIT bytes end → ((m : ℕ) → w ≡ Walk.Over m → ⊥)
     → Walk.Over n ≡ step w (is_empty_line (drop at (take (end - 1) bytes))) → HeadEndsAt bytes end n
 head_found at end w n bytes s e not is =
     let last = step_over w (is_empty_line (drop at (take (end - 1) bytes))) n not is in
     let p = split_walk s.lines n s.are_lines (s.walk_is ∙ last.0) in
     let lines = s.lines ++ e.line ∷ [] in
-    let all = lines_to at head_limit end w bytes s e in
-    let long = end_length at head_limit end w bytes s e in
+    let all = lines_to at HEAD_LIMIT end w bytes s e in
+    let long = end_length at HEAD_LIMIT end w bytes s e in
     let front : take end bytes ≡ flat_map ended lines = ap (take end) all ∙ take_at (flat_map ended lines) e.rest end long in
     let within : end ≤ length bytes = let k = ap length all in omega (arith, k, long, length-append (flat_map ended lines) e.rest) in record {
       begins = record {
@@ -216,7 +217,7 @@ head_found at end w n bytes s e not is =
         last = e.line;
         empty = p.empty;
         full = p.full;
-        ends = ap is_empty_line (sym (line_between at head_limit end bytes e)) ∙ last.1;
+        ends = ap is_empty_line (sym (line_between at HEAD_LIMIT end bytes e)) ∙ last.1;
         head_is = front ∙ ap (λ l. flat_map ended (l ++ e.line ∷ [])) p.done_is;
         short = let k = e.within in omega (arith, k, length-take-le end bytes within);
         bytes_are = sym (take-append-drop end bytes);
@@ -268,17 +269,17 @@ no_head bound at w bytes line p s not is_line whole is long head rest h short =
     ap (walk Walk.Blank) found.1 ∙ walk_append Walk.Blank theirs found.0 ∙ ap (λ v. walk v found.0) (head_walk h) ∙ walk_over (length h.lines) found.0 in
     not (length h.lines) (sym s.walk_is ∙ over)
 
-pub never_head : (at : ℕ) (w : Walk) (bytes : List ℕ) → IsScanned at w bytes → ((m : ℕ) → w ≡ Walk.Over m → ⊥) → IsTooLong at head_limit bytes → NeverHasHead bytes
+pub never_head : (at : ℕ) (w : Walk) (bytes : List ℕ) → IsScanned at w bytes → ((m : ℕ) → w ≡ Walk.Over m → ⊥) → IsTooLong at HEAD_LIMIT bytes → NeverHasHead bytes
 never_head at w bytes s not t =
     let k = s.at_is in
     let l = t.long in
     let all : bytes ≡ flat_map ended s.lines ++ (t.line ++ t.rest) = s.bytes_are ∙ ap (λ x. flat_map ended s.lines ++ x) t.behind in record {
       long = let e = ap length all in omega (arith, e, k, l, length-append (flat_map ended s.lines) (t.line ++ t.rest), length-append t.line t.rest);
-      never = λ more head rest h. no_head head_limit at w bytes t.line (t.rest ++ more) s not t.is_line (bytes ++ more)
+      never = λ more head rest h. no_head HEAD_LIMIT at w bytes t.line (t.rest ++ more) s not t.is_line (bytes ++ more)
           (ap (λ x. x ++ more) all ∙ append_assoc (flat_map ended s.lines) (t.line ++ t.rest) more ∙ ap (λ x. flat_map ended s.lines ++ x) (append_assoc t.line t.rest more)) l head rest h (BeginsWithHead.short h);
     }
 
-pub no_head_yet : (at : ℕ) (w : Walk) (bytes : List ℕ) → IsScanned at w bytes → ((m : ℕ) → w ≡ Walk.Over m → ⊥) → IsOpen at head_limit bytes → HasNoHeadYet bytes
+pub no_head_yet : (at : ℕ) (w : Walk) (bytes : List ℕ) → IsScanned at w bytes → ((m : ℕ) → w ≡ Walk.Over m → ⊥) → IsOpen at HEAD_LIMIT bytes → HasNoHeadYet bytes
 no_head_yet at w bytes s not o = record {
   short = o.short;
   none = λ head rest h.

@@ -3,11 +3,8 @@
 use Rattle.std.specs.Prelude.{◌≡◌, ℕ, ◌<◌, ◌≤◌, List, [], ◌∷◌, ◌++◌, length, take, drop, All, Bool, true, false, ◌==◌}
 use Rattle.std.specs.List.{flat_map}
 use Rattle.http_buffer.specs.Lines.{IsLine, ended}
+use Rattle.http_buffer.specs.declared.head.TheConstants.{HEAD_LIMIT}
 use Rattle.http_buffer.specs.declared.head.HeadEnd.{HeadEnd}
-
--- the greatest length of a head, of a chunk line and of a trailer
-abbrev pub head_limit : ℕ
-head_limit = 16384
 
 -- an empty line ends in LF, or in CR and LF
 abbrev pub is_empty_line : List ℕ → Bool
@@ -33,7 +30,7 @@ pub record BeginsWithHead (bytes head rest : List ℕ) : Type 0 where
   pub full : All IsFull (first ∷ lines)
   pub ends : IsEmpty last
   pub head_is : head ≡ flat_map ended (before ++ (first ∷ lines) ++ last ∷ [])
-  pub short : length head ≤ head_limit
+  pub short : length head ≤ HEAD_LIMIT
   pub bytes_are : bytes ≡ head ++ rest
 
 -- no head ends in these bytes
@@ -48,12 +45,12 @@ pub record HeadEndsAt (bytes : List ℕ) (end lines : ℕ) : Type 0 where
 
 -- no head ends in the bytes, whatever follows them
 pub record NeverHasHead (bytes : List ℕ) : Type 0 where
-  pub long : head_limit ≤ length bytes
+  pub long : HEAD_LIMIT ≤ length bytes
   pub never : (more : List ℕ) → HasNoHead (bytes ++ more)
 
 -- a head may still end behind the bytes
 pub record HasNoHeadYet (bytes : List ℕ) : Type 0 where
-  pub short : length bytes < head_limit
+  pub short : length bytes < HEAD_LIMIT
   pub none : HasNoHead bytes
 
 abbrev pub FindsHead : List ℕ → HeadEnd → Type 0

@@ -2,7 +2,7 @@
 ghost use Rattle.std.specs.Prelude.{◌≡◌, ◌≤◌, ◌<◌, ◌+◌, ◌-◌, ◌^◌, ℕ, length, take, drop, IfOk, Ok};
 ghost use Rattle.adx_io.specs.Streams.{HasCause};
 ghost use Rattle.http_buffer.specs.State.{Takes, IsAtEnd};
-ghost use Rattle.http_buffer.specs.HeadEnds.{head_limit, is_empty_line, FindsHead};
+ghost use Rattle.http_buffer.specs.HeadEnds.{is_empty_line, FindsHead};
 ghost use Rattle.http_buffer.specs.Walks.{step, count_of};
 
 use crate::buffer::Buffer;
@@ -36,8 +36,8 @@ pub(crate) enum Walk {
     Over(usize),
 }
 
-/// Whether a line is empty.
-fn is_empty(line: &[u8]) -> bool
+/// Whether a line, without its line feed, is empty: nothing, or CR alone.
+pub fn is_empty_line(line: &[u8]) -> bool
     ensures { result ≡ is_empty_line line.now }
 {
     match line {
@@ -53,7 +53,7 @@ fn is_empty_at(bytes: &[u8], at: usize, end: usize) -> bool
     requires within { end ≤ length bytes.now }
     ensures { result ≡ is_empty_line (drop at (take (end - 1) bytes.now)) }
 {
-    is_empty(between(bytes, at, end - 1))
+    is_empty_line(between(bytes, at, end - 1))
 }
 
 /// One line more.
@@ -73,7 +73,7 @@ fn walked(walk: Walk, empty: bool) -> Walk
 /// Takes bytes until a head ends in the pending bytes, until `HEAD_LIMIT` bytes hold none, or to the
 /// source's end. No byte is searched twice.
 pub fn head_end<S: Source>(buffer: &mut Buffer, source: &mut S) -> Result<HeadEnd, Failed>
-    requires { length buffer.old.kept + head_limit ≤ buffer.old.room }
+    requires { length buffer.old.kept + HEAD_LIMIT ≤ buffer.old.room }
     ensures takes { Takes buffer.old buffer.new (S.tape source.old) (S.tape source.new) }
     ensures found { IfOk result (FindsHead buffer.new.pending) }
     ensures ended { result ≡ Ok HeadEnd.Open → IsAtEnd (S.tape source.new) }

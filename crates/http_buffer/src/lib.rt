@@ -13,5 +13,5 @@ mod line;
 mod offsets;
 
 pub use buffer::Buffer;
-pub use head::{HEAD_LIMIT, HeadEnd, head_end};
+pub use head::{HEAD_LIMIT, HeadEnd, head_end, is_empty_line};
 pub use line::{Line, line_end, need};

@@ -1,7 +1,7 @@
 -- The lines that were read are a trailer, or the front of one.
 use Rattle.std.proofs.Common.{Ok, ap, ◌∙◌, arith}
 use Rattle.http_buffer.specs.Lines.{EndsAt}
-use Rattle.http_buffer.specs.HeadEnds.{head_limit}
+use Rattle.http_buffer.specs.declared.head.TheConstants.{HEAD_LIMIT}
 use Rattle.http_buffer.proofs.Taking.{takes_both}
 use Rattle.http_bodies.proofs.Told.{advances}
 use Rattle.http_bodies.proofs.Trailers.{run_grows, run_line, line_is, trailer_found, trailer_many, trailer_long, trailer_open}
@@ -14,8 +14,8 @@ returns-then-is_empty_to-clause-gives g c =
     let p = c.line_end.new.buffer.pending in
     let all = takes_both c.args.buffer.now c.lines.buffer c.line_end.new.buffer _ _ _ i.takes t in
     let s = run_grows c.lines.at c.lines.lines c.lines.buffer.pending p t.piece i.run t.pending in
-    let e : EndsAt c.lines.at head_limit p c.in-Ok-At.end = (rw c.in-Ok-At.field-0-is at c.in-Ok-At.ensures.found) in
-    let b = line_is c.lines.at head_limit c.in-Ok-At.end p c.pending.result.now c.is_empty_to.result e c.is_empty_to.ensures c.pending.ensures in
+    let e : EndsAt c.lines.at HEAD_LIMIT p c.in-Ok-At.end = (rw c.in-Ok-At.field-0-is at c.in-Ok-At.ensures.found) in
+    let b = line_is c.lines.at HEAD_LIMIT c.in-Ok-At.end p c.pending.result.now c.is_empty_to.result e c.is_empty_to.ensures c.pending.ensures in
     trailer_found c.lines.at c.lines.lines c.in-Ok-At.end c.args.buffer.now c.line_end.new.buffer c.skip.new.self _ _ all s i.few e (b ∙ c.if-is_empty_to.true) c.skip.ensures
 
 pub returns-then-is_empty_to-clause-advances : goal.returns-then-is_empty_to-clause-advances
@@ -29,8 +29,8 @@ returns-then-lines-eq-LINE_COUNT_LIMIT-clause-gives g c =
     let p = c.line_end.new.buffer.pending in
     let all = takes_both c.args.buffer.now c.lines.buffer c.line_end.new.buffer _ _ _ i.takes t in
     let s = run_grows c.lines.at c.lines.lines c.lines.buffer.pending p t.piece i.run t.pending in
-    let e : EndsAt c.lines.at head_limit p c.in-Ok-At.end = (rw c.in-Ok-At.field-0-is at c.in-Ok-At.ensures.found) in
-    let b = line_is c.lines.at head_limit c.in-Ok-At.end p c.pending.result.now c.is_empty_to.result e c.is_empty_to.ensures c.pending.ensures in
+    let e : EndsAt c.lines.at HEAD_LIMIT p c.in-Ok-At.end = (rw c.in-Ok-At.field-0-is at c.in-Ok-At.ensures.found) in
+    let b = line_is c.lines.at HEAD_LIMIT c.in-Ok-At.end p c.pending.result.now c.is_empty_to.result e c.is_empty_to.ensures c.pending.ensures in
     trailer_many c.lines.at c.lines.lines c.in-Ok-At.end c.args.buffer.now c.line_end.new.buffer _ _ all s c.if-lines-eq-LINE_COUNT_LIMIT.true e (b ∙ c.if-is_empty_to.false)
 
 pub lines-preserved : goal.lines-preserved
@@ -40,8 +40,8 @@ lines-preserved g c =
     let p = c.line_end.new.buffer.pending in
     let all = takes_both c.args.buffer.now c.lines.buffer c.line_end.new.buffer _ _ _ i.takes t in
     let s = run_grows c.lines.at c.lines.lines c.lines.buffer.pending p t.piece i.run t.pending in
-    let e : EndsAt c.lines.at head_limit p c.in-Ok-At.end = (rw c.in-Ok-At.field-0-is at c.in-Ok-At.ensures.found) in
-    let b = line_is c.lines.at head_limit c.in-Ok-At.end p c.pending.result.now c.is_empty_to.result e c.is_empty_to.ensures c.pending.ensures in
+    let e : EndsAt c.lines.at HEAD_LIMIT p c.in-Ok-At.end = (rw c.in-Ok-At.field-0-is at c.in-Ok-At.ensures.found) in
+    let b = line_is c.lines.at HEAD_LIMIT c.in-Ok-At.end p c.pending.result.now c.is_empty_to.result e c.is_empty_to.ensures c.pending.ensures in
     let few = i.few in
     let other = c.if-lines-eq-LINE_COUNT_LIMIT.false in record {
       takes = all;

@@ -1,6 +1,6 @@
 -- The lines that were read end a head, or none does.
 use Rattle.std.proofs.Common.{sym, ap, ◌∙◌, arith}
-use Rattle.http_buffer.specs.HeadEnds.{head_limit}
+use Rattle.http_buffer.specs.declared.head.TheConstants.{HEAD_LIMIT}
 use Rattle.http_buffer.specs.Lines.{EndsAt}
 use Rattle.http_buffer.specs.Walks.{count_of}
 use Rattle.http_buffer.proofs.Taking.{takes_both}
@@ -12,7 +12,7 @@ returns-in-Over-clause-found g c =
     let i = c.lines.invariant in
     let t = c.in-Ok-At.ensures.takes in
     let p = c.line_end.new.buffer.pending in
-    let e : EndsAt c.lines.at head_limit p c.in-Ok-At.end = (rw c.in-Ok-At.field-0-is at c.in-Ok-At.ensures.found) in
+    let e : EndsAt c.lines.at HEAD_LIMIT p c.in-Ok-At.end = (rw c.in-Ok-At.field-0-is at c.in-Ok-At.ensures.found) in
     let s = scanned_grows c.lines.at c.lines.walk c.lines.buffer.pending p t.piece i.scanned t.pending in
     head_found c.lines.at c.in-Ok-At.end c.lines.walk c.in-Over.lines p s e i.unfinished
     (stepped c.lines.at c.in-Ok-At.end c.lines.walk _ c.is_empty_at.result c.pending.result.now p (sym c.in-Over.is ∙ c.walked.ensures) c.is_empty_at.ensures c.pending.ensures)
@@ -22,10 +22,10 @@ lines-preserved g c =
     let i = c.lines.invariant in
     let t = c.in-Ok-At.ensures.takes in
     let p = c.line_end.new.buffer.pending in
-    let e : EndsAt c.lines.at head_limit p c.in-Ok-At.end = (rw c.in-Ok-At.field-0-is at c.in-Ok-At.ensures.found) in
+    let e : EndsAt c.lines.at HEAD_LIMIT p c.in-Ok-At.end = (rw c.in-Ok-At.field-0-is at c.in-Ok-At.ensures.found) in
     let s = scanned_grows c.lines.at c.lines.walk c.lines.buffer.pending p t.piece i.scanned t.pending in record {
       takes = takes_both c.args.buffer.now c.lines.buffer c.line_end.new.buffer _ _ _ i.takes t;
-      scanned = scanned_line c.lines.at head_limit c.in-Ok-At.end c.lines.walk c.walked.result p s e
+      scanned = scanned_line c.lines.at HEAD_LIMIT c.in-Ok-At.end c.lines.walk c.walked.result p s e
           (stepped c.lines.at c.in-Ok-At.end c.lines.walk c.walked.result c.is_empty_at.result c.pending.result.now p c.walked.ensures c.is_empty_at.ensures c.pending.ensures);
       unfinished = λ n is. c.in_default.not-Over n is;
       counted = let n = ap count_of c.walked.ensures in let k = step_count c.lines.walk c.is_empty_at.result in let j = i.counted in let m = e.end_is in omega (arith, n, k, j, m);

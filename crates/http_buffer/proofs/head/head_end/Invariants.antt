@@ -1,4 +1,5 @@
 -- The bytes up to the place are whole lines, which end no head.
+use Rattle.http_buffer.specs.declared.head.TheConstants.{HEAD_LIMIT}
 use Rattle.std.proofs.Common.{◌≡◌, ◌≤◌, ◌-◌, ℕ}
 use Rattle.http_buffer.specs.State.{Takes}
 use Rattle.http_buffer.specs.Walks.{count_of}
@@ -12,10 +13,10 @@ invariant-lines g l = record {
   scanned : IsScanned l.at l.walk l.buffer.pending;
   unfinished : (n : ℕ) → l.walk ≡ Walk.Over n → ⊥;
   counted : count_of l.walk ≤ l.at;
-  bounded : l.at ≤ 16384;
+  bounded : l.at ≤ HEAD_LIMIT;
   faults : g.S.Source.faults l.source ≡ g.S.Source.faults l.fn.source;
   place : g.S.Source.place l.source ≡ g.S.Source.place l.fn.source;
 }
 
 abbrev pub decreases-lines : goal.decreases-lines
-decreases-lines g l = 16384 - l.at
+decreases-lines g l = HEAD_LIMIT - l.at
