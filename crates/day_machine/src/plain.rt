@@ -1,7 +1,7 @@
 //! A plain slow program of the day: it walks all entries for each question.
-use adx_units::{ADMITTED, Offer};
+use adx_units::{ADMITTED, Offer, Text};
 use allocator_core::{AWARDED, LOST_TO_HIGHER, OVER_BUDGET};
-use day_rules::{Answer, Ask, Entry};
+use day_rules::{Answer, Ask, Entry, Kept};
 use notice_book::{Award, End, NoticeKind, Ruling};
 use std::alloc::{AllocError, Global};
 
@@ -258,4 +258,38 @@ pub(crate) fn due(awards: &[Award], now: u64) -> u32 {
         }
     }
     count
+}
+
+/// Whether the texts are those of a bid: all of a winner's, and of another those of its notice of loss.
+fn are_texts_of(kept: &Kept, bid: &Kept, won: bool) -> bool {
+    let same = |one: &Text, other: &Text| one.as_str() == other.as_str();
+    let told = |one: &Text, other: &Text| one.as_str() == if won { other.as_str() } else { "" };
+    kept.bid == bid.bid
+        && same(&kept.seat, &bid.seat)
+        && same(&kept.bidid, &bid.bidid)
+        && same(&kept.adid, &bid.adid)
+        && same(&kept.lurl, &bid.lurl)
+        && told(&kept.nurl, &bid.nurl)
+        && told(&kept.burl, &bid.burl)
+        && told(&kept.body, &bid.body)
+}
+
+/// Whether an ask keeps of the texts of its bids what the day keeps, in their order, and no more.
+pub(crate) fn keeps(ask: &Ask, bids: &[Kept]) -> bool {
+    let mut kept = ask.kept.as_slice().iter();
+    for bid in bids {
+        let Some(offer) = ask.offers.as_slice().get(bid.bid as usize) else {
+            return false;
+        };
+        let won = offer.reason == AWARDED;
+        if won || !bid.lurl.as_str().is_empty() {
+            let Some(texts) = kept.next() else {
+                return false;
+            };
+            if !are_texts_of(texts, bid, won) {
+                return false;
+            }
+        }
+    }
+    kept.next().is_none()
 }

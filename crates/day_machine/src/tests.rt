@@ -1,3 +1,4 @@
+//! A day played by tables of calls, and small random days beside a plain slow program.
 ghost use Rattle.std.specs.Prelude.{◌≡◌, ◌≤◌, ◌^◌, ◌<◌, ℕ, All, IfOk, IfSome, length, slice_index_or};
 ghost use Rattle.adx_units.specs.declared.offer.TheConstants.{ADMITTED as ADMITTED_MARK};
 ghost use Rattle.day_rules.specs.Asks.{IsAdmittedOffer, IsUndecided, IsWellFormed};
@@ -25,7 +26,7 @@ fn offer(bid: Bid) -> Offer
     Offer {
         imp: 0,
         campaign: campaign.min(1),
-        charge: Units(charge.clamp(1, 1_000)),
+        charge: Units(charge.clamp(1, 10_000_000)),
         life: life.clamp(1, 3_600),
         reason: ADMITTED,
     }
@@ -44,6 +45,9 @@ fn offers(alloc: Global, bids: &[Bid]) -> Result<Vec<Offer>, OutOfMemory>
     Ok(offers)
 }
 
+/// Where a bid at an even place, or at an odd one, wants to be told of its loss.
+const LOSS_URLS: [&str; 2] = ["l", ""];
+
 /// The texts of the bid at a place.
 fn texts_of(alloc: Global, place: u32) -> Result<Kept, OutOfMemory>
     ensures bid { IfOk result (λ k. k.bid ≡ place) }
@@ -52,11 +56,11 @@ fn texts_of(alloc: Global, place: u32) -> Result<Kept, OutOfMemory>
     Ok(Kept {
         bid: place,
         seat: Text::of(alloc, "s")?,
-        bidid: Text::of(alloc, "")?,
-        adid: Text::of(alloc, "")?,
+        bidid: Text::of(alloc, "i")?,
+        adid: Text::of(alloc, "a")?,
         nurl: Text::of(alloc, "n")?,
-        burl: Text::of(alloc, "")?,
-        lurl: Text::of(alloc, "l")?,
+        burl: Text::of(alloc, "b")?,
+        lurl: Text::of(alloc, LOSS_URLS[(place % 2) as usize])?,
         body: Text::of(alloc, "{}")?,
     })
 }
@@ -252,6 +256,138 @@ fn plays_a_small_day(rt: HostRuntime) -> Result<(), Fail> {
     Ok(())
 }
 
+/// A worked day: its calls with their answers, and each campaign's reserved and billed money at its end.
+struct Worked {
+    calls: &'static [(Call, Answer)],
+    money: [(u64, u64); 2],
+}
+
+/// An ask at second 10 with one bid of 2.5 dollars on the first campaign.
+const ONE: (Call, Answer) = (
+    Call::Ask("a", 1, 10, (0, 2_500_000, 3_600), (0, 1, 3_600), 1),
+    Answer::Awarded { entry: 0 },
+);
+
+/// Days of two campaigns of a cent each, worked by hand.
+const WORKED: [Worked; 7] = [
+    // At half of a budget the discount beats a price that is a fifth higher.
+    Worked {
+        calls: &[
+            (
+                Call::Ask("a", 1, 10, (0, 5_000_000, 3_600), (0, 1, 3_600), 1),
+                Answer::Awarded { entry: 0 },
+            ),
+            (
+                Call::Ask("b", 1, 10, (0, 3_000_000, 3_600), (1, 2_500_000, 3_600), 2),
+                Answer::Awarded { entry: 1 },
+            ),
+        ],
+        money: [(5_000_000, 0), (2_500_000, 0)],
+    },
+    // Of equals the first.
+    Worked {
+        calls: &[(
+            Call::Ask("a", 1, 10, (0, 2_500_000, 3_600), (1, 2_500_000, 3_600), 2),
+            Answer::Awarded { entry: 0 },
+        )],
+        money: [(2_500_000, 0), (0, 0)],
+    },
+    // A budget is used to its last unit, and no further.
+    Worked {
+        calls: &[
+            (
+                Call::Ask("a", 1, 10, (0, 10_000_000, 3_600), (0, 1, 3_600), 1),
+                Answer::Awarded { entry: 0 },
+            ),
+            (
+                Call::Ask("b", 1, 10, (0, 1, 3_600), (0, 1, 3_600), 1),
+                Answer::NoSale { entry: 1 },
+            ),
+        ],
+        money: [(10_000_000, 0), (0, 0)],
+    },
+    // A bill counts once, and a win may come behind it.
+    Worked {
+        calls: &[
+            ONE,
+            (Call::Notice(NoticeKind::Bill, "a", 0), Answer::Counted),
+            (
+                Call::Notice(NoticeKind::Bill, "a", 0),
+                Answer::Repeat { entry: 1 },
+            ),
+            (Call::Notice(NoticeKind::Win, "a", 0), Answer::Counted),
+            (
+                Call::Notice(NoticeKind::Loss, "a", 0),
+                Answer::Conflict { kept: End::Billed },
+            ),
+        ],
+        money: [(0, 2_500_000), (0, 0)],
+    },
+    // A bill behind a loss is a conflict, and the money is free.
+    Worked {
+        calls: &[
+            ONE,
+            (Call::Notice(NoticeKind::Loss, "a", 0), Answer::Counted),
+            (
+                Call::Notice(NoticeKind::Bill, "a", 0),
+                Answer::Conflict { kept: End::Lost },
+            ),
+        ],
+        money: [(0, 0), (0, 0)],
+    },
+    // An award stands at its deadline, and ends behind it.
+    Worked {
+        calls: &[
+            ONE,
+            (Call::Tick(3_610), Answer::Ticked { ended: 0 }),
+            (Call::Tick(3_611), Answer::Ticked { ended: 1 }),
+            (
+                Call::Notice(NoticeKind::Bill, "a", 0),
+                Answer::Conflict { kept: End::Expired },
+            ),
+        ],
+        money: [(0, 0), (0, 0)],
+    },
+    // A tick before the greatest moment ends nothing; other numbers and auctions are unknown.
+    Worked {
+        calls: &[
+            ONE,
+            (Call::Tick(5), Answer::Ticked { ended: 0 }),
+            (Call::Notice(NoticeKind::Bill, "a", 1), Answer::Unknown),
+            (Call::Notice(NoticeKind::Bill, "b", 0), Answer::Unknown),
+        ],
+        money: [(2_500_000, 0), (0, 0)],
+    },
+];
+
+#[test]
+fn worked_days_hold(rt: HostRuntime) -> Result<(), Fail> {
+    let limits = DayLimits {
+        auctions: 10,
+        bids: 100,
+        text: 10_000,
+    };
+    for (row, worked) in WORKED.iter().enumerate() {
+        let budgets = [Units(10_000_000), Units(10_000_000)];
+        let mut day = Day::new(rt.alloc(), &budgets, limits)?;
+        for (call, want) in worked.calls {
+            let given = answer(rt.alloc(), &mut day, *call)?;
+            assert_eq!(rt; given, *want, "in row {row}");
+        }
+        assert_eq!(rt; day.book().count(), 2);
+        for (campaign, (reserved, billed)) in worked.money.iter().copied().enumerate() {
+            let campaign = (campaign % 2) as u32;
+            assert_eq!(rt;
+                day.book().reserved(campaign),
+                Units(reserved),
+                "in row {row}"
+            );
+            assert_eq!(rt; day.book().billed(campaign), Units(billed), "in row {row}");
+        }
+    }
+    Ok(())
+}
+
 /// The next number of a fixed sequence (SplitMix64), below a bound.
 fn next(state: &mut u64, bound: u64) -> u64
     requires { 1 ≤ bound }
@@ -336,6 +472,28 @@ fn compare(rt: &impl Abort, alloc: Global, day: &Day) -> Result<(), OutOfMemory>
     Ok(())
 }
 
+/// Compares the ask that a call added with what the plain slow program makes of its bids: the reason of
+/// each, and the texts that stay. A notice and a tick have none.
+fn compare_ask(
+    rt: &impl Abort,
+    alloc: Global,
+    entries: &[Entry],
+    call: Call,
+) -> Result<(), OutOfMemory> {
+    let Call::Ask(_auction, _digest, _now, first, second, count) = call else {
+        return Ok(());
+    };
+    let Some((Entry::Ask(ask), earlier)) = entries.split_last() else {
+        panic!(rt; "the last entry is no ask");
+    };
+    let both = [first, second];
+    let bids = &both[..count.min(2)];
+    let settled = plain::settled(alloc, earlier, &BUDGETS, &offers(alloc, bids)?, 1)?;
+    assert_eq!(rt; ask.offers.as_slice(), settled.as_slice());
+    assert!(rt; plain::keeps(ask, &texts(alloc, bids.len() as u32)?));
+    Ok(())
+}
+
 /// Plays a small day of calls that look random.
 fn play(rt: &impl Abort, alloc: Global, seed: u64) -> Result<(), OutOfMemory> {
     let mut state = seed;
@@ -343,9 +501,13 @@ fn play(rt: &impl Abort, alloc: Global, seed: u64) -> Result<(), OutOfMemory> {
     for _turn in 0..40 {
         let call = any_call(&mut state);
         let want = plain_answer(alloc, day.entries(), call)?;
+        let count = day.entries().len();
         let given = answer(alloc, &mut day, call)?;
         assert_eq!(rt; given, want, "at seed {seed}");
         compare(rt, alloc, &day)?;
+        if count < day.entries().len() {
+            compare_ask(rt, alloc, day.entries(), call)?;
+        }
     }
     Ok(())
 }
