@@ -35,7 +35,7 @@ same_closed ps qs c each_p each_q p q =
     same_places ps qs p.gate q.gate p.rest q.rest each_p each_q p.shut q.shut (ap (drop 9) (sym p.split ∙ q.split))
 
 -- a file that isn't finished is too short for a payload
-short : (c : List ℕ) → IsUnfinished c → length c ≤ 10
+pub short : (c : List ℕ) → IsUnfinished c → length c ≤ 10
 short c (inl one) = omega (arith, one)
 short c (inr (inl some)) = some.few
 short c (inr (inr whole)) = omega (arith, ap length whole.1)

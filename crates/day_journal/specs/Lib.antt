@@ -1,3 +1,5 @@
-pub mod Places
-pub mod Tails
 pub mod Faults
+pub mod Openings
+pub mod Places
+pub mod Starts
+pub mod Tails

@@ -3,6 +3,7 @@ ghost use Rattle.std.specs.Prelude.{◌≡◌};
 
 use adx_io::Failed;
 use adx_units::OutOfMemory;
+use std::fmt;
 
 /// Why a call of the journal gave up.
 #[derive(Clone, Copy, Debug, PartialEq, Eq)]
@@ -21,6 +22,20 @@ pub enum JournalFault {
     /// Memory was refused.
     OutOfMemory,
 }
+
+impl fmt::Display for JournalFault {
+    fn fmt<W: fmt::Write>(&self, f: &mut fmt::Formatter<W>) -> fmt::Result {
+        match self {
+            JournalFault::DiskFault => f.write_str("the disk failed"),
+            JournalFault::NotAJournal { at } => write!(f, "no journal from byte {at} on"),
+            JournalFault::BadLength { at } => write!(f, "no whole record at byte {at}"),
+            JournalFault::Full { size } => write!(f, "the journal would come to {size} bytes"),
+            JournalFault::OutOfMemory => f.write_str("out of memory"),
+        }
+    }
+}
+
+impl std::error::Error for JournalFault {}
 
 impl From<Failed> for JournalFault {
     ghost use Rattle.day_journal.specs.declared.fault.JournalFault.TheVariants.{DiskFault};

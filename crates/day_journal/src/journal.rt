@@ -32,6 +32,16 @@ impl Model for Journal {
 }
 
 impl Journal {
+    /// A journal whose closed gate stands at this place, with no tail in doubt.
+    pub(crate) fn at_gate(gate: u64) -> Journal
+        ensures { result ≡ record { gate = gate; in_doubt = false } }
+    {
+        Journal {
+            gate,
+            in_doubt: false,
+        }
+    }
+
     /// Closes the gate of a tail that is in doubt; does nothing where none is. The disk is the one that
     /// the journal was opened on, as this journal's calls left it.
     pub fn settle<D: Disk>(&mut self, disk: &mut D) -> Result<(), Failed>

@@ -1,14 +1,19 @@
 //! A journal: a list of payloads in a file that a crash at any moment leaves whole.
 //!
 //! A payload that was acknowledged is there after every crash; one that wasn't is there whole or not
-//! at all. `Journal` adds payloads, each by two writes and two syncs. The steps that make a new file are there;
-//! no call reads a file yet, so nothing makes a `Journal`. Stands on `adx_io`.
+//! at all. `Opening` reads the payloads of a file, and makes a new journal of a file that has none;
+//! `Journal` adds payloads, each by two writes and two syncs. Stands on `adx_io`.
 #![tactic(auto)]
 
 mod fault;
 mod journal;
 mod making;
+mod opening;
+mod place;
+mod start;
 mod steps;
+mod window;
 
 pub use fault::JournalFault;
 pub use journal::Journal;
+pub use opening::Opening;

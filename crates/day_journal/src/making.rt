@@ -1,19 +1,51 @@
 //! How a new journal is made of a file that has none.
-ghost use Rattle.std.specs.Prelude.{◌≡◌, ◌⊎◌, ◌≤◌, ◌++◌, [], ◌∷◌, ℕ, length, OnOk};
-ghost use Rattle.adx_io.specs.Disks.{Each, LeavesOnly};
-ghost use Rattle.day_journal.specs.Places.{IsCleared, IsMarked, IsUnfinished, IsClosed, opened, mark};
+ghost use Rattle.std.specs.Prelude.{◌≡◌, ◌⊎◌, ◌≤◌, ◌++◌, [], ◌∷◌, List, ℕ, length, OnOk};
+ghost use Rattle.adx_io.specs.Disks.{AsRead, Each, LeavesOnly};
+ghost use Rattle.adx_io.specs.Streams.{HasCause};
+ghost use Rattle.day_journal.specs.Places.{IsCleared, IsMarked, IsUnfinished, StandsFor, new_file};
+ghost use Rattle.day_journal.specs.Starts.{HasSome};
 
 use adx_io::{Disk, Failed};
 
 /// The mark behind byte 0 and a closed gate.
 const MARK: [u8; 9] = *b"ADXJRNL1\0";
 
-/// Makes byte 0 of a file unset that is short, or marked behind it.
-pub(crate) fn clear_first<D: Disk>(disk: &mut D) -> Result<(), Failed>
+/// Makes a new journal of a file of at most a byte, or marked, whose first byte isn't 0.
+pub(crate) fn make_uncleared<D: Disk>(disk: &mut D) -> Result<(), Failed>
     ensures kept { Each (D.may_leave disk.old) (λ c. (length c ≤ 1) ⊎ IsMarked c)
-        → Each (D.may_leave disk.new) IsUnfinished × LeavesOnly D.moment D.left_since disk.old disk.new IsUnfinished }
+        → LeavesOnly D.moment D.left_since disk.old disk.new (λ c. StandsFor c [] × HasSome (D.may_leave disk.old)) }
+    ensures made { OnOk result (Each (D.may_leave disk.old) (λ c. (length c ≤ 1) ⊎ IsMarked c) → Each (D.may_leave disk.new) (λ c. c ≡ new_file)) }
+    ensures durable { OnOk result (AsRead (D.reads disk.new) (D.may_leave disk.new)) }
+    ensures lasts { D.lasts disk.old disk.new }
+    ensures cause { HasCause (D.faults disk.old) (D.faults disk.new) result }
+{
+    clear_first(disk)?;
+    make_cleared(disk)?;
+    Ok(())
+}
+
+/// Makes a new journal of a file of at most ten bytes whose first is 0.
+pub(crate) fn make_cleared<D: Disk>(disk: &mut D) -> Result<(), Failed>
+    ensures kept { Each (D.may_leave disk.old) IsCleared
+        → LeavesOnly D.moment D.left_since disk.old disk.new (λ c. StandsFor c [] × HasSome (D.may_leave disk.old)) }
+    ensures made { OnOk result (Each (D.may_leave disk.old) IsCleared → Each (D.may_leave disk.new) (λ c. c ≡ new_file)) }
+    ensures durable { OnOk result (AsRead (D.reads disk.new) (D.may_leave disk.new)) }
+    ensures lasts { D.lasts disk.old disk.new }
+    ensures cause { HasCause (D.faults disk.old) (D.faults disk.new) result }
+{
+    put_mark(disk)?;
+    put_head(disk)?;
+    Ok(())
+}
+
+/// Makes byte 0 of a file unset that is short, or marked behind it.
+fn clear_first<D: Disk>(disk: &mut D) -> Result<(), Failed>
+    ensures kept { Each (D.may_leave disk.old) (λ c. (length c ≤ 1) ⊎ IsMarked c)
+        → Each (D.may_leave disk.new) (λ c. IsUnfinished c × HasSome (D.may_leave disk.old))
+        × LeavesOnly D.moment D.left_since disk.old disk.new (λ c. IsUnfinished c × HasSome (D.may_leave disk.old)) }
     ensures cleared { OnOk result (Each (D.may_leave disk.old) (λ c. (length c ≤ 1) ⊎ IsMarked c) → Each (D.may_leave disk.new) IsCleared) }
     ensures lasts { D.lasts disk.old disk.new }
+    ensures cause { HasCause (D.faults disk.old) (D.faults disk.new) result }
 {
     disk.write_at(0, &[0])?;
     disk.sync()?;
@@ -21,11 +53,13 @@ pub(crate) fn clear_first<D: Disk>(disk: &mut D) -> Result<(), Failed>
 }
 
 /// Writes the mark and a closed gate behind byte 0, which is unset.
-pub(crate) fn put_mark<D: Disk>(disk: &mut D) -> Result<(), Failed>
+fn put_mark<D: Disk>(disk: &mut D) -> Result<(), Failed>
     ensures kept { Each (D.may_leave disk.old) IsCleared
-        → Each (D.may_leave disk.new) IsCleared × LeavesOnly D.moment D.left_since disk.old disk.new IsCleared }
+        → Each (D.may_leave disk.new) (λ c. IsCleared c × HasSome (D.may_leave disk.old))
+        × LeavesOnly D.moment D.left_since disk.old disk.new (λ c. IsCleared c × HasSome (D.may_leave disk.old)) }
     ensures marked { OnOk result (Each (D.may_leave disk.old) IsCleared → Each (D.may_leave disk.new) IsMarked) }
     ensures lasts { D.lasts disk.old disk.new }
+    ensures cause { HasCause (D.faults disk.old) (D.faults disk.new) result }
 {
     disk.write_at(1, &MARK)?;
     disk.sync()?;
@@ -33,11 +67,14 @@ pub(crate) fn put_mark<D: Disk>(disk: &mut D) -> Result<(), Failed>
 }
 
 /// Sets byte 0, behind which all is there.
-pub(crate) fn put_head<D: Disk>(disk: &mut D) -> Result<(), Failed>
+fn put_head<D: Disk>(disk: &mut D) -> Result<(), Failed>
     ensures kept { Each (D.may_leave disk.old) IsMarked
-        → Each (D.may_leave disk.new) IsMarked × LeavesOnly D.moment D.left_since disk.old disk.new IsMarked }
-    ensures made { OnOk result (Each (D.may_leave disk.old) IsMarked → Each (D.may_leave disk.new) (IsClosed (opened []))) }
+        → Each (D.may_leave disk.new) (λ c. IsMarked c × HasSome (D.may_leave disk.old))
+        × LeavesOnly D.moment D.left_since disk.old disk.new (λ c. IsMarked c × HasSome (D.may_leave disk.old)) }
+    ensures made { OnOk result (Each (D.may_leave disk.old) IsMarked → Each (D.may_leave disk.new) (λ c. c ≡ new_file)) }
+    ensures durable { OnOk result (AsRead (D.reads disk.new) (D.may_leave disk.new)) }
     ensures lasts { D.lasts disk.old disk.new }
+    ensures cause { HasCause (D.faults disk.old) (D.faults disk.new) result }
 {
     disk.write_at(0, &[1])?;
     disk.sync()?;
