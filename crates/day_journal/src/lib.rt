@@ -12,6 +12,8 @@ mod opening;
 mod place;
 mod start;
 mod steps;
+#[cfg(test)]
+mod tests;
 mod window;
 
 pub use fault::JournalFault;
