@@ -1,5 +1,5 @@
 -- The ask of a line, from its request and its answers.
-use Rattle.std.proofs.Common.{◌≡◌, ℕ, ◌+◌, ◌<◌, ◌≤◌, List, [], ◌∷◌, ◌++◌, take, get_or, length, Option, Some, None, Result, Ok, Err, sym, ap, subst, ◌∙◌, arith}
+use Rattle.std.proofs.Common.{◌≡◌, ℕ, ◌+◌, ◌<◌, ◌≤◌, List, [], ◌∷◌, ◌++◌, take, get_or, length, Option, Some, Result, Ok, Err, sym, ap, subst, ◌∙◌}
 use Rattle.std.specs.List.{AllZip}
 use Rattle.std.proofs.lemmas.List.{take_more, map-append, length-map}
 use Rattle.std.proofs.lemmas.Slice.Zip.{AllZip-long}
@@ -11,10 +11,9 @@ use Rattle.rtb_request.specs.Seen.{seen_request}
 use Rattle.rtb_request.specs.declared.bid_request.BidRequest.{BidRequest}
 use Rattle.rtb_response.specs.declared.bid_answer.BidAnswer.{BidAnswer}
 use Rattle.day_rules.specs.declared.ask.Ask.{Ask}
-use Rattle.day_rules.specs.Replies.{ask}
 use Rattle.deal_floor.specs.declared.roster.Roster.{Roster}
 use Rattle.ask_making.specs.Making.{ask_of}
-use Rattle.script_lines.specs.Meanings.{calls, GivesAnswer, AskMeans}
+use Rattle.script_lines.specs.Meanings.{GivesAnswer}
 use Rattle.script_lines.specs.Found.{FindsAsk, FindsRequest}
 use Rattle.script_lines.specs.declared.refusal.LineFault.{LineFault}
 

@@ -1,1 +1,12 @@
 pub mod Asked
+pub mod GivenAnswers
+pub mod Views
+pub mod OneFault
+pub mod OneMeaning
+pub mod Bounds
+pub mod Judged
+pub mod SomeRequest
+pub mod SomeRoster
+pub mod SomeMeaning
+pub mod BidsFit
+pub mod CallsTaken

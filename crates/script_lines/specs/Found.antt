@@ -6,8 +6,8 @@ use Rattle.rtb_request.specs.Seen.{seen_request}
 use Rattle.rtb_request.specs.declared.bid_request.BidRequest.{BidRequest}
 use Rattle.rtb_request.specs.declared.fault.RequestFault.{RequestFault}
 use Rattle.deal_floor.specs.declared.roster.Roster.{Roster}
-use Rattle.day_rules.specs.Asks.{IsWellFormed, IsUndecided}
-use Rattle.day_rules.specs.Replies.{ask, notice, tick}
+use Rattle.day_rules.specs.Replies.{Call, ask, notice, tick}
+use Rattle.day_rules.specs.Runs.{IsCall}
 use Rattle.day_rules.specs.declared.ask.Ask.{Ask}
 use Rattle.script_lines.specs.Meanings.{Meaning, calls, refused, AskMeans, ValueMeans, LineMeans}
 use Rattle.script_lines.specs.declared.line.ScriptLine.{ScriptLine}
@@ -16,10 +16,13 @@ use Rattle.script_lines.specs.declared.refusal.LineFault.{LineFault}
 use Rattle.script_lines.specs.declared.refusal.Refusal.TheVariants.{NoCall, Request}
 
 -- the call that a line was read as
+abbrev pub call_of : ScriptLine → Call
+call_of (ScriptLine.Ask a) = ask a
+call_of (ScriptLine.Notice n) = notice n.kind n.auction n.award
+call_of (ScriptLine.Tick now) = tick now
+
 abbrev pub meaning_of : ScriptLine → Meaning
-meaning_of (ScriptLine.Ask a) = calls (ask a)
-meaning_of (ScriptLine.Notice n) = calls (notice n.kind n.auction n.award)
-meaning_of (ScriptLine.Tick now) = calls (tick now)
+meaning_of found = calls (call_of found)
 
 -- what was found means so; where memory was refused nothing is told
 abbrev pub Finds : {A : Type 0} → (A → Meaning) → (Meaning → Type 0) → Result A LineFault → Type 0
@@ -49,8 +52,6 @@ abbrev pub meaning_of_notice : Option Notice → Meaning
 meaning_of_notice None = refused NoCall
 meaning_of_notice (Some n) = calls (notice n.kind n.auction n.award)
 
--- an ask among the lines is one that a day with so many campaigns can plan
+-- the call is one that a day with so many campaigns takes
 abbrev pub IsReadyLine : ℕ → ScriptLine → Type 0
-IsReadyLine campaigns (ScriptLine.Ask a) = IsWellFormed campaigns a × IsUndecided a
-IsReadyLine campaigns (ScriptLine.Notice n) = Unit {0}
-IsReadyLine campaigns (ScriptLine.Tick now) = Unit {0}
+IsReadyLine campaigns found = IsCall campaigns (call_of found)

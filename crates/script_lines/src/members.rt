@@ -97,12 +97,6 @@ pub(crate) fn answers_in(value: Option<&Json>, bidders: usize) -> Option<&[Json]
 fn are_null_or_objects(trees: &[Json]) -> bool
     ensures { result ≡ list_all is_null_or_object (trees_of trees.now) }
 {
-    all_null_or_objects(trees)
-}
-
-fn all_null_or_objects(trees: &[Json]) -> bool
-    ensures { result ≡ list_all (λ t. is_null_or_object (tree_of t)) trees.now }
-{
     trees.iter().all(|tree| is_null_or_object(tree))
 }
 

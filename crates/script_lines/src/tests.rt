@@ -5,125 +5,68 @@ use crate::{
 use adx_json::push_number;
 use adx_units::OutOfMemory;
 use day_rules::Ask;
+use deal_floor::Roster;
 use notice_book::NoticeKind;
+use std::alloc::Global;
 use std::test::Fail;
 
 /// Two bidders and three campaigns.
 const ROSTER: &str =
     r#"{"day":"2025-03-01","bidders":[{"name":"b1"},{"name":"b2"}],"campaigns":[{"bidder":"b1","seat":"s1","cid":"c1","budget":0.01},{"bidder":"b2","seat":"s2","cid":"c1","budget":1},{"bidder":"b1","seat":"s1","cid":"c2","budget":2}]}"#;
 
-/// Lines, and what they mean: of an ask its id, its moment, and what admission says of each bid.
-const LINES: [(&str, &str); 44] = [
-    ("", "json syntax 0"),
-    ("{\"tick\":1} x", "json syntax 11"),
-    ("\u{feff}{}", "json syntax 0"),
-    ("[]", "call"),
-    ("7", "call"),
-    ("{}", "call"),
-    ("{\"x\":1}", "call"),
-    ("{\"tick\":0}", "tick 0"),
-    (" { \"tick\" : 999999999999999 } \r", "tick 999999999999999"),
-    ("{\"tick\":1000000000000000}", "call"),
-    ("{\"tick\":1.0}", "call"),
-    ("{\"tick\":\"1\"}", "call"),
-    ("{\"tick\":-0}", "call"),
-    ("{\"tick\":null}", "call"),
-    ("{\"tick\":1,\"tick\":2}", "tick 2"),
-    (
-        "{\"notice\":\"win\",\"auction\":\"a\",\"bid\":0}",
-        "win a 0",
-    ),
-    (
-        "{\"bid\":4294967295,\"auction\":\"\",\"notice\":\"bill\",\"tick\":1}",
-        "bill  4294967295",
-    ),
-    (
-        "{\"notice\":\"loss\",\"auction\":\"a\",\"bid\":4294967296}",
-        "call",
-    ),
-    (
-        "{\"notice\":\"l\\u006fss\",\"auction\":\"\\u00e9\",\"bid\":3}",
-        "loss é 3",
-    ),
-    ("{\"notice\":\"Win\",\"auction\":\"a\",\"bid\":0}", "call"),
-    ("{\"notice\":null,\"tick\":1}", "call"),
-    ("{\"notice\":\"win\",\"auction\":7,\"bid\":0}", "call"),
-    ("{\"notice\":\"win\",\"bid\":0}", "call"),
-    ("{\"notice\":\"win\",\"auction\":\"a\"}", "call"),
-    ("{\"ask\":null}", "request noid"),
-    ("{\"ask\":{\"id\":\"a\"},\"answers\":null}", "call"),
-    (
-        "{\"ask\":{\"id\":\"a\"},\"answers\":[null,null,null]}",
-        "call",
-    ),
-    ("{\"ask\":{\"id\":\"a\"},\"answers\":[7]}", "call"),
-    ("{\"ask\":{\"id\":\"a\"},\"answers\":{}}", "call"),
-    ("{\"ask\":{\"id\":\"a\"},\"now\":05}", "json syntax 25"),
-    ("{\"ask\":{\"id\":\"a\"},\"now\":null}", "call"),
-    ("{\"ask\":{\"id\":\"a\"},\"now\":\"1\"}", "call"),
-    (
-        "{\"ask\":{\"id\":\"a\"},\"answers\":[null,{}],\"now\":1}",
-        "request noimp",
-    ),
-    (
-        "{\"ask\":{\"id\":\"a\",\"imp\":[{\"id\":\"1\"},{\"id\":\"1\"}]},\"notice\":\"win\"}",
-        "request repeated 1",
-    ),
-    (
-        "{\"ask\":{\"id\":\"a\",\"imp\":[{\"id\":\"1\",\"pmp\":7}]}}",
-        "request field imp.pmp",
-    ),
-    (
-        "{\"ask\":{\"id\":\"a\",\"imp\":[{\"id\":\"1\"}]}}",
-        "ask a 0",
-    ),
-    (
-        "{\"ask\":{\"id\":\"a\",\"imp\":[{\"id\":\"1\"}]},\"answers\":[]}",
-        "ask a 0",
-    ),
-    (
-        "{\"ask\":{\"id\":\"a\",\"imp\":[{\"id\":\"1\"}]},\"answers\":[null,{\"id\":\"b\",\"seatbid\":[{\"bid\":[{}]}]}],\"now\":7}",
-        "ask a 7",
-    ),
-    (
-        "{\"ask\":{\"id\":\"a\",\"imp\":[{\"id\":\"1\"}]},\"answers\":[{\"id\":\"a\",\"seatbid\":[{\"seat\":\"s1\",\"bid\":[{\"id\":\"x\",\"impid\":\"1\",\"price\":2.5,\"cid\":\"c1\"}]}]}],\"now\":10}",
-        "ask a 10 65535",
-    ),
-    (
-        "{\"now\":3,\"answers\":[{\"id\":\"a\",\"bidid\":\"k\",\"seatbid\":[{\"seat\":\"s1\",\"bid\":[{\"id\":\"x\",\"impid\":\"2\",\"price\":0.5,\"cid\":\"c2\",\"exp\":9},7]},{\"seat\":\"s2\",\"bid\":[{\"id\":\"y\",\"impid\":\"1\",\"price\":1,\"cid\":\"c1\",\"lurl\":\"l\"}]}]},{\"id\":\"a\",\"seatbid\":[{\"seat\":\"s2\",\"bid\":[{\"id\":\"y\",\"impid\":\"1\",\"price\":1,\"cid\":\"c1\",\"adid\":\"d\",\"nurl\":\"n\",\"burl\":\"b\",\"lurl\":\"l\"}]}]}],\"ask\":{\"imp\":[{\"id\":\"1\"},{\"id\":\"2\",\"bidfloor\":0.25}],\"id\":\"a\"}}",
-        "ask a 3 65535 3 3 65535",
-    ),
-    (
-        "{\"ask\":{\"id\":\"\\ud800\",\"imp\":[{\"id\":\"1\"}]}}",
-        "ask \u{fffd} 0",
-    ),
-    ("{\"a\u{1}\":1}", "json syntax 3"),
-    (
-        "[[[[[[[[[[[[[[[[[[[[[[[[[[[[[[[[[[[[[[[[[[[[[[[[[[[[[[[[[[[[[[[[[",
-        "json depth 64",
-    ),
-    ("{\"ask\":", "json syntax 7"),
-];
+/// In each line a line of a script, and what it means: of an ask its id, its moment, and what admission says of each bid.
+const LINES: &str = r#" means json syntax 0
+{"tick":1} x means json syntax 11
+[] means call
+7 means call
+{} means call
+{"x":1} means call
+{"tick":0} means tick 0
+{"tick":1000000000000000} means call
+{"tick":1.0} means call
+{"tick":"1"} means call
+{"tick":-0} means call
+{"tick":null} means call
+{"tick":1,"tick":2} means tick 2
+{"notice":"win","auction":"a","bid":0} means win a 0
+{"bid":4294967295,"auction":"","notice":"bill","tick":1} means bill  4294967295
+{"notice":"loss","auction":"a","bid":4294967296} means call
+{"notice":"l\u006fss","auction":"\u00e9","bid":3} means loss é 3
+{"notice":"Win","auction":"a","bid":0} means call
+{"notice":null,"tick":1} means call
+{"notice":"win","auction":7,"bid":0} means call
+{"notice":"win","bid":0} means call
+{"notice":"win","auction":"a"} means call
+{"ask":null} means request noid
+{"ask":{"id":"a"},"answers":null} means call
+{"ask":{"id":"a"},"answers":[null,null,null]} means call
+{"ask":{"id":"a"},"answers":[7]} means call
+{"ask":{"id":"a"},"answers":{}} means call
+{"ask":{"id":"a"},"now":05} means json syntax 25
+{"ask":{"id":"a"},"now":null} means call
+{"ask":{"id":"a"},"now":"1"} means call
+{"ask":{"id":"a"},"answers":[null,{}],"now":1} means request noimp
+{"ask":{"id":"a","imp":[{"id":"1"},{"id":"1"}]},"notice":"win"} means request repeated 1
+{"ask":{"id":"a","imp":[{"id":"1","pmp":7}]}} means request field imp.pmp
+{"ask":{"id":"a","imp":[{"id":"1"}]}} means ask a 0
+{"ask":{"id":"a","imp":[{"id":"1"}]},"answers":[]} means ask a 0
+{"ask":{"id":"a","imp":[{"id":"1"}]},"answers":[null,{"id":"b","seatbid":[{"bid":[{}]}]}],"now":7} means ask a 7
+{"ask":{"id":"a","imp":[{"id":"1"}]},"answers":[{"id":"a","seatbid":[{"seat":"s1","bid":[{"id":"x","impid":"1","price":2.5,"cid":"c1"}]}]}],"now":10} means ask a 10 65535
+{"now":3,"answers":[{"id":"a","bidid":"k","seatbid":[{"seat":"s1","bid":[{"id":"x","impid":"2","price":0.5,"cid":"c2","exp":9},7]},{"seat":"s2","bid":[{"id":"y","impid":"1","price":1,"cid":"c1","lurl":"l"}]}]},{"id":"a","seatbid":[{"seat":"s2","bid":[{"id":"y","impid":"1","price":1,"cid":"c1","adid":"d","nurl":"n","burl":"b","lurl":"l"}]}]}],"ask":{"imp":[{"id":"1"},{"id":"2","bidfloor":0.25}],"id":"a"}} means ask a 3 65535 3 3 65535
+[[[[[[[[[[[[[[[[[[[[[[[[[[[[[[[[[[[[[[[[[[[[[[[[[[[[[[[[[[[[[[[[[ means json depth 64
+{"ask": means json syntax 7"#;
 
-/// Roster lines, and why they are refused; a roster that is taken is told by its day.
-const ROSTERS: [(&str, &str); 7] = [
-    (ROSTER, "2025-03-01"),
-    ("", "json syntax 0"),
-    ("{", "json syntax 1"),
-    ("[]", "field day"),
-    (
-        r#"{"day":"2025-03-01","bidders":[{"name":"b1"},{"name":"b1"}],"campaigns":[]}"#,
-        "repeated 1",
-    ),
-    (
-        r#"{"day":"2025-03-01","bidders":[{"name":"b1"}],"campaigns":[]}"#,
-        "field campaigns",
-    ),
-    (
-        r#"{"day":"2025-03-01","bidders":[{"name":"b1"}],"campaigns":[{"bidder":"b1","seat":"s","cid":"c","budget":1}],"replies":[[],[]]}"#,
-        "toomany",
-    ),
-];
+/// The same of lines with a byte order mark, control characters or characters beyond ASCII.
+const ODD_LINES: &str =
+    "\u{feff}{} means json syntax 0\n { \"tick\" : 999999999999999 } \r means tick 999999999999999\n{\"ask\":{\"id\":\"\\ud800\",\"imp\":[{\"id\":\"1\"}]}} means ask \u{fffd} 0\n{\"a\u{1}\":1} means json syntax 3";
+
+/// In each line a roster line, and why it is refused; a roster that is taken is told by its day.
+const ROSTERS: &str = r#" means json syntax 0
+{ means json syntax 1
+[] means field day
+{"day":"2025-03-01","bidders":[{"name":"b1"},{"name":"b1"}],"campaigns":[]} means repeated 1
+{"day":"2025-03-01","bidders":[{"name":"b1"}],"campaigns":[]} means field campaigns
+{"day":"2025-03-01","bidders":[{"name":"b1"}],"campaigns":[{"bidder":"b1","seat":"s","cid":"c","budget":1}],"replies":[[],[]]} means toomany"#;
 
 fn push_ask(out: &mut String, ask: &Ask) -> Result<(), OutOfMemory> {
     out.push_str("ask ")?;
@@ -163,32 +106,43 @@ fn push_line(out: &mut String, read: &Result<ScriptLine, LineFault>) -> Result<(
     }
 }
 
+/// Whether a line means this.
+fn is_line(alloc: Global, roster: &Roster, line: &str, want: &str) -> Result<bool, OutOfMemory> {
+    let read = read_line(alloc, roster, line.as_bytes());
+    let mut got = String::new(alloc);
+    push_line(&mut got, &read)?;
+    Ok(got.as_str() == want)
+}
+
 #[test]
 fn lines_mean_what_they_say(rt: HostRuntime) -> Result<(), Fail> {
-    let alloc = rt.alloc();
-    let Ok(roster) = read_roster(alloc, ROSTER.as_bytes()) else {
-        return Err(Fail::from(OutOfMemory));
-    };
-    for (line, want) in LINES {
-        let read = read_line(alloc, &roster, line.as_bytes());
-        let mut got = String::new(alloc);
-        push_line(&mut got, &read)?;
-        assert_eq!(rt; got.as_str(), want);
+    let roster = read_roster(rt.alloc(), ROSTER.as_bytes()).map_err(|_| "no roster")?;
+    assert_eq!(rt; LINES.lines().count() + ODD_LINES.lines().count(), 44);
+    for line in LINES.lines().chain(ODD_LINES.lines()) {
+        let (text, want) = line.split_once(" means ").ok_or("no meaning")?;
+        assert!(rt; is_line(rt.alloc(), &roster, text, want)?, "{line}");
     }
     Ok(())
 }
 
+/// Whether a roster line means this.
+fn is_roster(alloc: Global, line: &str, want: &str) -> Result<bool, OutOfMemory> {
+    let mut got = String::new(alloc);
+    match read_roster(alloc, line.as_bytes()) {
+        Ok(roster) => got.push_str(roster.day.as_str())?,
+        Err(RosterLineFault::Refused { why }) => push_roster_why(&mut got, why)?,
+        Err(RosterLineFault::OutOfMemory) => return Err(OutOfMemory),
+    }
+    Ok(got.as_str() == want)
+}
+
 #[test]
 fn rosters_are_taken_or_refused(rt: HostRuntime) -> Result<(), Fail> {
-    let alloc = rt.alloc();
-    for (line, want) in ROSTERS {
-        let mut got = String::new(alloc);
-        match read_roster(alloc, line.as_bytes()) {
-            Ok(roster) => got.push_str(roster.day.as_str())?,
-            Err(RosterLineFault::Refused { why }) => push_roster_why(&mut got, why)?,
-            Err(RosterLineFault::OutOfMemory) => return Err(Fail::from(OutOfMemory)),
-        }
-        assert_eq!(rt; got.as_str(), want);
+    assert!(rt; is_roster(rt.alloc(), ROSTER, "2025-03-01")?);
+    assert_eq!(rt; ROSTERS.lines().count(), 6);
+    for line in ROSTERS.lines() {
+        let (text, want) = line.split_once(" means ").ok_or("no meaning")?;
+        assert!(rt; is_roster(rt.alloc(), text, want)?, "{line}");
     }
     Ok(())
 }

@@ -1,8 +1,8 @@
 -- The ask of the request and the answers, or the request's first fault.
-use Rattle.std.proofs.Common.{◌≡◌, ◌≤◌, length, option_map, ap, subst, sym, ◌∙◌}
+use Rattle.std.proofs.Common.{◌≤◌, length, option_map, ap, subst, sym, ◌∙◌}
 use Rattle.std.specs.List.{AllZip}
 use Rattle.adx_json.specs.View.{tree_of, trees_of}
-use Rattle.script_lines.specs.Members.{answers_in, ask_moment}
+use Rattle.script_lines.specs.Members.{answers_in}
 use Rattle.script_lines.specs.Meanings.{GivesAnswer}
 use Rattle.script_lines.proofs.Asked.{answers_few, ask_found, ask_refused}
 use Rattle.script_lines.proofs.ask.ask_line.Goals as goal
