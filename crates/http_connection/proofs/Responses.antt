@@ -1,0 +1,129 @@
+-- A response from its head and its body.
+use Rattle.std.proofs.Common.{◌≡◌, ℕ, ◌≤◌, List, [], ◌++◌, length, take, drop, Option, Some, None, Result, Ok, Err, refl, sym, ap, subst, ◌∙◌, arith, inl, inr}
+use Rattle.adx_io.specs.Streams.{Tape, WhereTold}
+use Rattle.http_buffer.specs.State.{BufferState, Takes, IsAtEnd}
+use Rattle.http_buffer.specs.HeadEnds.{HeadEndsAt}
+use Rattle.http_grammar.specs.Requests as grammar
+use Rattle.http_grammar.specs.Judged.{IsSoundResponse}
+use Rattle.http_grammar.specs.declared.fault.HttpFault.{HttpFault}
+use Rattle.http_grammar.specs.declared.framing.Framing.{Framing}
+use Rattle.http_grammar.specs.declared.parts.ResponseParts.{ResponseParts}
+use Rattle.http_bodies.specs.declared.chunks.TheConstants.{LINE_COUNT_LIMIT}
+use Rattle.http_bodies.specs.BodyForms.{body_of_response, IsBodyThen, FailsBody}
+use Rattle.http_bodies.specs.Steps.{coming, BodyGives, FitsBody}
+use Rattle.http_connection.specs.Messages.{ResponseRead, IsResponseThen, RefusesResponse, FailsWithoutHead}
+use Rattle.http_connection.specs.Found.{HasHead, HeadGives, StatusShows, FaultGives, ResponseGives}
+use Rattle.http_bodies.proofs.Told.{told_map, told_then, told_same, flow}
+use Rattle.http_bodies.proofs.BodyParts.{keeping}
+use Rattle.http_connection.proofs.Counts.{response_fields}
+use Rattle.http_connection.proofs.Heads.{begins, few_lines, kept_parts, refused, fault_carried, never_head, cut_head, HasManyLines, many_lines, nothing_comes}
+
+-- a length within the limit is one that a body may have
+pub response_fits : (limit status : ℕ) (fields : List (List ℕ × List ℕ)) (framing : Option Framing) → IsSoundResponse limit status fields framing → FitsBody limit (body_of_response framing)
+response_fits limit status fields None s = tt
+response_fits limit status fields (Some Framing.Unframed) s = tt
+response_fits limit status fields (Some Framing.Chunked) s = tt
+response_fits limit status fields (Some (Framing.Sized n)) s = s.3
+
+pub response_found : (limit end : ℕ) (start kept now : BufferState) (old new : Option Tape) (parts : ResponseParts) → start.kept ≡ [] → (h : HasHead start.pending end)
+    → (says : grammar.SaysResponse limit (take end start.pending) parts) → kept ≡ keeping start end → (body : BodyGives limit (body_of_response parts.framing) kept now old new (Ok tt))
+    → (end ≤ length now.kept) × WhereTold old new (λ o n. (r : ResponseRead) × IsResponseThen limit (coming start o) r (coming now n) × StatusShows parts.status end now.kept r)
+response_found limit end start kept now old new parts none h says is body =
+    let p = start.pending in
+    let shape = kept_parts start now end body.0 none (HeadEndsAt.within (HasHead.ends h)) (body.1 ∙ ap (λ (b : BufferState). b.kept ++ body.0) is) in (
+      shape.2,
+      told_map old new (λ o n. IsBodyThen limit (body_of_response parts.framing) (coming kept o) body.0 (coming now n))
+          (λ o n. (r : ResponseRead) × IsResponseThen limit (coming start o) r (coming now n) × StatusShows parts.status end now.kept r)
+          (λ o n b. (
+            record { head = says.h; body = body.0 },
+            record {
+              head = take end p;
+              behind = drop end p ++ o.left;
+              framing = parts.framing;
+              begins = begins p o.left end h;
+              few = few_lines p o.left end h;
+              reads = says.reads;
+              sound = says.sound;
+              body = subst (λ (s : BufferState). IsBodyThen limit (body_of_response parts.framing) (coming s o) body.0 (coming now n)) is b;
+            },
+            record { status_is = says.status; body = shape.1 },
+          ))
+          body.2,
+    )
+
+-- a head that is refused
+pub head_refused : (limit end : ℕ) (start : BufferState) (old : Option Tape) (fault : HttpFault) → HasHead start.pending end
+    → grammar.RefusesResponse LINE_COUNT_LIMIT limit (take end start.pending) fault → FaultGives RefusesResponse limit start old old fault
+head_refused limit end start old fault h (inl none) =
+    let p = start.pending in
+    refused RefusesResponse limit start old old fault
+    (told_same old (λ o n. RefusesResponse limit (coming start o) fault)
+    (λ o. let b = begins p o.left end h in let few = few_lines p o.left end h in
+    inr (inl (take end p, drop end p ++ o.left, b, inr (inl (few, none.0, λ k reads. none.1 k reads (let l = response_fields b k reads in omega (arith, l, few))))))))
+head_refused limit end start old fault h (inr fails) =
+    let p = start.pending in
+    refused RefusesResponse limit start old old fault
+    (told_same old (λ o n. RefusesResponse limit (coming start o) fault)
+    (λ o. inr (inl (take end p, drop end p ++ o.left, begins p o.left end h, inr (inr (inl (few_lines p o.left end h, fails.0, fails.1, fails.2)))))))
+
+-- no head was found
+pub no_head : (limit : ℕ) (start mid : BufferState) (old new : Option Tape) (fault : HttpFault) → Takes start mid old new → HeadGives mid.pending (Err fault) → (fault ≡ HttpFault.Cut → IsAtEnd new)
+    → FaultGives RefusesResponse limit start old new fault
+no_head limit start mid old new HttpFault.HeadTooLong t (inl never) end =
+    told_map old new (λ o n. FailsWithoutHead (coming start o) HttpFault.HeadTooLong) (λ o n. RefusesResponse limit (coming start o) HttpFault.HeadTooLong) (λ o n f. inl f)
+    (never_head start mid old new t never)
+no_head limit start mid old new HttpFault.HeadTooLong t (inr many) end =
+    told_map old new (λ o n. HasManyLines (coming start o)) (λ o n. RefusesResponse limit (coming start o) HttpFault.HeadTooLong) (λ o n m. inr (inl (m.0, m.1, m.2, inl (m.3, refl))))
+    (many_lines start mid old new many.0 many.1 t many.2 many.3)
+no_head limit start mid old new HttpFault.Cut t g end =
+    told_map old new (λ o n. FailsWithoutHead (coming start o) HttpFault.Cut) (λ o n. RefusesResponse limit (coming start o) HttpFault.Cut) (λ o n f. inl f)
+    (cut_head start mid old new t g.0 g.1 (end refl))
+no_head limit start mid old new HttpFault.ReadFault t g end = tt
+no_head limit start mid old new HttpFault.BadHead t g end = absurd g
+no_head limit start mid old new HttpFault.LengthRequired t g end = absurd g
+no_head limit start mid old new HttpFault.BodyTooLong t g end = absurd g
+no_head limit start mid old new HttpFault.BadChunk t g end = absurd g
+no_head limit start mid old new HttpFault.Coding t g end = absurd g
+
+-- a body that is refused
+body_fault : (limit end : ℕ) (start kept : BufferState) (old new : Option Tape) (fault : HttpFault) (parts : ResponseParts) → (h : HasHead start.pending end) → (says : grammar.SaysResponse limit (take end start.pending) parts)
+    → kept ≡ keeping start end → WhereTold old new (λ o n. FailsBody limit (body_of_response parts.framing) (coming kept o) fault)
+    → WhereTold old new (λ o n. RefusesResponse limit (coming start o) fault)
+body_fault limit end start kept old new fault parts h says is w =
+    let p = start.pending in
+    told_map old new (λ o n. FailsBody limit (body_of_response parts.framing) (coming kept o) fault) (λ o n. RefusesResponse limit (coming start o) fault)
+    (λ o n f. inr (inl (
+      take end p,
+      drop end p ++ o.left,
+      begins p o.left end h,
+      inr (inr (inr (few_lines p o.left end h, says.h, says.reads, parts.framing, says.sound, subst (λ (s : BufferState). FailsBody limit (body_of_response parts.framing) (coming s o) fault) is f))),
+    )))
+    w
+
+pub body_refused : (limit end : ℕ) (start kept now : BufferState) (old new : Option Tape) (fault : HttpFault) (parts : ResponseParts) → (h : HasHead start.pending end) → (says : grammar.SaysResponse limit (take end start.pending) parts)
+    → kept ≡ keeping start end → BodyGives limit (body_of_response parts.framing) kept now old new (Err fault) → FaultGives RefusesResponse limit start old new fault
+body_refused limit end start kept now old new HttpFault.Cut parts h says is w = body_fault limit end start kept old new HttpFault.Cut parts h says is w
+body_refused limit end start kept now old new HttpFault.BadChunk parts h says is w = body_fault limit end start kept old new HttpFault.BadChunk parts h says is w
+body_refused limit end start kept now old new HttpFault.BodyTooLong parts h says is w = body_fault limit end start kept old new HttpFault.BodyTooLong parts h says is w
+body_refused limit end start kept now old new HttpFault.ReadFault parts h says is w = tt
+body_refused limit end start kept now old new HttpFault.BadHead parts h says is w = absurd w
+body_refused limit end start kept now old new HttpFault.HeadTooLong parts h says is w = absurd w
+body_refused limit end start kept now old new HttpFault.LengthRequired parts h says is w = absurd w
+body_refused limit end start kept now old new HttpFault.Coding parts h says is w = absurd w
+
+-- nothing came
+pub nothing_came : (limit : ℕ) (start mid : BufferState) (old new : Option Tape) → Takes start mid old new → mid.pending ≡ [] → IsAtEnd new → FaultGives RefusesResponse limit start old new HttpFault.Cut
+nothing_came limit start mid old new t none end =
+    told_map old new (λ o n. (coming start o ≡ []) × (coming mid n ≡ [])) (λ o n. RefusesResponse limit (coming start o) HttpFault.Cut) (λ o n e. inr (inr (e.0, refl)))
+    (nothing_comes start mid old new t none end)
+
+-- what was found of all bytes that come is found where some of them were still to be taken
+pub response_carried : (limit : ℕ) (start mid now : BufferState) (old m new : Option Tape) (result : Result (ℕ × ℕ) HttpFault) → Takes start mid old m
+    → ResponseGives limit mid now m new result → ResponseGives limit start now old new result
+response_carried limit start mid now old m new (Ok f) t g = (
+  g.0,
+  told_then old m new (λ o k. coming start o ≡ coming mid k) (λ k n. (r : ResponseRead) × IsResponseThen limit (coming mid k) r (coming now n) × StatusShows f.0 f.1 now.kept r)
+      (λ o n. (r : ResponseRead) × IsResponseThen limit (coming start o) r (coming now n) × StatusShows f.0 f.1 now.kept r)
+      (λ o k n e r. (r.0, subst (λ (bytes : List ℕ). IsResponseThen limit bytes r.0 (coming now n)) (sym e) r.1, r.2)) (flow start mid old m t) g.1,
+)
+response_carried limit start mid now old m new (Err fault) t g = fault_carried RefusesResponse limit start mid old m new fault t g

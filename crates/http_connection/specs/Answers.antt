@@ -1,0 +1,50 @@
+-- What the calls of a connection answer.
+use Rattle.std.specs.Prelude.{◌≡◌, ℕ, List, [], ◌++◌, true, false, Option, Some, None, Result, Ok, Err, is_err, ⊤}
+use Rattle.adx_io.specs.Streams.{Tape, WhereTold}
+use Rattle.http_grammar.specs.Requests.{verb_of_method, is_kept}
+use Rattle.http_grammar.specs.declared.fault.HttpFault.{HttpFault}
+use Rattle.httparse.specs.Grammar.{status_code}
+use Rattle.http_connection.specs.State.{ConnState}
+use Rattle.http_bodies.specs.Steps.{Advances}
+use Rattle.http_connection.specs.Messages.{Request, IsRequestThen, RefusesRequest, ResponseRead, IsResponseThen, RefusesResponse}
+use Rattle.http_connection.specs.declared.conn.Message.{Message}
+use Rattle.http_connection.specs.declared.conn.Response.{Response}
+
+-- the message that is lent shows the request
+pub record Shows (m : Message) (r : Request) : Type 0 where
+  pub verb : m.verb ≡ verb_of_method r.head.method
+  pub target : m.target.now ≡ r.head.target
+  pub body : m.body.now ≡ r.body
+  pub keep : m.keep ≡ is_kept r.head
+
+-- all bytes that come give this answer, and the rest is still to come
+abbrev pub GivesMessage : ℕ → List ℕ → Result (Option Message) HttpFault → List ℕ → Type 0
+GivesMessage limit bytes (Ok (Some m)) rest = (r : Request) × IsRequestThen limit bytes r rest × Shows m r
+GivesMessage limit bytes (Ok None) rest = (bytes ≡ []) × (rest ≡ [])
+GivesMessage limit bytes (Err HttpFault.ReadFault) rest = ⊤
+GivesMessage limit bytes (Err fault) rest = RefusesRequest limit bytes fault
+
+-- After a fault the answer is `Cut`, and nothing changes. Else the answer is a function of the bytes held and those that
+-- the source has left, where it tells them.
+pub record AnswersMessage (before now : ConnState) (old new : Option Tape) (result : Result (Option Message) HttpFault) : Type 0 where
+  pub limit : now.limit ≡ before.limit
+  pub failed : before.failed ≡ true → (result ≡ Err HttpFault.Cut) × (now ≡ before) × (new ≡ old)
+  pub sound : before.failed ≡ false → now.failed ≡ is_err result
+  pub told : before.failed ≡ false → WhereTold old new (λ o n. GivesMessage before.limit (before.held ++ o.left) result (now.held ++ n.left))
+  pub advances : Advances old new
+
+pub record ShowsResponse (m : Response) (r : ResponseRead) : Type 0 where
+  pub status : m.status ≡ status_code r.head
+  pub body : m.body.now ≡ r.body
+
+abbrev pub GivesResponse : ℕ → List ℕ → Result Response HttpFault → List ℕ → Type 0
+GivesResponse limit bytes (Ok m) rest = (r : ResponseRead) × IsResponseThen limit bytes r rest × ShowsResponse m r
+GivesResponse limit bytes (Err HttpFault.ReadFault) rest = ⊤
+GivesResponse limit bytes (Err fault) rest = RefusesResponse limit bytes fault
+
+pub record AnswersResponse (before now : ConnState) (old new : Option Tape) (result : Result Response HttpFault) : Type 0 where
+  pub limit : now.limit ≡ before.limit
+  pub failed : before.failed ≡ true → (result ≡ Err HttpFault.Cut) × (now ≡ before) × (new ≡ old)
+  pub sound : before.failed ≡ false → now.failed ≡ is_err result
+  pub told : before.failed ≡ false → WhereTold old new (λ o n. GivesResponse before.limit (before.held ++ o.left) result (now.held ++ n.left))
+  pub advances : Advances old new

@@ -1,0 +1,4 @@
+pub mod Messages
+pub mod State
+pub mod Answers
+pub mod Found

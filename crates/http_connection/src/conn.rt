@@ -1,0 +1,362 @@
+//! A connection: messages read one after another from a source.
+ghost use Rattle.std.specs.Prelude.{◌≡◌, ◌≤◌, ◌<◌, ◌+◌, ◌*◌, ◌-◌, ℕ, List, [], None, Ok, Err, length, take, drop, IfOk, true, false};
+ghost use Rattle.std.specs.Borrow.{sem};
+ghost use Rattle.std.specs.Io.BufRead.{Rests};
+ghost use Rattle.http_bodies.specs.Steps.{Advances, ReadsBy};
+ghost use Rattle.http_grammar.specs.declared.fault.HttpFault.{HttpFault};
+ghost use Rattle.http_connection.specs.Found.{HeadGives, HasHead, HasRequestHead, IsWithin, RequestGives, ResponseGives};
+ghost use Rattle.http_buffer.specs.State.{Takes, IsAtEnd};
+ghost use Rattle.httparse.specs.Spans.{span_bytes};
+
+use adx_io::Source;
+use adx_units::OutOfMemory;
+use http_bodies::{LINE_COUNT_LIMIT, body_of_request, body_of_response, read_body};
+use http_buffer::{Buffer, HEAD_LIMIT, HeadEnd, head_end};
+use http_grammar::{HttpFault, RequestParts, Verb, request_parts, response_parts};
+use httparse::spans::{EMPTY_HEADER_SPAN, HeaderSpan, Span};
+use std::alloc::Global;
+use std::marker::Model;
+
+/// How many bytes are asked of a source beyond the longest message.
+const PIECE: usize = 65_536;
+
+/// A request that was read.
+#[derive(Clone, Copy, Debug)]
+pub struct Message<'a> {
+    /// The kind of its method.
+    pub verb: Verb,
+    /// Its target, as it stands in the head.
+    pub target: &'a [u8],
+    /// Its body, whose chunks are joined.
+    pub body: &'a [u8],
+    /// Whether the connection stays: HTTP/1.1 without `Connection: close`.
+    pub keep: bool,
+}
+
+/// A response that was read.
+#[derive(Clone, Copy, Debug)]
+pub struct Response<'a> {
+    /// The status, from 0 to 999.
+    pub status: u16,
+    /// Its body, whose chunks are joined; 204 and 304 have none.
+    pub body: &'a [u8],
+}
+
+/// How a connection ended.
+#[derive(Clone, Copy, Debug, PartialEq, Eq)]
+pub enum ConnEnd {
+    /// The source ended between messages, or the last reply said `close`.
+    Closed,
+    /// The source ended within a message.
+    Cut,
+    /// A message was refused, and its reply written.
+    Refused { fault: HttpFault },
+    /// The source failed.
+    ReadFault,
+    /// The sink failed.
+    WriteFault,
+    /// As many messages were read as one connection may bring.
+    Spent,
+    /// Memory was wanting.
+    OutOfMemory,
+}
+
+/// What of a message in progress stands where.
+#[derive(Clone, Copy)]
+struct Found {
+    verb: Verb,
+    target: Span,
+    keep: bool,
+    /// The length of its head.
+    head: usize,
+}
+
+/// A connection.
+#[derive(Drop)]
+pub struct Conn {
+    buffer: Buffer,
+    spans: Vec<HeaderSpan>,
+    failed: bool,
+    limit: u32,
+}
+
+impl Model for Conn {
+    ghost use Rattle.std.specs.Prelude.{◌≡◌, ◌+◌, ◌*◌, length, vec_len};
+    ghost use Rattle.http_buffer.specs.declared.head.TheConstants.{HEAD_LIMIT};
+    ghost use Rattle.http_bodies.specs.declared.chunks.TheConstants.{LINE_COUNT_LIMIT};
+    ghost use Rattle.http_connection.specs.declared.conn.TheConstants.{PIECE};
+    ghost use Rattle.http_connection.specs.State.{ConnState};
+
+    ghost Value = { ConnState };
+
+    ghost view = { λ c. record { held = c.buffer.pending; failed = c.failed; limit = c.limit } };
+
+    ghost invariant = { λ c. (c.buffer.room ≡ 2 * HEAD_LIMIT + c.limit + PIECE) × (vec_len c.spans ≡ LINE_COUNT_LIMIT) };
+}
+
+impl Conn {
+    ghost use Rattle.http_connection.specs.State.{ConnState};
+    ghost use Rattle.http_connection.specs.Answers.{AnswersMessage, AnswersResponse};
+    ghost use Rattle.http_connection.specs.contracts.conn.Conn.{the_row};
+
+    /// A connection whose bodies are at most `body_limit` bytes. No later call takes memory.
+    pub fn new(alloc: Global, body_limit: u32) -> Result<Conn, OutOfMemory>
+        ensures { IfOk result (λ c. c ≡ record { held = []; failed = false; limit = body_limit }) }
+    {
+        Ok(Conn {
+            buffer: Buffer::new(alloc, 2 * HEAD_LIMIT + body_limit as usize + PIECE)?,
+            spans: vec![in alloc; EMPTY_HEADER_SPAN; LINE_COUNT_LIMIT]?,
+            failed: false,
+            limit: body_limit,
+        })
+    }
+
+    /// Drops the bytes held and an earlier fault.
+    pub fn clear(&mut self)
+        ensures { self.new ≡ record self.old { held = []; failed = false } }
+    {
+        self.buffer.clear();
+        self.failed = false;
+    }
+
+    /// Reads the next message; None where the source ended between messages. After a fault each call
+    /// answers `Cut` until `clear`.
+    pub fn next_message<S: Source>(
+        &mut self,
+        source: &mut S,
+    ) -> Result<Option<Message<'_>>, HttpFault>
+        ensures* after_borrow { sem 𝓛 (Rests the_row self.entry (λ new. AnswersMessage self.old new (S.tape source.old) (S.tape source.new) result)) }
+        ensures cause { ReadsBy (S.faults source.old) (S.faults source.new) result }
+        ensures same { S.place source.new ≡ S.place source.old }
+    {
+        if self.failed {
+            return Err(HttpFault::Cut);
+        }
+        self.buffer.release();
+        match advance(&mut self.buffer, &mut self.spans, source, self.limit) {
+            Ok(Some(found)) => Ok(Some(lend(&self.buffer, found))),
+            Ok(None) => Ok(None),
+            Err(fault) => {
+                self.failed = true;
+                Err(fault)
+            }
+        }
+    }
+
+    /// Reads a response. After a fault each call answers `Cut` until `clear`.
+    pub fn read_response<S: Source>(&mut self, source: &mut S) -> Result<Response<'_>, HttpFault>
+        ensures* after_borrow { sem 𝓛 (Rests the_row self.entry (λ new. AnswersResponse self.old new (S.tape source.old) (S.tape source.new) result)) }
+        ensures cause { ReadsBy (S.faults source.old) (S.faults source.new) result }
+        ensures same { S.place source.new ≡ S.place source.old }
+    {
+        if self.failed {
+            return Err(HttpFault::Cut);
+        }
+        self.buffer.release();
+        match respond(&mut self.buffer, &mut self.spans, source, self.limit) {
+            Ok((status, head)) => Ok(Response {
+                status,
+                body: body(&self.buffer, head),
+            }),
+            Err(fault) => {
+                self.failed = true;
+                Err(fault)
+            }
+        }
+    }
+}
+
+/// What stands behind the head of the message in progress.
+fn body(buffer: &Buffer, head: usize) -> &[u8]
+    requires { head ≤ length buffer.now.kept }
+    ensures { result.now ≡ drop head buffer.now.kept }
+{
+    let (_, body) = buffer.kept().split_at(head);
+    body
+}
+
+/// The message in progress.
+fn lend(buffer: &Buffer, found: Found) -> Message<'_>
+    requires { IsWithin found buffer.now.kept }
+    ensures verb { result.verb ≡ found.verb }
+    ensures target { result.target.now ≡ span_bytes (take found.head buffer.now.kept) found.target }
+    ensures body { result.body.now ≡ drop found.head buffer.now.kept }
+    ensures keep { result.keep ≡ found.keep }
+{
+    let (head, body) = buffer.kept().split_at(found.head);
+    Message {
+        verb: found.verb,
+        target: found.target.of(head),
+        body,
+        keep: found.keep,
+    }
+}
+
+/// Takes a head, and says how long it is; None where no byte comes.
+fn read_head<S: Source>(buffer: &mut Buffer, source: &mut S) -> Result<Option<usize>, HttpFault>
+    requires { length buffer.old.kept + HEAD_LIMIT ≤ buffer.old.room }
+    ensures takes { Takes buffer.old buffer.new (S.tape source.old) (S.tape source.new) }
+    ensures gives { HeadGives buffer.new.pending result }
+    ensures none { result ≡ Ok None → IsAtEnd (S.tape source.new) }
+    ensures cut { result ≡ Err HttpFault.Cut → IsAtEnd (S.tape source.new) }
+    ensures cause { ReadsBy (S.faults source.old) (S.faults source.new) result }
+    ensures same { S.place source.new ≡ S.place source.old }
+{
+    match head_end(buffer, source) {
+        Ok(HeadEnd::At(end, lines)) => {
+            if lines <= LINE_COUNT_LIMIT {
+                Ok(Some(end))
+            } else {
+                Err(HttpFault::HeadTooLong)
+            }
+        }
+        Ok(HeadEnd::TooLong) => Err(HttpFault::HeadTooLong),
+        Ok(HeadEnd::Open) => {
+            if buffer.pending().is_empty() {
+                Ok(None)
+            } else {
+                Err(HttpFault::Cut)
+            }
+        }
+        Err(_) => Err(HttpFault::ReadFault),
+    }
+}
+
+/// The first bytes.
+fn front(bytes: &[u8], end: usize) -> &[u8]
+    requires { end ≤ length bytes.now }
+    ensures { result.now ≡ take end bytes.now }
+{
+    let (front, _) = bytes.split_at(end);
+    front
+}
+
+/// Joins the body to the request's head that the pending bytes begin with.
+fn request_behind<S: Source>(
+    buffer: &mut Buffer,
+    source: &mut S,
+    head: usize,
+    parts: RequestParts,
+    limit: u32,
+) -> Result<Option<Found>, HttpFault>
+    requires room { buffer.old.room ≡ 2 * HEAD_LIMIT + limit + PIECE }
+    requires alone { buffer.old.kept ≡ [] }
+    requires head { HasRequestHead limit buffer.old.pending head parts }
+    requires target { (parts.target.start ≤ parts.target.end) × (parts.target.end ≤ head) }
+    ensures gives { RequestGives limit buffer.old buffer.new (S.tape source.old) (S.tape source.new) result }
+    ensures room { buffer.new.room ≡ buffer.old.room }
+    ensures advances { Advances (S.tape source.old) (S.tape source.new) }
+    ensures cause { ReadsBy (S.faults source.old) (S.faults source.new) result }
+    ensures same { S.place source.new ≡ S.place source.old }
+{
+    buffer.keep(head);
+    match read_body(buffer, source, body_of_request(parts.framing), limit) {
+        Ok(_) => Ok(Some(Found {
+            verb: parts.verb,
+            target: parts.target,
+            keep: parts.keep,
+            head,
+        })),
+        Err(wrong) => Err(wrong),
+    }
+}
+
+/// Reads the request whose head ends there.
+fn request_at<S: Source>(
+    buffer: &mut Buffer,
+    spans: &mut [HeaderSpan],
+    source: &mut S,
+    head: usize,
+    limit: u32,
+) -> Result<Option<Found>, HttpFault>
+    requires room { buffer.old.room ≡ 2 * HEAD_LIMIT + limit + PIECE }
+    requires spans { length spans.old ≡ LINE_COUNT_LIMIT }
+    requires alone { buffer.old.kept ≡ [] }
+    requires head { HasHead buffer.old.pending head }
+    ensures gives { RequestGives limit buffer.old buffer.new (S.tape source.old) (S.tape source.new) result }
+    ensures room { buffer.new.room ≡ buffer.old.room }
+    ensures advances { Advances (S.tape source.old) (S.tape source.new) }
+    ensures cause { ReadsBy (S.faults source.old) (S.faults source.new) result }
+    ensures same { S.place source.new ≡ S.place source.old }
+{
+    match request_parts(front(buffer.pending(), head), spans, limit) {
+        Ok(parts) => request_behind(buffer, source, head, parts, limit),
+        Err(refusal) => Err(refusal),
+    }
+}
+
+/// Reads a request.
+fn advance<S: Source>(
+    buffer: &mut Buffer,
+    spans: &mut [HeaderSpan],
+    source: &mut S,
+    limit: u32,
+) -> Result<Option<Found>, HttpFault>
+    requires room { buffer.old.room ≡ 2 * HEAD_LIMIT + limit + PIECE }
+    requires spans { length spans.old ≡ LINE_COUNT_LIMIT }
+    requires alone { buffer.old.kept ≡ [] }
+    ensures gives { RequestGives limit buffer.old buffer.new (S.tape source.old) (S.tape source.new) result }
+    ensures room { buffer.new.room ≡ buffer.old.room }
+    ensures advances { Advances (S.tape source.old) (S.tape source.new) }
+    ensures cause { ReadsBy (S.faults source.old) (S.faults source.new) result }
+    ensures same { S.place source.new ≡ S.place source.old }
+{
+    match read_head(buffer, source) {
+        Ok(Some(head)) => request_at(buffer, spans, source, head, limit),
+        Ok(None) => Ok(None),
+        Err(fault) => Err(fault),
+    }
+}
+
+/// Reads the response whose head ends there, and says its status and how long its head is.
+fn response_at<S: Source>(
+    buffer: &mut Buffer,
+    spans: &mut [HeaderSpan],
+    source: &mut S,
+    head: usize,
+    limit: u32,
+) -> Result<(u16, usize), HttpFault>
+    requires room { buffer.old.room ≡ 2 * HEAD_LIMIT + limit + PIECE }
+    requires spans { length spans.old ≡ LINE_COUNT_LIMIT }
+    requires alone { buffer.old.kept ≡ [] }
+    requires head { HasHead buffer.old.pending head }
+    ensures gives { ResponseGives limit buffer.old buffer.new (S.tape source.old) (S.tape source.new) result }
+    ensures room { buffer.new.room ≡ buffer.old.room }
+    ensures advances { Advances (S.tape source.old) (S.tape source.new) }
+    ensures cause { ReadsBy (S.faults source.old) (S.faults source.new) result }
+    ensures same { S.place source.new ≡ S.place source.old }
+{
+    match response_parts(front(buffer.pending(), head), spans, limit) {
+        Ok(parts) => {
+            buffer.keep(head);
+            match read_body(buffer, source, body_of_response(parts.framing), limit) {
+                Ok(_) => Ok((parts.status, head)),
+                Err(wrong) => Err(wrong),
+            }
+        }
+        Err(refusal) => Err(refusal),
+    }
+}
+
+/// Reads a response, and says its status and how long its head is.
+fn respond<S: Source>(
+    buffer: &mut Buffer,
+    spans: &mut [HeaderSpan],
+    source: &mut S,
+    limit: u32,
+) -> Result<(u16, usize), HttpFault>
+    requires room { buffer.old.room ≡ 2 * HEAD_LIMIT + limit + PIECE }
+    requires spans { length spans.old ≡ LINE_COUNT_LIMIT }
+    requires alone { buffer.old.kept ≡ [] }
+    ensures gives { ResponseGives limit buffer.old buffer.new (S.tape source.old) (S.tape source.new) result }
+    ensures room { buffer.new.room ≡ buffer.old.room }
+    ensures advances { Advances (S.tape source.old) (S.tape source.new) }
+    ensures cause { ReadsBy (S.faults source.old) (S.faults source.new) result }
+    ensures same { S.place source.new ≡ S.place source.old }
+{
+    match read_head(buffer, source) {
+        Ok(Some(head)) => response_at(buffer, spans, source, head, limit),
+        Ok(None) => Err(HttpFault::Cut),
+        Err(fault) => Err(fault),
+    }
+}
