@@ -1,28 +1,31 @@
 -- How a line is answered, by what it means.
-use Rattle.std.proofs.Common.{◌≡◌, ◌<◌, ◌≤◌, inl, ℕ, List, [], ◌∷◌, ◌++◌, length, Bool, true, false, refl, sym, ap, ◌∙◌, subst, arith}
+use Rattle.std.proofs.Common.{◌≡◌, ◌<◌, ◌≤◌, inl, ℕ, List, [], ◌∷◌, ◌++◌, length, Bool, true, false, refl, sym, ap, ◌∙◌, subst, arith, append-nil, if◌then◌else◌}
+use Rattle.std.proofs.lemmas.Bool.{le-ltb, lt-ltb}
 use Rattle.std.proofs.lemmas.List.Elements.{All-nil, All-cons}
+use Rattle.std.proofs.lemmas.List.{length-map}
 use Rattle.adx_io.specs.Lines.{Keeps}
 use Rattle.day_rules.specs.declared.entry.Entry.{Entry}
 use Rattle.day_rules.specs.Replies.{Call, reply, with_entry}
-use Rattle.day_rules.specs.Runs.{Turn, done, after_turn}
+use Rattle.day_rules.specs.Runs.{Turn, IsCall, done, after_turn}
 use Rattle.day_rules.specs.Terms.{Terms}
 use Rattle.adx.specs.declared.limits.TheConstants.{LINE_LIMIT}
-use Rattle.adx.specs.declared.roster.Campaign.{Campaign}
-use Rattle.adx.specs.Forms.{Means, no_form}
-use Rattle.adx.specs.Meanings.{calls, refused}
+use Rattle.deal_floor.specs.declared.roster.Roster.{Roster}
+use Rattle.deal_floor.specs.declared.campaign.Campaign.{Campaign}
+use Rattle.script_lines.specs.Meanings.{calls, refused}
+use Rattle.script_lines.specs.declared.refusal.Refusal.{Refusal}
 use Rattle.adx.specs.Output.{answer_line, refusal_line}
 use Rattle.adx.specs.Running.{AnswersTo}
-use Rattle.adx.specs.Script.{terms_by}
+use Rattle.adx.specs.Script.{Means, terms_by, cut_line}
 
 -- a call was done, and its answer written from the history that it left
-pub call_answered : (campaigns : List Campaign) (terms : Terms) (history : List Entry) (number : ℕ) (line : List ℕ) (c : Call) (old new : List ℕ) (next : List Entry)
-    → terms ≡ terms_by campaigns → Means campaigns line (calls c) → next ≡ with_entry history (reply terms history c).entry → new ≡ old ++ answer_line campaigns next (reply terms history c).answer
-    → AnswersTo campaigns history number line old new next
-call_answered campaigns terms history number line c old new next opened means entry answer =
+pub call_answered : (roster : Roster) (terms : Terms) (history : List Entry) (number : ℕ) (line : List ℕ) (c : Call) (old new : List ℕ) (next : List Entry)
+    → terms ≡ terms_by roster → Means roster line (calls c) → IsCall (length (terms_by roster).budgets) c → next ≡ with_entry history (reply terms history c).entry → new ≡ old ++ answer_line roster.campaigns next (reply terms history c).answer
+    → AnswersTo roster history number line old new next
+call_answered roster terms history number line c old new next opened means taken entry answer =
     let t : Turn = record { call = c; outcome = done } in
-    let left : next ≡ after_turn (terms_by campaigns) history t = entry ∙ ap (λ (x : Terms). with_entry history (reply x history c).entry) opened in record {
+    let left : next ≡ after_turn (terms_by roster) history t = entry ∙ ap (λ (x : Terms). with_entry history (reply x history c).entry) opened in record {
       turns = t ∷ [];
-      out = answer_line campaigns next (reply terms history c).answer;
+      out = answer_line roster.campaigns next (reply terms history c).answer;
       answered = record {
         meaning = calls c;
         means = means;
@@ -30,29 +33,31 @@ call_answered campaigns terms history number line c old new next opened means en
           t,
           refl,
           refl,
-          inl (refl, ap (λ (h : List Entry). answer_line campaigns h (reply terms history c).answer) left ∙ ap (λ (x : Terms). answer_line campaigns (after_turn (terms_by campaigns) history t) (reply x history c).answer) opened),
+          inl (refl, ap (λ (h : List Entry). answer_line roster.campaigns h (reply terms history c).answer) left ∙ ap (λ (x : Terms). answer_line roster.campaigns (after_turn (terms_by roster) history t) (reply x history c).answer) opened),
         );
       };
       done = All-cons (λ (u : Turn). u.outcome ≡ done) t [] refl (All-nil (λ (u : Turn). u.outcome ≡ done));
+      taken = All-cons (λ (u : Turn). IsCall (length (terms_by roster).budgets) u.call) t [] taken (All-nil (λ (u : Turn). IsCall (length (terms_by roster).budgets) u.call));
       written = answer;
       left = left;
     }
 
 -- a line that is refused makes no turn
-pub line_refused : (campaigns : List Campaign) (history : List Entry) (number : ℕ) (line old new : List ℕ) (next : List Entry)
-    → Means campaigns line (refused no_form) → next ≡ history → new ≡ old ++ refusal_line number no_form → AnswersTo campaigns history number line old new next
-line_refused campaigns history number line old new next means same written = record {
+pub line_refused : (roster : Roster) (history : List Entry) (number : ℕ) (line old new : List ℕ) (why : Refusal)
+    → Means roster line (refused why) → new ≡ old ++ refusal_line number why → AnswersTo roster history number line old new history
+line_refused roster history number line old new why means written = record {
   turns = [];
-  out = refusal_line number no_form;
-  answered = record { meaning = refused no_form; means = means; answered = (refl, refl) };
+  out = refusal_line number why;
+  answered = record { meaning = refused why; means = means; answered = (refl, refl) };
   done = All-nil (λ (u : Turn). u.outcome ≡ done);
+  taken = All-nil (λ (u : Turn). IsCall (length (terms_by roster).budgets) u.call);
   written = written;
-  left = same;
+  left = refl;
 }
 
--- a line above the limit means nothing
-pub overlong_line : (campaigns : List Campaign) (line : List ℕ) → LINE_LIMIT < length line → Means campaigns line (refused no_form)
-overlong_line campaigns line long = (λ f is. absurd (omega (arith, long, is.short)), λ f is. absurd (omega (arith, long, is.short)), refl)
+-- as many budgets as campaigns
+pub budgets_counted : (roster : Roster) (terms : Terms) → terms ≡ terms_by roster → length terms.budgets ≡ length roster.campaigns
+budgets_counted roster terms opened = ap (λ (t : Terms). length t.budgets) opened ∙ length-map roster.campaigns (λ (c : Campaign). c.budget)
 
 -- the line that is kept is the line that was read
 pub kept_line : (limit : ℕ) (overlong : Bool) (kept line : List ℕ) → overlong ≡ false → Keeps limit overlong kept line → kept ≡ line
@@ -66,3 +71,20 @@ dropped_line limit false kept line long keeps = absurd (cc long)
 pub kept_short : (limit : ℕ) (overlong : Bool) (kept line : List ℕ) → overlong ≡ false → Keeps limit overlong kept line → length kept ≤ limit
 kept_short limit true kept line short keeps = absurd (cc short)
 kept_short limit false kept line short keeps = subst (λ l. length l ≤ limit) (sym keeps.0) keeps.1
+
+pub line_short : (limit : ℕ) (overlong : Bool) (kept line : List ℕ) → overlong ≡ false → Keeps limit overlong kept line → length line ≤ limit
+line_short limit true kept line short keeps = absurd (cc short)
+line_short limit false kept line short keeps = keeps.1
+
+-- a last piece without bytes, a cut one, and a long one
+pub cut_none : (number : ℕ) (kept line : List ℕ) → kept ≡ line → length kept ≡ 0 → (old : List ℕ) → old ≡ old ++ cut_line number line
+cut_none number [] line same none old = sym (ap (λ l. old ++ cut_line number l) (sym same) ∙ append-nil old)
+cut_none number (b ∷ kept) line same none old = absurd (omega (arith, none))
+
+pub cut_short : (number : ℕ) (line : List ℕ) → 1 ≤ length line → length line ≤ LINE_LIMIT → refusal_line number Refusal.Cut ≡ cut_line number line
+cut_short number [] some short = absurd (omega (arith, some))
+cut_short number (b ∷ bs) some short = ap (λ (long : Bool). refusal_line number (if long then Refusal.Long else Refusal.Cut)) (sym (le-ltb LINE_LIMIT (length (b ∷ bs)) short))
+
+pub cut_long : (number : ℕ) (line : List ℕ) → LINE_LIMIT < length line → refusal_line number Refusal.Long ≡ cut_line number line
+cut_long number [] long = absurd (omega (arith, long))
+cut_long number (b ∷ bs) long = ap (λ (is : Bool). refusal_line number (if is then Refusal.Long else Refusal.Cut)) (sym (lt-ltb LINE_LIMIT (length (b ∷ bs)) long))

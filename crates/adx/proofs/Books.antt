@@ -10,37 +10,7 @@ use Rattle.day_rules.specs.Terms.{Terms}
 use Rattle.day_rules.proofs.Choices.{stands_settled}
 use Rattle.day_rules.proofs.Running.{run_legal, plain_books_hold, left_out}
 use Rattle.day_rules.proofs.Within.{within_budget}
-use Rattle.adx.specs.declared.roster.Campaign.{Campaign}
 use Rattle.adx.specs.Calls.{HasBooks}
-use Rattle.adx.specs.Forms.{Means, ask_of_form}
-use Rattle.adx.specs.Meanings.{Meaning, calls, refused, Answers, AnswersLine}
-use Rattle.adx.specs.Output.{writing}
-use Rattle.adx.specs.Script.{terms_by}
-use Rattle.adx.proofs.AskLaws.{ask_well_formed, seat_short}
-
--- a call that a line means is one that a day takes
-means_call : (campaigns : List Campaign) (line : List ℕ) (c : Call) → Means campaigns line (calls c) → IsCall (length (terms_by campaigns).budgets) c
-means_call campaigns line c (inl (f, is, e)) =
-    let count = length-map campaigns (λ (x : Campaign). x.budget) in
-    subst (IsCall (length (terms_by campaigns).budgets)) (sym e)
-    (subst (λ n. IsCall n (ask (ask_of_form campaigns f))) (sym count) (ask_well_formed campaigns f is.ask (seat_short f is.plain)))
-means_call campaigns line c (inr (f, is, e)) = subst (IsCall (length (terms_by campaigns).budgets)) (sym e) tt
-
-line_turns : (campaigns : List Campaign) (number : ℕ) (history : List Entry) (line : List ℕ) (m : Meaning) (turns : List Turn) (out : List ℕ) → Means campaigns line m → AnswersLine (writing campaigns) (terms_by campaigns) number history m turns out → AreTurns (length (terms_by campaigns).budgets) turns
-line_turns campaigns number history line (calls c) turns out means (t, is, only, answer) =
-    let P = λ (u : Turn). IsCall (length (terms_by campaigns).budgets) u.call in
-    subst (All P) (sym only) (All-cons P t [] (subst (IsCall (length (terms_by campaigns).budgets)) (sym is) (means_call campaigns line c means)) (All-nil P))
-line_turns campaigns number history line (refused why) turns out means (none, answer) =
-    let P = λ (u : Turn). IsCall (length (terms_by campaigns).budgets) u.call in subst (All P) (sym none) (All-nil P)
-
--- the turns of a script's lines are ones that a day takes
-pub are_turns : (campaigns : List Campaign) (number : ℕ) (history : List Entry) (lines : List (List ℕ)) (turns : List Turn) (out : List ℕ) → Answers (Means campaigns) (writing campaigns) (terms_by campaigns) number history lines turns out → AreTurns (length (terms_by campaigns).budgets) turns
-are_turns campaigns number history [] turns out (none, answer) =
-    let P = λ (u : Turn). IsCall (length (terms_by campaigns).budgets) u.call in subst (All P) (sym none) (All-nil P)
-are_turns campaigns number history (line ∷ lines) turns out (first, rest, out_first, out_rest, one, more, is, answer) =
-    let P = λ (u : Turn). IsCall (length (terms_by campaigns).budgets) u.call in
-    subst (All P) (sym is)
-    (All-append P first rest (line_turns campaigns number history line one.meaning first out_first one.means one.answered) (are_turns campaigns (suc number) (run (terms_by campaigns) history first) lines rest out_rest more))
 
 -- a run over two lists of turns
 pub run_append : (terms : Terms) (history : List Entry) (first rest : List Turn) → run terms history (first ++ rest) ≡ run terms (run terms history first) rest

@@ -11,13 +11,12 @@ use Rattle.adx_io.proofs.Moved.{took_none}
 use Rattle.day_rules.specs.declared.entry.Entry.{Entry}
 use Rattle.adx.specs.declared.ending.Ending.{Ending}
 use Rattle.adx.specs.declared.limits.TheConstants.{INPUT_LIMIT, LINE_LIMIT}
-use Rattle.adx.specs.declared.roster.Campaign.{Campaign}
+use Rattle.deal_floor.specs.declared.roster.Roster.{Roster}
+use Rattle.script_lines.specs.declared.refusal.RosterRefusal.{RosterRefusal}
 use Rattle.adx.specs.Endings.{Command, EndsWith, EndsAt, Ends, TookDue, TookFront, LeftBehind, LeftOver, IsDue, IsWhole}
-use Rattle.adx.specs.Forms.{RosterForm, IsRosterLine, campaigns_of}
 use Rattle.adx.specs.Output.{roster_refused_line}
-use Rattle.adx.specs.Reads.{ReadsRoster}
-use Rattle.adx.specs.Running.{EndsTalk, EndsBehind, Unasked, TellsOn, PutsEnd}
-use Rattle.adx.specs.Script.{script_of, day, BehindRoster, HasRosterLine, RefusesRoster, WritesRun, closing, nothing, toolong}
+use Rattle.adx.specs.Running.{EndsTalk, EndsBehind, Unasked, TellsOn, PutsEnd, IsShortRoster, WholeFails, CutFails}
+use Rattle.adx.specs.Script.{script_of, day, BehindRoster, HasRosterLine, RefusesRoster, FirstFails, WritesRun, closing, nothing, toolong}
 use Rattle.adx.proofs.OneOutput.{due_front}
 use Rattle.adx.proofs.Putting.{took_nothing, front_of_more, ends_put, puts_nothing, puts_on, some_behind, front_put}
 use Rattle.adx.proofs.Told.{told_first, told_source, told_ahead}
@@ -27,18 +26,18 @@ first_is : (line rest input : List ℕ) → input ≡ ended line ++ rest → inp
 first_is line rest input is = is ∙ append_assoc line (10 ∷ []) rest
 
 -- it has the roster of that line
-has_line : (line rest : List ℕ) (r : RosterForm) → HasNoNewline line → IsRosterLine line r → HasRosterLine (ended line ++ rest) r rest
-has_line line rest r piece roster = record { first = line; begins = record { bytes = append_assoc line (10 ∷ []) rest; no_newline = piece }; roster = roster }
+has_line : (line rest : List ℕ) (r : Roster) → HasNoNewline line → IsShortRoster line r → HasRosterLine (ended line ++ rest) r rest
+has_line line rest r piece roster = record { first = line; begins = record { bytes = append_assoc line (10 ∷ []) rest; no_newline = piece }; short = roster.0; roster = roster.1 }
 
-behind : (line rest : List ℕ) (r : RosterForm) (write : List Campaign → ℕ → List ℕ → List Entry → List ℕ) (out : List ℕ) → HasNoNewline line → IsRosterLine line r → WritesRun (campaigns_of r) [] (write (campaigns_of r)) rest out
-    → BehindRoster (λ campaigns. WritesRun campaigns [] (write campaigns)) (ended line ++ rest) out
+behind : (line rest : List ℕ) (r : Roster) (write : Roster → ℕ → List ℕ → List Entry → List ℕ) (out : List ℕ) → HasNoNewline line → IsShortRoster line r → WritesRun r [] (write r) rest out
+    → BehindRoster (λ the_roster. WritesRun the_roster [] (write the_roster)) (ended line ++ rest) out
 behind line rest r write out piece roster writes = record { roster = r; script = rest; begins = has_line line rest r piece roster; writes = writes }
 
 -- what was to be written for a script was to be written for its input
-due_up : (line read rest due : List ℕ) (r : RosterForm) (limit : ℕ) → HasNoNewline line → IsRosterLine line r → length (ended line) + limit ≡ INPUT_LIMIT
-    → IsDue limit (script_of (campaigns_of r) []) read rest due → IsDue INPUT_LIMIT day (ended line ++ read) rest due
+due_up : (line read rest due : List ℕ) (r : Roster) (limit : ℕ) → HasNoNewline line → IsShortRoster line r → length (ended line) + limit ≡ INPUT_LIMIT
+    → IsDue limit (script_of r []) read rest due → IsDue INPUT_LIMIT day (ended line ++ read) rest due
 due_up line read rest due r limit piece roster counted (inl (short, writes)) =
-    inl (omega (arith, counted, short, length-append (ended line) read), inr (behind line read r (λ campaigns. nothing) due piece roster writes))
+    inl (omega (arith, counted, short, length-append (ended line) read), inr (behind line read r (λ the_roster. nothing) due piece roster writes))
 due_up line read rest due r limit piece roster counted (inr (inl refused)) = absurd refused
 due_up line read rest due r limit piece roster counted (inr (inr (inl (none, short, writes)))) =
     inr (inr (inl (none, omega (arith, counted, short, length-append (ended line) read), behind line read r closing due piece roster writes)))
@@ -48,11 +47,11 @@ due_up line read rest due r limit piece roster counted (inr (inr (inr (part, mor
       more,
       ap (λ b. ended line ++ b) is ∙ sym (append_assoc (ended line) part (more ∷ [])),
       omega (arith, counted, long, length-append (ended line) part),
-      behind line part r (λ campaigns. toolong) due piece roster writes,
+      behind line part r (λ the_roster. toolong) due piece roster writes,
     )))
 
-took_up : (line script left : List ℕ) (r : RosterForm) (limit : ℕ) (held now : Option (List ℕ)) → HasNoNewline line → IsRosterLine line r → length (ended line) + limit ≡ INPUT_LIMIT
-    → TookDue limit (script_of (campaigns_of r) []) script left held now → TookDue INPUT_LIMIT day (ended line ++ script) left held now
+took_up : (line script left : List ℕ) (r : Roster) (limit : ℕ) (held now : Option (List ℕ)) → HasNoNewline line → IsShortRoster line r → length (ended line) + limit ≡ INPUT_LIMIT
+    → TookDue limit (script_of r []) script left held now → TookDue INPUT_LIMIT day (ended line ++ script) left held now
 took_up line script left r limit held now piece roster counted (read, rest, due, is, over, is_due, took) = (
   ended line ++ read,
   rest,
@@ -64,8 +63,8 @@ took_up line script left r limit held now piece roster counted (read, rest, due,
 )
 
 -- the script's end is the input's
-served : (line script left : List ℕ) (r : RosterForm) (limit : ℕ) (held now : Option (List ℕ)) (result : Result (Unit {0}) Ending) → HasNoNewline line → IsRosterLine line r → length (ended line) + limit ≡ INPUT_LIMIT
-    → EndsWith limit (script_of (campaigns_of r) []) held now result script left → EndsWith INPUT_LIMIT day held now result (ended line ++ script) left
+served : (line script left : List ℕ) (r : Roster) (limit : ℕ) (held now : Option (List ℕ)) (result : Result (Unit {0}) Ending) → HasNoNewline line → IsShortRoster line r → length (ended line) + limit ≡ INPUT_LIMIT
+    → EndsWith limit (script_of r []) held now result script left → EndsWith INPUT_LIMIT day held now result (ended line ++ script) left
 served line script left r limit held now (Ok done) piece roster counted (out, none, short, writes, took) =
     (out, none, omega (arith, counted, short, length-append (ended line) script), behind line script r closing out piece roster writes, took)
 served line script left r limit held now (Err Ending.Refused) piece roster counted (inl (first, rest, out, is, over, refused, took)) = absurd refused
@@ -75,7 +74,7 @@ served line script left r limit held now (Err Ending.Refused) piece roster count
   out,
   ap (λ b. ended line ++ b) is ∙ sym (append_assoc (ended line) part (more ∷ left)),
   omega (arith, counted, long, length-append (ended line) part),
-  behind line part r (λ campaigns. toolong) out piece roster writes,
+  behind line part r (λ the_roster. toolong) out piece roster writes,
   took,
 )
 served line script left r limit held now (Err (Ending.Stopped Stop.ReadFault)) piece roster counted (read, out, is, short, writes, took) = (
@@ -83,19 +82,28 @@ served line script left r limit held now (Err (Ending.Stopped Stop.ReadFault)) p
   out,
   ap (λ b. ended line ++ b) is ∙ sym (append_assoc (ended line) read left),
   omega (arith, counted, short, length-append (ended line) read),
-  inr (behind line read r (λ campaigns. nothing) out piece roster writes),
+  inr (behind line read r (λ the_roster. nothing) out piece roster writes),
   took,
 )
 served line script left r limit held now (Err (Ending.Stopped Stop.WriteFault)) piece roster counted due = took_up line script left r limit held now piece roster counted due
 served line script left r limit held now (Err (Ending.Stopped Stop.OutOfMemory)) piece roster counted due = took_up line script left r limit held now piece roster counted due
 
 -- a first line that is no roster was refused
-refused_line : (first rest left : List ℕ) (held now : Option (List ℕ)) (result : Result (Unit {0}) Ending) → LeftBehind rest left → RefusesRoster first rest roster_refused_line
-    → PutsEnd held now roster_refused_line (Err Ending.Refused) result → EndsWith INPUT_LIMIT day held now result (first ++ rest) left
-refused_line first rest left held now result over refused ends =
-    ends_put INPUT_LIMIT day held now (Err Ending.Refused) result (first ++ rest) left roster_refused_line ends
-    (λ took. inl (first, rest, roster_refused_line, refl, over, refused, took))
-    (λ took. (first, rest, roster_refused_line, refl, ([], rest, inl refl, refl, over), inr (inl refused), took))
+refused_line : (first rest left : List ℕ) (why : RosterRefusal) (held now : Option (List ℕ)) (result : Result (Unit {0}) Ending) → LeftBehind rest left → RefusesRoster first rest (roster_refused_line why)
+    → PutsEnd held now (roster_refused_line why) (Err Ending.Refused) result → EndsWith INPUT_LIMIT day held now result (first ++ rest) left
+refused_line first rest left why held now result over refused ends =
+    ends_put INPUT_LIMIT day held now (Err Ending.Refused) result (first ++ rest) left (roster_refused_line why) ends
+    (λ took. inl (first, rest, roster_refused_line why, refl, over, refused, took))
+    (λ took. (first, rest, roster_refused_line why, refl, ([], rest, inl refl, refl, over), inr (inl refused), took))
+
+-- why a first line fails, with its newline and without
+fails_whole : (line : List ℕ) (why : RosterRefusal) → WholeFails line why → FirstFails (ended line) line why
+fails_whole line why (inl long) = inl long
+fails_whole line why (inr (short, refuses)) = inr (short, inr (refl, refuses))
+
+fails_cut : (line : List ℕ) (why : RosterRefusal) → CutFails line why → FirstFails line line why
+fails_cut line why (inl long) = inl long
+fails_cut line why (inr (short, cut)) = inr (short, inl (refl, cut))
 
 -- the run was given up before the roster's line was answered
 unanswered : (taken over left : List ℕ) (held now : Option (List ℕ)) → HasNoNewline taken → length taken ≤ INPUT_LIMIT → LeftOver over left → (bytes : List ℕ) → bytes ≡ [] → TookFront held now bytes
@@ -144,13 +152,13 @@ behind_by : (line : List ℕ) (after : TalkState) (tape : Option Tape) (held now
 behind_by line after tape held now x y z result e f piece is counted same none (inl (r, roster, ends)) =
     subst (λ i. EndsWith INPUT_LIMIT day held now result i z.left) (sym is)
     (served line y.left z.left r after.allowed held now result piece roster counted
-    (at_told after.tape tape y z (λ old new. EndsWith after.allowed (script_of (campaigns_of r) []) held now result old.left new.left) e f
-    (subst (λ h. WhereTold after.tape tape (λ old new. EndsWith after.allowed (script_of (campaigns_of r) []) h now result old.left new.left)) same ends)))
-behind_by line after tape held now x y z result e f piece is counted same none (inr (inl (other, asked, ends))) =
+    (at_told after.tape tape y z (λ old new. EndsWith after.allowed (script_of r []) held now result old.left new.left) e f
+    (subst (λ h. WhereTold after.tape tape (λ old new. EndsWith after.allowed (script_of r []) h now result old.left new.left)) same ends)))
+behind_by line after tape held now x y z result e f piece is counted same none (inr (inl (why, fails, asked, ends))) =
     subst (λ i. EndsWith INPUT_LIMIT day held now result i z.left) (sym is)
-    (refused_line (ended line) y.left z.left held now result (unasked after.tape tape y z e f asked)
-    (record { line = line; is_first = (piece, inl refl); no_roster = λ r whole roster. other r roster; written = refl })
-    (subst (λ h. PutsEnd h now roster_refused_line (Err Ending.Refused) result) same (subst (λ o. PutsEnd after.held now (o ++ roster_refused_line) (Err Ending.Refused) result) none ends)))
+    (refused_line (ended line) y.left z.left why held now result (unasked after.tape tape y z e f asked)
+    (record { line = line; why = why; is_first = (piece, inl refl); fails = fails_whole line why fails; written = refl })
+    (subst (λ h. PutsEnd h now (roster_refused_line why) (Err Ending.Refused) result) same (subst (λ o. PutsEnd after.held now (o ++ roster_refused_line why) (Err Ending.Refused) result) none ends)))
 behind_by line after tape held now x y z result e f piece is counted same none (inr (inr (asked, held_now, stopped))) =
     subst (λ w. EndsWith INPUT_LIMIT day held now w x.left z.left) (sym stopped)
     (subst (λ i. TookDue INPUT_LIMIT day i z.left held now) (sym is)
@@ -166,24 +174,24 @@ behind_line before after tape now result none whole told puts tells ends =
     behind_by r.0 after tape before.held now x y z result e f r.1.no_newline r.2.next (sym r.2.counted ∙ whole) held.0 held.1 (ends r.0 r.1.keeps))
 
 -- the input ended before its first line did
-pub behind_end : (before after : TalkState) (pending : List ℕ) (tape : Option Tape) (now : Option (List ℕ)) (result : Result (Unit {0}) Ending) → before.out ≡ [] → before.allowed ≡ INPUT_LIMIT
+pub behind_end : (before after : TalkState) (pending : List ℕ) (tape : Option Tape) (now : Option (List ℕ)) (result : Result (Unit {0}) Ending) (why : RosterRefusal) → before.out ≡ [] → before.allowed ≡ INPUT_LIMIT
     → WhereTold before.tape (tape_behind pending tape) (ReadsNext LINE_LIMIT before after (Ok Next.End)) → pending ≡ [] → PutsAll before after
-    → PutsEnd after.held now (after.out ++ roster_refused_line) (Err Ending.Refused) result → EndsTalk INPUT_LIMIT day before tape now result
-behind_end before after pending tape now result none whole told looked puts ends =
+    → ((line : List ℕ) → Keeps LINE_LIMIT after.overlong after.line line → CutFails line why) → PutsEnd after.held now (after.out ++ roster_refused_line why) (Err Ending.Refused) result → EndsTalk INPUT_LIMIT day before tape now result
+behind_end before after pending tape now result why none whole told looked puts fails ends =
     let held = held_all before after none puts in
     told_source before.tape pending tape (ReadsNext LINE_LIMIT before after (Ok Next.End)) (λ old new. EndsWith INPUT_LIMIT day before.held now result old.left new.left) told (λ x z r.
     let line = r.0 in
     let left : z.left ≡ [] = ap (λ p. p ++ z.left) (sym looked) ∙ r.3 in
     let is : x.left ≡ line ++ [] = r.2.next ∙ ap (λ b. line ++ b) r.3 in
     subst (λ i. EndsWith INPUT_LIMIT day before.held now result i z.left) (sym is)
-    (refused_line line [] z.left before.held now result ([], omega arith, sym left)
-    (record { line = line; is_first = (r.1.no_newline, inr (refl, inl refl)); no_roster = λ form over roster. absurd (omega (arith, ap length over, length-append line (10 ∷ []))); written = refl })
-    (subst (λ h. PutsEnd h now roster_refused_line (Err Ending.Refused) result) held.0 (subst (λ o. PutsEnd after.held now (o ++ roster_refused_line) (Err Ending.Refused) result) held.1 ends))))
+    (refused_line line [] z.left why before.held now result ([], omega arith, sym left)
+    (record { line = line; why = why; is_first = (r.1.no_newline, inr (refl, inl refl)); fails = fails_cut line why (fails line r.1.keeps); written = refl })
+    (subst (λ h. PutsEnd h now (roster_refused_line why) (Err Ending.Refused) result) held.0 (subst (λ o. PutsEnd after.held now (o ++ roster_refused_line why) (Err Ending.Refused) result) held.1 ends))))
 
 -- the input passes its limit within its first line
 pub behind_limit : (before after : TalkState) (pending : List ℕ) (tape : Option Tape) (now : Option (List ℕ)) (result : Result (Unit {0}) Ending) → before.out ≡ [] → before.allowed ≡ INPUT_LIMIT
     → WhereTold before.tape (tape_behind pending tape) (ReadsNext LINE_LIMIT before after (Ok Next.PastLimit)) → pending ≡ [] → PutsAll before after
-    → PutsEnd after.held now (after.out ++ roster_refused_line) (Err Ending.Refused) result → EndsTalk INPUT_LIMIT day before tape now result
+    → PutsEnd after.held now (after.out ++ roster_refused_line RosterRefusal.Long) (Err Ending.Refused) result → EndsTalk INPUT_LIMIT day before tape now result
 behind_limit before after pending tape now result none whole told looked puts ends =
     let held = held_all before after none puts in
     told_source before.tape pending tape (ReadsNext LINE_LIMIT before after (Ok Next.PastLimit)) (λ old new. EndsWith INPUT_LIMIT day before.held now result old.left new.left) told (λ x z r.
@@ -191,9 +199,9 @@ behind_limit before after pending tape now result none whole told looked puts en
     let more = r.1 in
     let is : x.left ≡ line ++ more ∷ z.left = r.3 ∙ ap (λ p. line ++ more ∷ (p ++ z.left)) looked in
     subst (λ i. EndsWith INPUT_LIMIT day before.held now result i z.left) (sym is)
-    (refused_line line (more ∷ z.left) z.left before.held now result (more ∷ [], omega arith, refl)
-    (record { line = line; is_first = (r.2, inr (refl, inr (r.4 ∙ whole, λ e. cc e))); no_roster = λ form over roster. absurd (omega (arith, ap length over, length-append line (10 ∷ []))); written = refl })
-    (subst (λ h. PutsEnd h now roster_refused_line (Err Ending.Refused) result) held.0 (subst (λ o. PutsEnd after.held now (o ++ roster_refused_line) (Err Ending.Refused) result) held.1 ends))))
+    (refused_line line (more ∷ z.left) z.left RosterRefusal.Long before.held now result (more ∷ [], omega arith, refl)
+    (record { line = line; why = RosterRefusal.Long; is_first = (r.2, inr (refl, inr (r.4 ∙ whole, λ e. cc e))); fails = inl (omega (arith, r.4, whole), refl); written = refl })
+    (subst (λ h. PutsEnd h now (roster_refused_line RosterRefusal.Long) (Err Ending.Refused) result) held.0 (subst (λ o. PutsEnd after.held now (o ++ roster_refused_line RosterRefusal.Long) (Err Ending.Refused) result) held.1 ends))))
 
 -- the run stopped before the first line was whole
 stopped_front : (before after : TalkState) (x z : Tape) (pending front : List ℕ) (now : Option (List ℕ)) → HasNoNewline front → x.left ≡ front ++ (pending ++ z.left) → length front ≤ INPUT_LIMIT → length pending ≤ CHUNK → before.out ≡ [] → TookFront before.held now before.out
@@ -221,11 +229,6 @@ behind_stop before after pending tape Stop.WriteFault none whole told small look
 behind_stop before after pending tape Stop.OutOfMemory none whole told small looked puts =
     told_source before.tape pending tape (ReadsNext LINE_LIMIT before after (Err Stop.OutOfMemory)) (λ old new. EndsWith INPUT_LIMIT day before.held after.held (Err (Ending.Stopped Stop.OutOfMemory)) old.left new.left) told (λ x z r.
     stopped_front before after x z pending r.0 after.held r.1 r.2.next (omega (arith, r.2.counted, whole)) small none (front_put before.held after.held before.out after.out (puts_on before.held before.out before after (puts_nothing before.held before.out) puts)))
-
--- the day of the campaigns that were read is that of the roster's form
-pub of_roster : (line : List ℕ) (before : TalkState) (tape : Option Tape) (now : Option (List ℕ)) (result : Result (Unit {0}) Ending) (given read : List Campaign) → given ≡ read → ReadsRoster line (Some read)
-    → EndsTalk before.allowed (script_of given []) before tape now result → EndsBehind line before tape now result
-of_roster line before tape now result given read e (r, is, f) ends = inl (r, is, subst (λ cs. EndsTalk before.allowed (script_of cs []) before tape now result) (e ∙ f) ends)
 
 -- what the sink took is a front of what was to be written
 ends_due : (limit : ℕ) (c : Command) (held now : Option (List ℕ)) (result : Result (Unit {0}) Ending) (input left : List ℕ) → EndsWith limit c held now result input left

@@ -1,16 +1,7 @@
-pub mod PartsSteps
-pub mod PartsLaws
-pub mod AmountLaws
-pub mod RosterLaws
-pub mod KeptLaws
-pub mod AskLaws
-pub mod LineLaws
-pub mod OffersSteps
-pub mod AskSteps
 pub mod Joined
 pub mod Chains
 pub mod FirstLine
-pub mod BillLaws
+pub mod OneMeaning
 pub mod AnswerLaws
 pub mod Books
 pub mod Rosters

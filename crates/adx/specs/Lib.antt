@@ -2,15 +2,8 @@ pub mod Lines
 pub mod Endings
 pub mod Steps
 pub mod Meanings
-pub mod Forms
-pub mod Parts
-pub mod AskParts
-pub mod BillParts
-pub mod AskHead
-pub mod RosterParts
 pub mod Output
 pub mod Calls
 pub mod Script
-pub mod Reads
 pub mod Running
 pub mod Commands

@@ -1,15 +1,12 @@
--- What lines mean, and what a run over them answers, from any history. This project's own.
+-- What a run over lines answers, from any history, by what each line means. This project's own.
 use Rattle.std.specs.Prelude.{◌≡◌, ◌⊎◌, ℕ, suc, List, [], ◌∷◌, ◌++◌, All}
 use Rattle.day_rules.specs.declared.answer.Answer.{Answer}
 use Rattle.day_rules.specs.declared.entry.Entry.{Entry}
-use Rattle.day_rules.specs.Replies.{Call, reply}
-use Rattle.day_rules.specs.Runs.{Turn, done, faulted, after_turn, run}
+use Rattle.day_rules.specs.Replies.{reply}
+use Rattle.day_rules.specs.Runs.{Outcome, Turn, done, faulted, after_turn, run}
 use Rattle.day_rules.specs.Terms.{Terms}
-
--- a line means a call of the day, or is refused, and why
-pub data Meaning : Type 0 where
-  calls : Call → Meaning
-  refused : List ℕ → Meaning
+use Rattle.script_lines.specs.Meanings.{Meaning, calls, refused}
+use Rattle.script_lines.specs.declared.refusal.Refusal.{Refusal}
 
 -- why a call was given up: the disk failed, or the journal would come to that size
 pub data Fault : Type 0 where
@@ -21,7 +18,7 @@ pub data Fault : Type 0 where
 pub record Writing : Type 0 where
   pub answer : List Entry → Answer → List ℕ
   pub fault : Fault → List ℕ
-  pub refusal : ℕ → List ℕ → List ℕ
+  pub refusal : ℕ → Refusal → List ℕ
 
 -- what a call is answered after a history: by the reply that the history gives it, or by a fault
 abbrev pub AnswersCall : Writing → Terms → List Entry → Turn → List ℕ → Type 0

@@ -1,6 +1,7 @@
 -- The lines that a day writes: JSON (RFC 8259) in its one compact spelling, each with its newline. This
 -- project's own.
 use Rattle.std.specs.Prelude.{ℕ, List, [], ◌∷◌, ◌++◌, map, length, Option, Some, None, slice_get, slice_index_or, codes, decimal, if◌then◌else◌, ◌==◌}
+use Rattle.std.specs.Option.{option_map_or}
 use Rattle.std.specs.List.{flat_map, enumerate_from, range_with_len, join_with_byte}
 use Rattle.hex.specs.Hex.{encode_lower}
 use Rattle.adx_units.specs.Money.{units}
@@ -17,22 +18,25 @@ use Rattle.day_rules.specs.Books.{awarded_offers, awards_of, accounts_in, ask_co
 use Rattle.day_rules.specs.Entries.{asked}
 use Rattle.day_rules.specs.Replies.{is_awarded}
 use Rattle.day_rules.specs.Terms.{Terms, budgets_after}
-use Rattle.adx.specs.declared.roster.Campaign.{Campaign}
+use Rattle.deal_floor.specs.declared.campaign.Campaign.{Campaign}
+use Rattle.script_lines.specs.Whys.{why_of, roster_why}
+use Rattle.script_lines.specs.declared.refusal.Refusal.{Refusal}
+use Rattle.script_lines.specs.declared.refusal.RosterRefusal.{RosterRefusal}
 use Rattle.adx.specs.Meanings.{Fault, disk, journal_full, Writing}
 
 -- the awarded offers of an ask, in the order of its impressions
 abbrev pub sold_offers : Ask → List Offer
 sold_offers a = flat_map (awarded_offers a.offers) (range_with_len 0 (length a.imps))
 
-abbrev pub no_campaign : Campaign
-no_campaign = record { seat = []; cid = []; budget = units 0 }
+-- a text of the campaign at a place; nothing where there is none
+abbrev pub campaign_text : (Campaign → List ℕ) → List Campaign → ℕ → List ℕ
+campaign_text text campaigns place = option_map_or text (slice_get campaigns place) []
 
 -- an award with its number: the impression's id, the campaign's seat and id, and the charge in units
 abbrev pub award_text : List Campaign → Ask → ℕ × Offer → List ℕ
 award_text campaigns a sold =
-    let campaign = slice_index_or campaigns sold.1.campaign no_campaign in
     codes "{\"award\":" ++ decimal sold.0 ++ codes ",\"imp\":" ++ text_spelling (slice_index_or a.imps sold.1.imp [])
-    ++ codes ",\"seat\":" ++ text_spelling campaign.seat ++ codes ",\"cid\":" ++ text_spelling campaign.cid
+    ++ codes ",\"seat\":" ++ text_spelling (campaign_text (λ c. c.seat) campaigns sold.1.campaign) ++ codes ",\"cid\":" ++ text_spelling (campaign_text (λ c. c.cid) campaigns sold.1.campaign)
     ++ codes ",\"charge\":" ++ decimal sold.1.charge.0 ++ codes "}"
 
 abbrev pub awards_text : List Campaign → Ask → List ℕ
@@ -115,9 +119,12 @@ abbrev pub fault_line : Fault → List ℕ
 fault_line disk = codes "{\"answer\":\"diskfault\"}\n"
 fault_line (journal_full size) = codes "{\"answer\":\"journalfull\",\"size\":" ++ decimal size ++ codes "}\n"
 
--- a refused line, and why; the roster's line has the number 1
-abbrev pub refusal_line : ℕ → List ℕ → List ℕ
-refusal_line n why = codes "{\"answer\":\"refused\",\"line\":" ++ decimal n ++ codes ",\"why\":" ++ text_spelling why ++ codes "}\n"
+-- the line of a line that is refused; the roster's line has the number 1
+abbrev pub refused_line : ℕ → List ℕ → List ℕ
+refused_line n why = codes "{\"answer\":\"refused\",\"line\":" ++ decimal n ++ codes ",\"why\":" ++ text_spelling why ++ codes "}\n"
+
+abbrev pub refusal_line : ℕ → Refusal → List ℕ
+refusal_line n why = refused_line n (why_of why)
 
 -- how the lines of a day with these campaigns are written
 abbrev pub writing : List Campaign → Writing
@@ -125,11 +132,11 @@ writing campaigns = record { answer = answer_line campaigns; fault = fault_line;
 
 -- the line in which an input passes its limit
 abbrev pub toolong_line : ℕ → List ℕ
-toolong_line n = refusal_line n (codes "toolong")
+toolong_line n = refused_line n (codes "toolong")
 
--- a first line that isn't a roster
-abbrev pub roster_refused_line : List ℕ
-roster_refused_line = codes "{\"answer\":\"roster\",\"why\":\"form\"}\n"
+-- a first line that isn't a roster, and why
+abbrev pub roster_refused_line : RosterRefusal → List ℕ
+roster_refused_line why = codes "{\"answer\":\"roster\",\"why\":" ++ text_spelling (roster_why why) ++ codes "}\n"
 
 -- words that aren't a command
 abbrev pub usage_line : List ℕ

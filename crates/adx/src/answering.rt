@@ -1,24 +1,23 @@
 //! A line's answer: what the day replies to its call, and then its bytes.
-ghost use Rattle.std.specs.Prelude.{◌≡◌, ◌≤◌, ℕ, List, ◌++◌, length, OnOk, string_bytes};
+ghost use Rattle.std.specs.Prelude.{◌≡◌, ◌≤◌, ◌<◌, ◌^◌, ℕ, List, ◌++◌, length, OnOk, string_bytes};
 ghost use Rattle.adx_io.specs.Lines.{Keeps};
-ghost use Rattle.notice_book.specs.declared.kind.NoticeKind.TheVariants.{Bill as BillKind};
-ghost use Rattle.day_rules.specs.Replies.{ask_reply, notice_reply, with_entry};
+ghost use Rattle.day_rules.specs.Asks.{IsWellFormed, IsUndecided};
+ghost use Rattle.day_rules.specs.Replies.{ask_reply, notice_reply, tick_reply, reply, with_entry};
+ghost use Rattle.day_rules.specs.Runs.{IsCall};
 ghost use Rattle.adx.specs.declared.limits.TheConstants.{LINE_LIMIT};
 ghost use Rattle.adx.specs.Output.{answer_line as answer_line_of};
+ghost use Rattle.script_lines.specs.Found.{call_of};
 ghost use Rattle.adx.specs.Running.{AnswersTo};
-ghost use Rattle.adx.specs.Reads.{IsReady};
 ghost use Rattle.adx.specs.Script.{terms_by};
 
 use crate::ask_lines::push_answer;
-use crate::bill::Bill;
-use crate::line::{ScriptLine, read_line};
-use crate::output::push_refusal;
-use crate::roster::Campaign;
+use crate::output::push_refused;
 use adx_io::LineBuffer;
 use adx_units::OutOfMemory;
 use day_machine::Day;
 use day_rules::Ask;
-use notice_book::NoticeKind;
+use deal_floor::{Campaign, Roster};
+use script_lines::{LineFault, Notice, Refusal, ScriptLine, read_line};
 use std::alloc::Global;
 
 /// Takes an ask, and then writes its answer.
@@ -29,7 +28,8 @@ fn answer_ask(
     ask: Ask,
     out: &mut String,
 ) -> Result<(), OutOfMemory>
-    requires { IsReady (length day.old.terms.budgets) ask }
+    requires well_formed { IsWellFormed (length day.old.terms.budgets) ask }
+    requires undecided { IsUndecided ask }
     ensures terms { day.new.terms ≡ day.old.terms }
     ensures entry { OnOk result (day.new.history ≡ with_entry day.old.history (ask_reply day.old.terms day.old.history ask).entry) }
     ensures answer { OnOk result (string_bytes out.new ≡ string_bytes out.old ++ answer_line_of campaigns.now day.new.history (ask_reply day.old.terms day.old.history ask).answer) }
@@ -42,77 +42,112 @@ fn answer_ask(
     push_answer(alloc, out, campaigns, day.entries(), answer)
 }
 
-/// Takes the bill of an award, and then writes its answer.
-fn answer_bill(
+/// Takes a notice, and then writes its answer.
+fn answer_notice(
     alloc: Global,
     campaigns: &[Campaign],
     day: &mut Day,
-    bill: &Bill,
+    notice: &Notice,
     out: &mut String,
 ) -> Result<(), OutOfMemory>
     ensures terms { day.new.terms ≡ day.old.terms }
-    ensures entry { day.new.history ≡ with_entry day.old.history (notice_reply day.old.history BillKind bill.now.auction bill.now.award).entry }
-    ensures answer { OnOk result (string_bytes out.new ≡ string_bytes out.old ++ answer_line_of campaigns.now day.new.history (notice_reply day.old.history BillKind bill.now.auction bill.now.award).answer) }
+    ensures entry { day.new.history ≡ with_entry day.old.history (notice_reply day.old.history notice.now.kind notice.now.auction notice.now.award).entry }
+    ensures answer { OnOk result (string_bytes out.new ≡ string_bytes out.old ++ answer_line_of campaigns.now day.new.history (notice_reply day.old.history notice.now.kind notice.now.auction notice.now.award).answer) }
 {
-    let (answer, entry) = day.plan_notice(NoticeKind::Bill, bill.auction.as_str(), bill.award);
+    let (answer, entry) = day.plan_notice(notice.kind, notice.auction.as_str(), notice.award);
     if let Some(entry) = entry {
         day.commit(entry);
     }
     push_answer(alloc, out, campaigns, day.entries(), answer)
 }
 
+/// Takes a tick, and then writes its answer.
+fn answer_tick(
+    alloc: Global,
+    campaigns: &[Campaign],
+    day: &mut Day,
+    now: u64,
+    out: &mut String,
+) -> Result<(), OutOfMemory>
+    requires { now < 2 ^ 63 }
+    ensures terms { day.new.terms ≡ day.old.terms }
+    ensures entry { day.new.history ≡ with_entry day.old.history (tick_reply day.old.history now).entry }
+    ensures answer { OnOk result (string_bytes out.new ≡ string_bytes out.old ++ answer_line_of campaigns.now day.new.history (tick_reply day.old.history now).answer) }
+{
+    let (answer, entry) = day.plan_tick(now);
+    if let Some(entry) = entry {
+        day.commit(entry);
+    }
+    push_answer(alloc, out, campaigns, day.entries(), answer)
+}
+
+/// Takes the call of a line, and then writes its answer.
+fn answer_call(
+    alloc: Global,
+    campaigns: &[Campaign],
+    day: &mut Day,
+    call: ScriptLine,
+    out: &mut String,
+) -> Result<(), OutOfMemory>
+    requires { IsCall (length day.old.terms.budgets) (call_of call) }
+    ensures terms { day.new.terms ≡ day.old.terms }
+    ensures entry { OnOk result (day.new.history ≡ with_entry day.old.history (reply day.old.terms day.old.history (call_of call)).entry) }
+    ensures answer { OnOk result (string_bytes out.new ≡ string_bytes out.old ++ answer_line_of campaigns.now day.new.history (reply day.old.terms day.old.history (call_of call)).answer) }
+{
+    match call {
+        ScriptLine::Ask { ask } => answer_ask(alloc, campaigns, day, ask, out),
+        ScriptLine::Notice { notice } => answer_notice(alloc, campaigns, day, &notice, out),
+        ScriptLine::Tick { now } => answer_tick(alloc, campaigns, day, now, out),
+    }
+}
+
 /// Answers a line within the limit of a line.
 fn answer_text(
     alloc: Global,
-    campaigns: &[Campaign],
+    roster: &Roster,
     day: &mut Day,
     number: u64,
     line: &[u8],
     out: &mut String,
 ) -> Result<(), OutOfMemory>
-    requires few { length campaigns.now ≤ 1024 }
-    requires terms { day.old.terms ≡ terms_by campaigns.now }
+    requires terms { day.old.terms ≡ terms_by roster.now }
     ensures terms { day.new.terms ≡ day.old.terms }
-    ensures answered { OnOk result (length line.now ≤ LINE_LIMIT → AnswersTo campaigns.now day.old.history number line.now (string_bytes out.old) (string_bytes out.new) day.new.history) }
+    ensures answered { OnOk result (length line.now ≤ LINE_LIMIT → AnswersTo roster.entry.now day.old.history number line.now (string_bytes out.old) (string_bytes out.new) day.new.history) }
 {
-    match read_line(alloc, campaigns, line)? {
-        ScriptLine::Ask(ask) => {
-            answer_ask(alloc, campaigns, day, ask, out)?;
+    match read_line(alloc, roster, line) {
+        Ok(call) => {
+            answer_call(alloc, roster.campaigns.as_slice(), day, call, out)?;
             Ok(())
         }
-        ScriptLine::Bill(bill) => {
-            answer_bill(alloc, campaigns, day, &bill, out)?;
+        Err(LineFault::Refused { why }) => {
+            push_refused(alloc, out, number, &why)?;
             Ok(())
         }
-        ScriptLine::Other => {
-            push_refusal(out, number, "form")?;
-            Ok(())
-        }
+        Err(LineFault::OutOfMemory) => Err(OutOfMemory),
     }
 }
 
 /// Answers the line that was read last.
 pub(crate) fn answer_line(
     alloc: Global,
-    campaigns: &[Campaign],
+    roster: &Roster,
     day: &mut Day,
     number: u64,
     buffer: &LineBuffer,
     out: &mut String,
 ) -> Result<(), OutOfMemory>
-    requires few { length campaigns.now ≤ 1024 }
-    requires terms { day.old.terms ≡ terms_by campaigns.now }
+    requires terms { day.old.terms ≡ terms_by roster.now }
     ensures terms { day.new.terms ≡ day.old.terms }
     ensures answered { OnOk result ((line : List ℕ) → Keeps LINE_LIMIT buffer.now.overlong buffer.now.line line
-        → AnswersTo campaigns.now day.old.history number line (string_bytes out.old) (string_bytes out.new) day.new.history) }
+        → AnswersTo roster.entry.now day.old.history number line (string_bytes out.old) (string_bytes out.new) day.new.history) }
 {
     match buffer.line() {
         Some(line) => {
-            answer_text(alloc, campaigns, day, number, line, out)?;
+            answer_text(alloc, roster, day, number, line, out)?;
             Ok(())
         }
         None => {
-            push_refusal(out, number, "form")?;
+            push_refused(alloc, out, number, &Refusal::Long)?;
             Ok(())
         }
     }

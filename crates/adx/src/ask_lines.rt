@@ -3,16 +3,16 @@ ghost use Rattle.std.specs.Prelude.{◌≡◌, ◌+◌, ◌<◌, ◌^◌, ◌++�
 ghost use Rattle.std.specs.List.{enumerate_from, join_with_byte};
 ghost use Rattle.adx_json.specs.Spelling.{text_spelling};
 ghost use Rattle.day_rules.specs.Books.{awarded_offers};
-ghost use Rattle.adx.specs.Output.{sold_offers, award_text, awards_text, reasons_of, comma_behind, awarded_line, nosale_line, ask_line, entry_line, answer_line as answer_line_of, asked_line, repeat_line, no_campaign};
+ghost use Rattle.adx.specs.Output.{sold_offers, award_text, awards_text, reasons_of, comma_behind, awarded_line, nosale_line, ask_line, entry_line, answer_line as answer_line_of, asked_line, repeat_line, campaign_text};
 ghost use Rattle.day_rules.specs.Entries.{asked};
 ghost use Rattle.day_rules.specs.Replies.{is_awarded};
 
 use crate::output::{push, push_conflict, push_day_full, push_reused, push_ticked};
-use crate::roster::Campaign;
 use adx_json::{push_comma, push_number, push_text};
 use adx_units::{Offer, OutOfMemory};
 use allocator_core::AWARDED;
 use day_rules::{Answer, Ask, Entry};
+use deal_floor::Campaign;
 use std::alloc::Global;
 
 /// Adds the awarded offers of an impression.
@@ -48,7 +48,7 @@ fn push_imp(out: &mut String, ask: &Ask, imp: u32) -> Result<(), OutOfMemory>
 }
 
 fn push_seat(out: &mut String, campaigns: &[Campaign], campaign: u32) -> Result<(), OutOfMemory>
-    ensures { OnOk result (string_bytes out.new ≡ string_bytes out.old ++ text_spelling (slice_index_or campaigns.now campaign no_campaign).seat) }
+    ensures { OnOk result (string_bytes out.new ≡ string_bytes out.old ++ text_spelling (campaign_text (λ c. c.seat) campaigns.now campaign)) }
 {
     match campaigns.get(campaign as usize) {
         Some(campaign) => push_text(out, campaign.seat.as_str()),
@@ -57,7 +57,7 @@ fn push_seat(out: &mut String, campaigns: &[Campaign], campaign: u32) -> Result<
 }
 
 fn push_cid(out: &mut String, campaigns: &[Campaign], campaign: u32) -> Result<(), OutOfMemory>
-    ensures { OnOk result (string_bytes out.new ≡ string_bytes out.old ++ text_spelling (slice_index_or campaigns.now campaign no_campaign).cid) }
+    ensures { OnOk result (string_bytes out.new ≡ string_bytes out.old ++ text_spelling (campaign_text (λ c. c.cid) campaigns.now campaign)) }
 {
     match campaigns.get(campaign as usize) {
         Some(campaign) => push_text(out, campaign.cid.as_str()),

@@ -3,7 +3,7 @@ ghost use Rattle.std.specs.Prelude.{◌≡◌, ◌≢◌, ◌≤◌, MatchBool};
 ghost use Rattle.adx_io.specs.Streams.{Rises};
 ghost use Rattle.adx.specs.Commands.{day_words, Runs, TellsUsage};
 ghost use Rattle.adx.specs.declared.limits.TheConstants.{INPUT_LIMIT};
-ghost use Rattle.adx.specs.Endings.{HasOutputs, HasOneOutput};
+ghost use Rattle.adx.specs.Endings.{HasOneOutput, HasOutputs};
 ghost use Rattle.adx.specs.Script.{day};
 
 use crate::day::serve_day;

@@ -9,55 +9,88 @@ ghost use Rattle.adx_io.specs.declared.line_buffer.TheConstants.{CHUNK};
 ghost use Rattle.adx.specs.declared.limits.TheConstants.{INPUT_LIMIT as input_limit, LINE_LIMIT as line_limit};
 ghost use Rattle.adx.specs.Endings.{Ends};
 ghost use Rattle.adx.specs.Output.{roster_refused_line};
-ghost use Rattle.adx.specs.Reads.{AreSized, ReadsRoster};
-ghost use Rattle.adx.specs.Running.{EndsTalk, EndsBehind, PutsEnd, TellsOn};
+ghost use Rattle.adx.specs.Running.{CutFails, EndsTalk, EndsBehind, FindsFirst, PutsEnd, TellsOn};
 ghost use Rattle.adx.specs.Script.{day};
 ghost use Rattle.adx.specs.Steps.{HasCauses};
 
 use crate::ending::Ending;
 use crate::limits::{INPUT_LIMIT, LINE_LIMIT};
-use crate::line::read_roster;
-use crate::output::push;
-use crate::roster::Campaign;
+use crate::output::push_roster_refused;
 use crate::script::{put_end, run_day};
 use adx_io::{LineBuffer, Next, Sink, Source, Talk};
 use adx_units::OutOfMemory;
+use deal_floor::Roster;
+use script_lines::{RosterLineFault, RosterRefusal, read_roster};
 use std::alloc::Global;
 
-/// The campaigns of the roster line that was read; None exactly where the line isn't a roster's.
-fn first_roster(alloc: Global, buffer: &LineBuffer) -> Result<Option<Vec<Campaign>>, OutOfMemory>
-    ensures reads { IfOk result (λ found. (line : List ℕ) → Keeps line_limit buffer.now.overlong buffer.now.line line → ReadsRoster line (option_map (λ v. v.items) found)) }
-    ensures sized { IfOk result (λ found. IfSome (option_map (λ v. v.items) found) AreSized) }
+/// What a whole first line is.
+#[derive(Drop)]
+pub(crate) enum FirstLine {
+    /// The line of a roster.
+    Whole {
+        /// The roster.
+        roster: Roster,
+    },
+    /// No roster's line.
+    Refused {
+        /// Why.
+        why: RosterRefusal,
+    },
+}
+
+/// What a whole line within the limit of a line is.
+fn first_of(alloc: Global, line: &[u8]) -> Result<FirstLine, OutOfMemory>
+    ensures { IfOk result (λ found. length line.now ≤ line_limit → FindsFirst line.now found) }
 {
-    match buffer.line() {
-        Some(line) => {
-            let found = read_roster(alloc, line)?;
-            Ok(found)
-        }
-        None => Ok(None),
+    match read_roster(alloc, line) {
+        Ok(roster) => Ok(FirstLine::Whole { roster }),
+        Err(RosterLineFault::Refused { why }) => Ok(FirstLine::Refused { why }),
+        Err(RosterLineFault::OutOfMemory) => Err(OutOfMemory),
     }
 }
 
-/// Writes the line of a first line that isn't a roster.
-fn push_roster_refused(out: &mut String) -> Result<(), OutOfMemory>
-    ensures { OnOk result (string_bytes out.new ≡ string_bytes out.old ++ roster_refused_line) }
+/// What the first line is, whose newline was read.
+fn first_line(alloc: Global, buffer: &LineBuffer) -> Result<FirstLine, OutOfMemory>
+    ensures { IfOk result (λ found. (line : List ℕ) → Keeps line_limit buffer.now.overlong buffer.now.line line → FindsFirst line found) }
 {
-    push(out, "{\"answer\":\"roster\",\"why\":\"form\"}\n")
+    match buffer.line() {
+        Some(line) => {
+            let found = first_of(alloc, line)?;
+            Ok(found)
+        }
+        None => Ok(FirstLine::Refused {
+            why: RosterRefusal::Long,
+        }),
+    }
+}
+
+/// Why a first line without a newline is no roster.
+fn cut_first(buffer: &LineBuffer) -> RosterRefusal
+    ensures { (line : List ℕ) → Keeps line_limit buffer.now.overlong buffer.now.line line → CutFails line result }
+{
+    match buffer.line() {
+        Some(_) => RosterRefusal::Cut,
+        None => RosterRefusal::Long,
+    }
 }
 
 /// Ends an input whose first line isn't a roster.
-fn refuse_roster<S: Source, K: Sink>(talk: &mut Talk<'_, S, K>) -> Result<(), Ending>
-    ensures ends { PutsEnd (state_of talk.old).held (state_of talk.new).held ((state_of talk.old).out ++ roster_refused_line) (Err Refused) result }
+fn refuse_roster<S: Source, K: Sink>(
+    alloc: Global,
+    talk: &mut Talk<'_, S, K>,
+    why: RosterRefusal,
+) -> Result<(), Ending>
+    ensures ends { PutsEnd (state_of talk.old).held (state_of talk.new).held ((state_of talk.old).out ++ roster_refused_line why) (Err Refused) result }
     ensures rest { (talk.new.source ≡ talk.old.source) × (talk.new.buffer ≡ talk.old.buffer) }
     ensures causes { HasCauses (state_of talk.old) (state_of talk.new) result }
     ensures same { place_of talk.new ≡ place_of talk.old }
 {
-    push_roster_refused(talk.out)?;
+    push_roster_refused(alloc, talk.out, why)?;
     put_end(talk, Err(Ending::Refused))
 }
 
-/// Serves the day of the roster line that was read, or refuses it.
-fn serve_roster<S: Source, K: Sink>(alloc: Global, talk: &mut Talk<'_, S, K>) -> Result<(), Ending>
+/// Serves the day of the first line, whose newline was read, or refuses it.
+fn serve_first<S: Source, K: Sink>(alloc: Global, talk: &mut Talk<'_, S, K>) -> Result<(), Ending>
     requires unwritten { (state_of talk.old).out ≡ [] }
     requires within { (state_of talk.old).allowed ≤ input_limit }
     requires ahead { length talk.old.buffer.now.pending ≤ CHUNK }
@@ -67,9 +100,9 @@ fn serve_roster<S: Source, K: Sink>(alloc: Global, talk: &mut Talk<'_, S, K>) ->
     ensures causes { HasCauses (state_of talk.old) (state_of talk.new) result }
     ensures same { place_of talk.new ≡ place_of talk.old }
 {
-    match first_roster(alloc, talk.buffer)? {
-        Some(campaigns) => run_day(alloc, campaigns.as_slice(), talk),
-        None => refuse_roster(talk),
+    match first_line(alloc, talk.buffer)? {
+        FirstLine::Whole { roster } => run_day(alloc, &roster, talk),
+        FirstLine::Refused { why } => refuse_roster(alloc, talk, why),
     }
 }
 
@@ -82,9 +115,12 @@ fn serve<S: Source, K: Sink>(alloc: Global, talk: &mut Talk<'_, S, K>) -> Result
     ensures same { place_of talk.new ≡ place_of talk.old }
 {
     match talk.next_line(LINE_LIMIT)? {
-        Next::Line => serve_roster(alloc, talk),
-        Next::End => refuse_roster(talk),
-        Next::PastLimit => refuse_roster(talk),
+        Next::Line => serve_first(alloc, talk),
+        Next::End => {
+            let why = cut_first(talk.buffer);
+            refuse_roster(alloc, talk, why)
+        }
+        Next::PastLimit => refuse_roster(alloc, talk, RosterRefusal::Long),
     }
 }
 

@@ -1,13 +1,14 @@
 //! The lines of answers that no entry is needed for.
 ghost use Rattle.std.specs.Prelude.{◌≡◌, ◌+◌, ◌++◌, OnOk, string_bytes};
 ghost use Rattle.hex.specs.Hex.{encode_lower};
-ghost use Rattle.adx.specs.Output.{refusal_line, dayfull_line, which_text, reused_line, end_text, conflict_line, ticked_line};
+ghost use Rattle.adx.specs.Output.{refused_line, refusal_line, roster_refused_line, dayfull_line, which_text, reused_line, end_text, conflict_line, ticked_line};
 
 use adx_json::{push_number, push_text};
 use adx_units::OutOfMemory;
 use day_rules::Which;
 use hex::encode;
 use notice_book::End;
+use script_lines::{Refusal, RosterRefusal, push_roster_why, push_why};
 use std::alloc::Global;
 
 /// Writes a text as it is.
@@ -20,13 +21,44 @@ pub(crate) fn push(out: &mut String, text: &str) -> Result<(), OutOfMemory>
 
 /// Writes the line of a refused line, by its number and why.
 pub(crate) fn push_refusal(out: &mut String, number: u64, why: &str) -> Result<(), OutOfMemory>
-    ensures { OnOk result (string_bytes out.new ≡ string_bytes out.old ++ refusal_line number why.now) }
+    ensures { OnOk result (string_bytes out.new ≡ string_bytes out.old ++ refused_line number why.now) }
 {
     push(out, "{\"answer\":\"refused\",\"line\":")?;
     push_number(out, number)?;
     push(out, ",\"why\":")?;
     push_text(out, why)?;
     push(out, "}\n")
+}
+
+/// Writes the line of a script line that is refused.
+pub(crate) fn push_refused(
+    alloc: Global,
+    out: &mut String,
+    number: u64,
+    why: &Refusal,
+) -> Result<(), OutOfMemory>
+    ensures { OnOk result (string_bytes out.new ≡ string_bytes out.old ++ refusal_line number why.now) }
+{
+    let mut text = String::new(alloc);
+    push_why(&mut text, why)?;
+    push_refusal(out, number, text.as_str())?;
+    Ok(())
+}
+
+/// Writes the line of a first line that is no roster, and why.
+pub(crate) fn push_roster_refused(
+    alloc: Global,
+    out: &mut String,
+    why: RosterRefusal,
+) -> Result<(), OutOfMemory>
+    ensures { OnOk result (string_bytes out.new ≡ string_bytes out.old ++ roster_refused_line why) }
+{
+    let mut text = String::new(alloc);
+    push_roster_why(&mut text, why)?;
+    push(out, "{\"answer\":\"roster\",\"why\":")?;
+    push_text(out, text.as_str())?;
+    push(out, "}\n")?;
+    Ok(())
 }
 
 fn push_which(out: &mut String, which: Which) -> Result<(), OutOfMemory>

@@ -3,13 +3,12 @@ ghost use Rattle.std.specs.Prelude.{◌≡◌, ◌≢◌, ◌+◌, ◌*◌, ◌<
 ghost use Rattle.adx_io.specs.Lines.{Keeps};
 ghost use Rattle.adx_io.specs.TalkState.{state_of, place_of};
 ghost use Rattle.adx_units.specs.declared.units.Units.{Units};
-ghost use Rattle.adx.specs.declared.roster.Campaign.{Campaign};
+ghost use Rattle.deal_floor.specs.declared.campaign.Campaign.{Campaign};
 ghost use Rattle.adx.specs.declared.ending.Ending.TheVariants.{Refused, Stopped};
 ghost use Rattle.adx_io.specs.declared.stop.Stop.TheVariants.{OutOfMemory as NoMemory};
 ghost use Rattle.adx_io.specs.declared.line_buffer.TheConstants.{CHUNK};
 ghost use Rattle.adx.specs.declared.limits.TheConstants.{INPUT_LIMIT as input_limit, LINE_LIMIT as line_limit};
-ghost use Rattle.adx.specs.Output.{toolong_line};
-ghost use Rattle.adx.specs.Reads.{AreSized};
+ghost use Rattle.adx.specs.Output.{closing_table, toolong_line};
 ghost use Rattle.adx.specs.Running.{AnswersKept, EndsTalk, PutsEnd};
 ghost use Rattle.adx.specs.Script.{closing, cut_line, script_of, terms_by};
 ghost use Rattle.adx.specs.Steps.{HasCauses, IsAnswer};
@@ -17,21 +16,15 @@ ghost use Rattle.adx.specs.Steps.{HasCauses, IsAnswer};
 use crate::answering::answer_line;
 use crate::ending::Ending;
 use crate::limits::LINE_LIMIT;
-use crate::output::push_refusal;
-use crate::roster::Campaign;
+use crate::output::{push_refusal, push_refused};
 use crate::table::push_table;
 use adx_io::{LineBuffer, Next, Sink, Source, Talk};
 use adx_units::{OutOfMemory, Units};
 use day_machine::Day;
-use day_rules::{DayLimits, MAX_AUCTIONS, MAX_BIDS, MAX_TEXT};
+use day_rules::DayLimits;
+use deal_floor::{Campaign, Roster};
+use script_lines::Refusal;
 use std::alloc::Global;
-
-/// The limits of a day whose roster states none.
-const LIMITS: DayLimits = DayLimits {
-    auctions: MAX_AUCTIONS,
-    bids: MAX_BIDS,
-    text: MAX_TEXT,
-};
 
 fn budgets_of(alloc: Global, campaigns: &[Campaign]) -> Result<Vec<Units>, OutOfMemory>
     ensures { IfOk result (λ budgets. budgets.items ≡ map (λ (c : Campaign). c.budget) campaigns.now) }
@@ -43,44 +36,67 @@ fn budgets_of(alloc: Global, campaigns: &[Campaign]) -> Result<Vec<Units>, OutOf
     Ok(budgets)
 }
 
-/// A day with these campaigns.
-fn open_day(alloc: Global, campaigns: &[Campaign]) -> Result<Day, OutOfMemory>
-    requires { AreSized campaigns.now }
-    ensures terms { IfOk result (λ day. day.terms ≡ terms_by campaigns.now) }
+/// The day of a roster.
+fn open_day(alloc: Global, roster: &Roster) -> Result<Day, OutOfMemory>
+    ensures terms { IfOk result (λ day. day.terms ≡ terms_by roster.entry.now) }
     ensures history { IfOk result (λ day. day.history ≡ []) }
 {
-    let budgets = budgets_of(alloc, campaigns)?;
-    let day = Day::new(alloc, budgets.as_slice(), LIMITS)?;
+    let budgets = budgets_of(alloc, roster.campaigns.as_slice())?;
+    let limits = DayLimits {
+        auctions: roster.limits.auctions,
+        bids: roster.limits.bids,
+        text: roster.limits.text,
+    };
+    let day = Day::new(alloc, budgets.as_slice(), limits)?;
     Ok(day)
 }
 
 /// Writes the refusal of a last piece without a newline, unless it is empty.
-fn push_cut(out: &mut String, number: u64, buffer: &LineBuffer) -> Result<(), OutOfMemory>
+fn push_cut(
+    alloc: Global,
+    out: &mut String,
+    number: u64,
+    buffer: &LineBuffer,
+) -> Result<(), OutOfMemory>
     ensures { OnOk result ((line : List ℕ) → Keeps line_limit buffer.now.overlong buffer.now.line line → string_bytes out.new ≡ string_bytes out.old ++ cut_line number line) }
 {
     match buffer.line() {
         Some([]) => Ok(()),
-        _ => {
-            push_refusal(out, number, "form")?;
+        Some(_) => {
+            push_refused(alloc, out, number, &Refusal::Cut)?;
+            Ok(())
+        }
+        None => {
+            push_refused(alloc, out, number, &Refusal::Long)?;
             Ok(())
         }
     }
 }
 
+/// Writes the closing table of a day with these campaigns.
+fn push_books(out: &mut String, day: &Day, campaigns: &[Campaign]) -> Result<(), OutOfMemory>
+    requires { length day.now.terms.budgets ≡ length campaigns.now }
+    ensures { OnOk result (string_bytes out.new ≡ string_bytes out.old ++ closing_table campaigns.now day.now.terms day.now.history) }
+{
+    push_table(out, campaigns, day.book(), day.awards(), day.entries())?;
+    Ok(())
+}
+
 /// Writes what comes behind the answers to all lines.
 fn push_close(
+    alloc: Global,
     out: &mut String,
     day: &Day,
-    campaigns: &[Campaign],
+    roster: &Roster,
     number: u64,
     buffer: &LineBuffer,
 ) -> Result<(), OutOfMemory>
-    requires { day.now.terms ≡ terms_by campaigns.now }
+    requires { day.now.terms ≡ terms_by roster.now }
     ensures { OnOk result ((line : List ℕ) → Keeps line_limit buffer.now.overlong buffer.now.line line
-        → string_bytes out.new ≡ string_bytes out.old ++ closing campaigns.now number line day.now.history) }
+        → string_bytes out.new ≡ string_bytes out.old ++ closing roster.entry.now number line day.now.history) }
 {
-    push_cut(out, number, buffer)?;
-    push_table(out, campaigns, day.book(), day.awards(), day.entries())?;
+    push_cut(alloc, out, number, buffer)?;
+    push_books(out, day, roster.campaigns.as_slice())?;
     Ok(())
 }
 
@@ -101,19 +117,20 @@ pub(crate) fn put_end<S: Source, K: Sink>(
 
 /// Ends a script that was read to its end.
 fn close<S: Source, K: Sink>(
-    campaigns: &[Campaign],
+    alloc: Global,
+    roster: &Roster,
     day: &Day,
     number: u64,
     talk: &mut Talk<'_, S, K>,
 ) -> Result<(), Ending>
-    requires { day.now.terms ≡ terms_by campaigns.now }
+    requires { day.now.terms ≡ terms_by roster.now }
     ensures ends { (line : List ℕ) → Keeps line_limit talk.old.buffer.now.overlong talk.old.buffer.now.line line
-        → PutsEnd (state_of talk.old).held (state_of talk.new).held ((state_of talk.old).out ++ closing campaigns.now number line day.now.history) (Ok tt) result }
+        → PutsEnd (state_of talk.old).held (state_of talk.new).held ((state_of talk.old).out ++ closing roster.entry.now number line day.now.history) (Ok tt) result }
     ensures rest { (talk.new.source ≡ talk.old.source) × (talk.new.buffer ≡ talk.old.buffer) × (talk.new.room ≡ talk.old.room) }
     ensures causes { HasCauses (state_of talk.old) (state_of talk.new) result }
     ensures same { place_of talk.new ≡ place_of talk.old }
 {
-    push_close(talk.out, day, campaigns, number, talk.buffer)?;
+    push_close(alloc, talk.out, day, roster, number, talk.buffer)?;
     put_end(talk, Ok(()))
 }
 
@@ -131,38 +148,36 @@ fn refuse_rest<S: Source, K: Sink>(number: u64, talk: &mut Talk<'_, S, K>) -> Re
 /// Answers the line that was read last.
 fn answer_next<S: Source, K: Sink>(
     alloc: Global,
-    campaigns: &[Campaign],
+    roster: &Roster,
     day: &mut Day,
     number: u64,
     talk: &mut Talk<'_, S, K>,
 ) -> Result<(), Ending>
-    requires few { length campaigns.now ≤ 1024 }
-    requires terms { day.old.terms ≡ terms_by campaigns.now }
+    requires terms { day.old.terms ≡ terms_by roster.now }
     ensures terms { day.new.terms ≡ day.old.terms }
-    ensures answered { OnOk result (AnswersKept campaigns.now day.old.history number (state_of talk.old) (state_of talk.new).out day.new.history) }
+    ensures answered { OnOk result (AnswersKept roster.entry.now day.old.history number (state_of talk.old) (state_of talk.new).out day.new.history) }
     ensures failed { IfErr result (λ e. e ≡ Stopped NoMemory) }
     ensures state { state_of talk.new ≡ record (state_of talk.old) { out = (state_of talk.new).out } }
     ensures rest { (talk.new.source ≡ talk.old.source) × (talk.new.buffer ≡ talk.old.buffer) }
     ensures causes { HasCauses (state_of talk.old) (state_of talk.new) result }
     ensures same { place_of talk.new ≡ place_of talk.old }
 {
-    answer_line(alloc, campaigns, day, number, talk.buffer, talk.out)?;
+    answer_line(alloc, roster, day, number, talk.buffer, talk.out)?;
     Ok(())
 }
 
 /// Answers the lines of a script on a day that begins, and closes it.
 fn run_lines<S: Source, K: Sink>(
     alloc: Global,
-    campaigns: &[Campaign],
+    roster: &Roster,
     day: &mut Day,
     talk: &mut Talk<'_, S, K>,
 ) -> Result<(), Ending>
-    requires sized { AreSized campaigns.now }
-    requires terms { day.old.terms ≡ terms_by campaigns.now }
+    requires terms { day.old.terms ≡ terms_by roster.now }
     requires begins { day.old.history ≡ [] }
     requires unwritten { (state_of talk.old).out ≡ [] }
     requires within { (state_of talk.old).allowed ≤ input_limit }
-    ensures ends { EndsTalk (state_of talk.old).allowed (script_of campaigns.now []) (state_of talk.old) (S.tape talk.new.source.now) (K.held talk.new.sink.now) result }
+    ensures ends { EndsTalk (state_of talk.old).allowed (script_of roster.entry.now []) (state_of talk.old) (S.tape talk.new.source.now) (K.held talk.new.sink.now) result }
     ensures causes { HasCauses (state_of talk.old) (state_of talk.new) result }
     ensures same { place_of talk.new ≡ place_of talk.old }
 {
@@ -170,29 +185,28 @@ fn run_lines<S: Source, K: Sink>(
     'lines: loop {
         match talk.next_line(LINE_LIMIT)? {
             Next::Line => {
-                answer_next(alloc, campaigns, day, number, talk)?;
+                answer_next(alloc, roster, day, number, talk)?;
                 number += 1;
             }
-            Next::End => return close(campaigns, day, number, talk),
+            Next::End => return close(alloc, roster, day, number, talk),
             Next::PastLimit => return refuse_rest(number, talk),
         }
     }
 }
 
-/// Serves a day with these campaigns: answers the lines of the script, and closes it.
+/// Serves the day of a roster: answers the lines of the script, and closes it.
 pub(crate) fn run_day<S: Source, K: Sink>(
     alloc: Global,
-    campaigns: &[Campaign],
+    roster: &Roster,
     talk: &mut Talk<'_, S, K>,
 ) -> Result<(), Ending>
-    requires sized { AreSized campaigns.now }
     requires unwritten { (state_of talk.old).out ≡ [] }
     requires within { (state_of talk.old).allowed ≤ input_limit }
     requires ahead { length talk.old.buffer.now.pending ≤ CHUNK }
-    ensures ends { EndsTalk (state_of talk.old).allowed (script_of campaigns.now []) (state_of talk.old) (S.tape talk.new.source.now) (K.held talk.new.sink.now) result }
+    ensures ends { EndsTalk (state_of talk.old).allowed (script_of roster.entry.now []) (state_of talk.old) (S.tape talk.new.source.now) (K.held talk.new.sink.now) result }
     ensures causes { HasCauses (state_of talk.old) (state_of talk.new) result }
     ensures same { place_of talk.new ≡ place_of talk.old }
 {
-    let mut day = open_day(alloc, campaigns)?;
-    run_lines(alloc, campaigns, &mut day, talk)
+    let mut day = open_day(alloc, roster)?;
+    run_lines(alloc, roster, &mut day, talk)
 }

@@ -7,11 +7,11 @@ ghost use Rattle.adx.specs.Output.{account_line, campaign_line, counts_line, clo
 ghost use Rattle.std.specs.List.{flat_map, enumerate_from};
 
 use crate::output::push;
-use crate::roster::Campaign;
 use adx_json::{push_number, push_text};
 use adx_units::OutOfMemory;
 use campaign_book::Book;
 use day_rules::Entry;
+use deal_floor::Campaign;
 use discount_table::slab_of;
 use notice_book::Awards;
 

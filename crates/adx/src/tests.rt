@@ -1,252 +1,208 @@
-//! Scripts with their output and status, in pieces, and with each take and each put failing in turn.
+//! Scripts with the bytes that the sink takes for them, refusals, faults of the source and the sink, and long lines.
 use crate::command::adx;
+use crate::test_tables::{
+    EVENTFUL, EVENTFUL_ANSWERS, LAST_NUMBER, REFUSED, ROSTER_COUNT, ROSTERS, SCRIPT_COUNT, SCRIPTS,
+};
 use adx_io::{MemorySink, MemorySource};
 use adx_units::Text;
+use std::alloc::Global;
+use std::fmt::Write;
 use std::test::Fail;
 
-/// A script with the bytes that the sink takes for it and the exit status.
-#[derive(Clone, Copy)]
+/// One bidder with one campaign.
+const ROSTER: &str =
+    "{\"day\":\"2025-03-01\",\"bidders\":[{\"name\":\"b1\"}],\"campaigns\":[{\"bidder\":\"b1\",\"seat\":\"s1\",\"cid\":\"c1\",\"budget\":0.01}]}\n";
+
+/// An ask, and its answer.
+const ASK: &str =
+    "{\"ask\":{\"id\":\"a1\",\"imp\":[{\"id\":\"1\"}]},\"answers\":[{\"id\":\"a1\",\"seatbid\":[{\"seat\":\"s1\",\"bid\":[{\"id\":\"x\",\"impid\":\"1\",\"price\":2.5,\"cid\":\"c1\"}]}]}],\"now\":10}\n";
+
+const AWARDED: &str =
+    "{\"answer\":\"awarded\",\"auction\":\"a1\",\"awards\":[{\"award\":0,\"imp\":\"1\",\"seat\":\"s1\",\"cid\":\"c1\",\"charge\":2500000}],\"reasons\":[0]}\n";
+
+/// The closing table of a day with that ask alone.
+const TABLE: &str =
+    "{\"seat\":\"s1\",\"cid\":\"c1\",\"budget\":10000000,\"reserved\":2500000,\"billed\":0,\"slab\":25}\n{\"asks\":1,\"awards\":1,\"entries\":1}\n";
+
+/// An input, and what is to come of it.
+#[derive(Drop)]
 struct Case {
-    name: &'static str,
-    input: &'static str,
-    output: &'static str,
     status: u8,
+    input: String,
+    output: String,
 }
 
-const CASES: [Case; 14] = [
-    Case {
-        name: "first award",
-        input: r#"{"day":"2025-03-01","bidders":[{"name":"b1"}],"campaigns":[{"bidder":"b1","seat":"s1","cid":"c1","budget":0.01}]}
-{"ask":{"id":"a1","imp":[{"id":"1"}]},"answers":[{"id":"a1","seatbid":[{"seat":"s1","bid":[{"id":"x","impid":"1","price":2.5,"cid":"c1"}]}]}],"now":10}
-"#,
-        output: r#"{"answer":"awarded","auction":"a1","awards":[{"award":0,"imp":"1","seat":"s1","cid":"c1","charge":2500000}],"reasons":[0]}
-{"seat":"s1","cid":"c1","budget":10000000,"reserved":2500000,"billed":0,"slab":25}
-{"asks":1,"awards":1,"entries":1}
-"#,
-        status: 0,
-    },
-    Case {
-        name: "same ask again",
-        input: r#"{"day":"2025-03-01","bidders":[{"name":"b1"}],"campaigns":[{"bidder":"b1","seat":"s1","cid":"c1","budget":0.01}]}
-{"ask":{"id":"a1","imp":[{"id":"1"}]},"answers":[{"id":"a1","seatbid":[{"seat":"s1","bid":[{"id":"x","impid":"1","price":2.5,"cid":"c1"}]}]}],"now":10}
-{"ask":{"id":"a1","imp":[{"id":"1"}]},"answers":[{"id":"a1","seatbid":[{"seat":"s1","bid":[{"id":"x","impid":"1","price":9,"cid":"c1"}]}]}],"now":99}
-"#,
-        output: r#"{"answer":"awarded","auction":"a1","awards":[{"award":0,"imp":"1","seat":"s1","cid":"c1","charge":2500000}],"reasons":[0]}
-{"answer":"awarded","auction":"a1","awards":[{"award":0,"imp":"1","seat":"s1","cid":"c1","charge":2500000}],"reasons":[0]}
-{"seat":"s1","cid":"c1","budget":10000000,"reserved":2500000,"billed":0,"slab":25}
-{"asks":1,"awards":1,"entries":1}
-"#,
-        status: 0,
-    },
-    Case {
-        name: "id reused",
-        input: r#"{"day":"2025-03-01","bidders":[{"name":"b1"}],"campaigns":[{"bidder":"b1","seat":"s1","cid":"c1","budget":0.01}]}
-{"ask":{"id":"a1","imp":[{"id":"1"}]},"answers":[{"id":"a1","seatbid":[{"seat":"s1","bid":[{"id":"x","impid":"1","price":2.5,"cid":"c1"}]}]}],"now":10}
-{"ask":{"id":"a1","imp":[{"id":"2"}]},"answers":[{"id":"a1","seatbid":[{"seat":"s1","bid":[]}]}],"now":10}
-"#,
-        output: r#"{"answer":"awarded","auction":"a1","awards":[{"award":0,"imp":"1","seat":"s1","cid":"c1","charge":2500000}],"reasons":[0]}
-{"answer":"reused","kept":"1658342f81fb8a672f3c7879854ccb0bca45c54795eb604b1fb44c6093415495","given":"163071bddc1cc487e2d23de146066d846c94b39c58303702ca33d214f6cc2445"}
-{"seat":"s1","cid":"c1","budget":10000000,"reserved":2500000,"billed":0,"slab":25}
-{"asks":1,"awards":1,"entries":1}
-"#,
-        status: 0,
-    },
-    Case {
-        name: "discount beats price",
-        input: r#"{"day":"2025-03-01","bidders":[{"name":"b1"}],"campaigns":[{"bidder":"b1","seat":"s1","cid":"c1","budget":0.01},{"bidder":"b1","seat":"s1","cid":"c2","budget":0.01}]}
-{"ask":{"id":"a1","imp":[{"id":"1"}]},"answers":[{"id":"a1","seatbid":[{"seat":"s1","bid":[{"id":"x","impid":"1","price":5,"cid":"c1"}]}]}],"now":10}
-{"ask":{"id":"a2","imp":[{"id":"1"}]},"answers":[{"id":"a2","seatbid":[{"seat":"s1","bid":[{"id":"x","impid":"1","price":3.0,"cid":"c1"},{"id":"x","impid":"1","price":2.5,"cid":"c2"}]}]}],"now":10}
-"#,
-        output: r#"{"answer":"awarded","auction":"a1","awards":[{"award":0,"imp":"1","seat":"s1","cid":"c1","charge":5000000}],"reasons":[0]}
-{"answer":"awarded","auction":"a2","awards":[{"award":1,"imp":"1","seat":"s1","cid":"c2","charge":2500000}],"reasons":[102,0]}
-{"seat":"s1","cid":"c1","budget":10000000,"reserved":5000000,"billed":0,"slab":50}
-{"seat":"s1","cid":"c2","budget":10000000,"reserved":2500000,"billed":0,"slab":25}
-{"asks":2,"awards":2,"entries":2}
-"#,
-        status: 0,
-    },
-    Case {
-        name: "first of equals",
-        input: r#"{"day":"2025-03-01","bidders":[{"name":"b1"}],"campaigns":[{"bidder":"b1","seat":"s1","cid":"c1","budget":0.01},{"bidder":"b1","seat":"s1","cid":"c2","budget":0.01}]}
-{"ask":{"id":"a1","imp":[{"id":"1"}]},"answers":[{"id":"a1","seatbid":[{"seat":"s1","bid":[{"id":"x","impid":"1","price":2.5,"cid":"c1"},{"id":"x","impid":"1","price":2.5,"cid":"c2"}]}]}],"now":10}
-"#,
-        output: r#"{"answer":"awarded","auction":"a1","awards":[{"award":0,"imp":"1","seat":"s1","cid":"c1","charge":2500000}],"reasons":[0,102]}
-{"seat":"s1","cid":"c1","budget":10000000,"reserved":2500000,"billed":0,"slab":25}
-{"seat":"s1","cid":"c2","budget":10000000,"reserved":0,"billed":0,"slab":0}
-{"asks":1,"awards":1,"entries":1}
-"#,
-        status: 0,
-    },
-    Case {
-        name: "budget used up",
-        input: r#"{"day":"2025-03-01","bidders":[{"name":"b1"}],"campaigns":[{"bidder":"b1","seat":"s1","cid":"c1","budget":0.01}]}
-{"ask":{"id":"a1","imp":[{"id":"1"}]},"answers":[{"id":"a1","seatbid":[{"seat":"s1","bid":[{"id":"x","impid":"1","price":10,"cid":"c1"}]}]}],"now":10}
-{"ask":{"id":"a2","imp":[{"id":"1"}]},"answers":[{"id":"a2","seatbid":[{"seat":"s1","bid":[{"id":"x","impid":"1","price":0.000001,"cid":"c1"}]}]}],"now":10}
-"#,
-        output: r#"{"answer":"awarded","auction":"a1","awards":[{"award":0,"imp":"1","seat":"s1","cid":"c1","charge":10000000}],"reasons":[0]}
-{"answer":"nosale","auction":"a2","reasons":[1001]}
-{"seat":"s1","cid":"c1","budget":10000000,"reserved":10000000,"billed":0,"slab":100}
-{"asks":2,"awards":1,"entries":2}
-"#,
-        status: 0,
-    },
-    Case {
-        name: "unknown notice",
-        input: r#"{"day":"2025-03-01","bidders":[{"name":"b1"}],"campaigns":[{"bidder":"b1","seat":"s1","cid":"c1","budget":0.01}]}
-{"ask":{"id":"a1","imp":[{"id":"1"}]},"answers":[{"id":"a1","seatbid":[{"seat":"s1","bid":[{"id":"x","impid":"1","price":2.5,"cid":"c1"}]}]}],"now":10}
-{"notice":"bill","auction":"a1","bid":7}
-{"notice":"bill","auction":"a2","bid":0}
-"#,
-        output: r#"{"answer":"awarded","auction":"a1","awards":[{"award":0,"imp":"1","seat":"s1","cid":"c1","charge":2500000}],"reasons":[0]}
-{"answer":"unknown"}
-{"answer":"unknown"}
-{"seat":"s1","cid":"c1","budget":10000000,"reserved":2500000,"billed":0,"slab":25}
-{"asks":1,"awards":1,"entries":1}
-"#,
-        status: 0,
-    },
-    Case {
-        name: "tick is no line",
-        input: r#"{"day":"2025-03-01","bidders":[{"name":"b1"}],"campaigns":[{"bidder":"b1","seat":"s1","cid":"c1","budget":0.01}]}
-{"ask":{"id":"a1","imp":[{"id":"1"}]},"answers":[{"id":"a1","seatbid":[{"seat":"s1","bid":[{"id":"x","impid":"1","price":2.5,"cid":"c1"}]}]}],"now":10}
-{"tick":5}
-"#,
-        output: r#"{"answer":"awarded","auction":"a1","awards":[{"award":0,"imp":"1","seat":"s1","cid":"c1","charge":2500000}],"reasons":[0]}
-{"answer":"refused","line":3,"why":"form"}
-{"seat":"s1","cid":"c1","budget":10000000,"reserved":2500000,"billed":0,"slab":25}
-{"asks":1,"awards":1,"entries":1}
-"#,
-        status: 0,
-    },
-    Case {
-        name: "bill twice, between other lines",
-        input: r#"{"day":"2025-03-01","bidders":[{"name":"b1"}],"campaigns":[{"bidder":"b1","seat":"s1","cid":"c1","budget":0.01}]}
-{"ask":{"id":"a1","imp":[{"id":"1"}]},"answers":[{"id":"a1","seatbid":[{"seat":"s1","bid":[{"id":"x","impid":"1","price":2.5,"cid":"c1"}]}]}],"now":10}
-{"ask":{"id":"a2","imp":[{"id":"1"}]},"answers":[{"id":"a2","seatbid":[{"seat":"s1","bid":[{"id":"x","impid":"1","price":5,"cid":"c1"}]}]}],"now":10}
-{"notice":"bill","auction":"a2","bid":0}
-{"notice":"bill","auction":"a2","bid":1}
-{"notice":"bill","auction":"a1","bid":0}
-{"notice":"bill","auction":"a2","bid":1}
-{"ask":{"id":"a2","imp":[{"id":"1"}]},"answers":[{"id":"a2","seatbid":[{"seat":"s1","bid":[{"id":"x","impid":"1","price":9,"cid":"c1"}]}]}],"now":99}
-{"ask":{"id":"a3","imp":[{"id":"1"}]},"answers":[{"id":"a3","seatbid":[{"seat":"s1","bid":[{"id":"x","impid":"1","price":2.6,"cid":"c1"}]}]}],"now":10}
-{"ask":{"id":"a4","imp":[{"id":"1"}]},"answers":[{"id":"a4","seatbid":[{"seat":"s1","bid":[{"id":"x","impid":"1","price":2.5,"cid":"c1"}]}]}],"now":10}
-"#,
-        output: r#"{"answer":"awarded","auction":"a1","awards":[{"award":0,"imp":"1","seat":"s1","cid":"c1","charge":2500000}],"reasons":[0]}
-{"answer":"awarded","auction":"a2","awards":[{"award":1,"imp":"1","seat":"s1","cid":"c1","charge":5000000}],"reasons":[0]}
-{"answer":"unknown"}
-{"answer":"counted"}
-{"answer":"counted"}
-{"answer":"repeat"}
-{"answer":"awarded","auction":"a2","awards":[{"award":1,"imp":"1","seat":"s1","cid":"c1","charge":5000000}],"reasons":[0]}
-{"answer":"nosale","auction":"a3","reasons":[1001]}
-{"answer":"awarded","auction":"a4","awards":[{"award":2,"imp":"1","seat":"s1","cid":"c1","charge":2500000}],"reasons":[0]}
-{"seat":"s1","cid":"c1","budget":10000000,"reserved":2500000,"billed":7500000,"slab":100}
-{"asks":4,"awards":3,"entries":6}
-"#,
-        status: 0,
-    },
-    Case {
-        name: "bills out of form",
-        input: r#"{"day":"2025-03-01","bidders":[{"name":"b1"}],"campaigns":[{"bidder":"b1","seat":"s1","cid":"c1","budget":0.01}]}
-{"ask":{"id":"a1","imp":[{"id":"1"}]},"answers":[{"id":"a1","seatbid":[{"seat":"s1","bid":[{"id":"x","impid":"1","price":2.5,"cid":"c1"}]}]}],"now":10}
-{"notice":"bill","auction":"a1","bid":4294967296}
-{"notice":"bill","auction":"a1","bid":00}
-{"notice":"bill","auction":"a1","bid":-1}
-{"notice":"bill","auction":"a1","bid":0.0}
-{"notice":"bill","auction":"a1","bid":"0"}
-{"notice":"bill","auction":"a1","bid":4294967295}
-{"notice":"bill","auction":"a1","bid":0}
-"#,
-        output: r#"{"answer":"awarded","auction":"a1","awards":[{"award":0,"imp":"1","seat":"s1","cid":"c1","charge":2500000}],"reasons":[0]}
-{"answer":"refused","line":3,"why":"form"}
-{"answer":"refused","line":4,"why":"form"}
-{"answer":"refused","line":5,"why":"form"}
-{"answer":"refused","line":6,"why":"form"}
-{"answer":"refused","line":7,"why":"form"}
-{"answer":"unknown"}
-{"answer":"counted"}
-{"seat":"s1","cid":"c1","budget":10000000,"reserved":0,"billed":2500000,"slab":25}
-{"asks":1,"awards":1,"entries":2}
-"#,
-        status: 0,
-    },
-    Case {
-        name: "empty day",
-        input: r#"{"day":"2025-03-01","bidders":[{"name":"b1"}],"campaigns":[{"bidder":"b1","seat":"s1","cid":"c1","budget":0.01}]}
-"#,
-        output: r#"{"seat":"s1","cid":"c1","budget":10000000,"reserved":0,"billed":0,"slab":0}
-{"asks":0,"awards":0,"entries":0}
-"#,
-        status: 0,
-    },
-    Case {
-        name: "cut line",
-        input: r#"{"day":"2025-03-01","bidders":[{"name":"b1"}],"campaigns":[{"bidder":"b1","seat":"s1","cid":"c1","budget":0.01}]}
-{"ask""#,
-        output: r#"{"answer":"refused","line":2,"why":"form"}
-{"seat":"s1","cid":"c1","budget":10000000,"reserved":0,"billed":0,"slab":0}
-{"asks":0,"awards":0,"entries":0}
-"#,
-        status: 0,
-    },
-    Case {
-        name: "no roster",
-        input: r#"{}
-"#,
-        output: r#"{"answer":"roster","why":"form"}
-"#,
-        status: 3,
-    },
-    Case {
-        name: "no line",
-        input: r#""#,
-        output: r#"{"answer":"roster","why":"form"}
-"#,
-        status: 3,
-    },
-];
+/// Adds a line of a case's text.
+fn add_line(case: &mut Case, line: &str) -> Result<(), Fail> {
+    if let Some(text) = line.strip_prefix("> ") {
+        case.input.push_str(text)?;
+        case.input.push_str("\n")?;
+        return Ok(());
+    }
+    if let Some(text) = line.strip_prefix("| ") {
+        case.input.push_str(text)?;
+        return Ok(());
+    }
+    let text = line.strip_prefix("< ").ok_or("no line of a script")?;
+    case.output.push_str(text)?;
+    case.output.push_str("\n")?;
+    Ok(())
+}
+
+/// The case that a text tells.
+fn case_of(alloc: Global, text: &str) -> Result<Case, Fail> {
+    let (head, lines) = text.split_once('\n').ok_or("no script")?;
+    let mut case = Case {
+        status: if head.starts_with('3') { 3 } else { 0 },
+        input: String::new(alloc),
+        output: String::new(alloc),
+    };
+    for line in lines.lines() {
+        add_line(&mut case, line)?;
+    }
+    Ok(case)
+}
+
+/// Whether the program answers so where source and sink take so many bytes at a time; 0: all.
+fn answers(alloc: Global, case: &Case, step: usize) -> Result<bool, Fail> {
+    let words = [Text::of(alloc, "day")?];
+    let mut source = MemorySource::new(alloc, case.input.as_bytes(), step, &[])?;
+    let mut sink = MemorySink::new(alloc, step, &[])?;
+    let status = adx(alloc, &words, &mut source, &mut sink);
+    Ok(status == case.status && sink.taken() == case.output.as_bytes())
+}
 
 #[test]
 fn answers_scripts_in_pieces(rt: HostRuntime) -> Result<(), Fail> {
     let alloc = rt.alloc();
-    let words = [Text::of(alloc, "day")?];
-    for case in &CASES {
+    let mut left = SCRIPTS;
+    for _ in 0..SCRIPT_COUNT {
+        let (text, rest) = left.split_once("\n\n").ok_or("too few scripts")?;
+        let case = case_of(alloc, text)?;
         for step in [0, 1, 2, 3, 7] {
-            let mut source = MemorySource::new(alloc, case.input.as_bytes(), step, &[])?;
-            let mut sink = MemorySink::new(alloc, step, &[])?;
-            let status = adx(alloc, &words, &mut source, &mut sink);
-            assert_eq!(rt; status, case.status, "{} by {step}", case.name);
-            assert_eq!(rt;
-                sink.taken(),
-                case.output.as_bytes(),
-                "{} by {step}",
-                case.name
-            );
+            assert!(rt; answers(alloc, &case, step)?, "by {step}: {text}");
         }
+        left = rest;
+    }
+    assert_eq!(rt; left, "");
+    Ok(())
+}
+
+/// Adds a refused line, and then the ask again.
+fn add_refused(case: &mut Case, line: &str, number: u64, why: &str) -> Result<(), Fail> {
+    case.input.push_str(line)?;
+    case.input.push_str("\n")?;
+    case.input.push_str(ASK)?;
+    write!(
+        &mut case.output,
+        "{{\"answer\":\"refused\",\"line\":{number},\"why\":\"{why}\"}}\n"
+    )?;
+    case.output.push_str(AWARDED)?;
+    Ok(())
+}
+
+#[test]
+fn refuses_lines_and_goes_on(rt: HostRuntime) -> Result<(), Fail> {
+    let alloc = rt.alloc();
+    let mut case = Case {
+        status: 0,
+        input: String::from_str(alloc, ROSTER)?,
+        output: String::new(alloc),
+    };
+    let mut number = 2;
+    for line in REFUSED.lines() {
+        let (text, why) = line.split_once(" means ").ok_or("no reason")?;
+        add_refused(&mut case, text, number, why)?;
+        number += 2;
+    }
+    assert_eq!(rt; number, LAST_NUMBER);
+    case.output.push_str(TABLE)?;
+    assert!(rt; answers(alloc, &case, 0)?);
+    Ok(())
+}
+
+/// Whether the first line is refused so, and nothing behind it is looked at.
+fn is_refused(alloc: Global, line: &str, why: &str) -> Result<bool, Fail> {
+    let mut case = Case {
+        status: 3,
+        input: String::from_str(alloc, line)?,
+        output: String::new(alloc),
+    };
+    case.input.push_str("\n")?;
+    case.input.push_str(ASK)?;
+    write!(
+        &mut case.output,
+        "{{\"answer\":\"roster\",\"why\":\"{why}\"}}\n"
+    )?;
+    answers(alloc, &case, 0)
+}
+
+#[test]
+fn refuses_first_lines(rt: HostRuntime) -> Result<(), Fail> {
+    assert_eq!(rt; ROSTERS.lines().count(), ROSTER_COUNT);
+    for line in ROSTERS.lines() {
+        let (text, why) = line.split_once(" means ").ok_or("no reason")?;
+        assert!(rt; is_refused(rt.alloc(), text, why)?, "{line}");
     }
     Ok(())
 }
 
-/// A script with two asks and three bills.
-const EVENTFUL: Case = Case {
-    name: "two asks and three bills",
-    input: r#"{"day":"2025-03-01","bidders":[{"name":"b1"}],"campaigns":[{"bidder":"b1","seat":"s1","cid":"c1","budget":0.01}]}
-{"ask":{"id":"a1","imp":[{"id":"1"}]},"answers":[{"id":"a1","seatbid":[{"seat":"s1","bid":[{"id":"x","impid":"1","price":2.5,"cid":"c1"}]}]}],"now":10}
-{"notice":"bill","auction":"a1","bid":0}
-{"ask":{"id":"a2","imp":[{"id":"1"}]},"answers":[{"id":"a2","seatbid":[{"seat":"s1","bid":[{"id":"x","impid":"1","price":5,"cid":"c1"}]}]}],"now":10}
-{"notice":"bill","auction":"a1","bid":0}
-{"notice":"bill","auction":"a2","bid":0}
-"#,
-    output: r#"{"answer":"awarded","auction":"a1","awards":[{"award":0,"imp":"1","seat":"s1","cid":"c1","charge":2500000}],"reasons":[0]}
-{"answer":"counted"}
-{"answer":"awarded","auction":"a2","awards":[{"award":1,"imp":"1","seat":"s1","cid":"c1","charge":5000000}],"reasons":[0]}
-{"answer":"repeat"}
-{"answer":"unknown"}
-{"seat":"s1","cid":"c1","budget":10000000,"reserved":5000000,"billed":2500000,"slab":75}
-{"asks":2,"awards":2,"entries":3}
-"#,
-    status: 0,
-};
+/// Adds as many bytes as a line may have.
+fn push_longest(out: &mut String) -> Result<(), Fail> {
+    for _ in 0..65_536 {
+        out.push_str("xxxxxxxxxxxxxxxxxxxxxxxxxxxxxxxxxxxxxxxxxxxxxxxxxxxxxxxxxxxxxxxx")?;
+    }
+    Ok(())
+}
+
+/// Adds a byte more than a line may have.
+fn push_long(out: &mut String) -> Result<(), Fail> {
+    push_longest(out)?;
+    out.push_str("x")?;
+    Ok(())
+}
+
+/// What comes of the long lines.
+const LONG_ANSWERS: &str =
+    "{\"answer\":\"refused\",\"line\":2,\"why\":\"long\"}\n{\"answer\":\"refused\",\"line\":3,\"why\":\"json syntax 0\"}\n";
+
+const LAST_ANSWER: &str = "{\"answer\":\"refused\",\"line\":5,\"why\":\"long\"}\n";
+
+#[test]
+fn refuses_long_lines_whole_and_cut(rt: HostRuntime) -> Result<(), Fail> {
+    let alloc = rt.alloc();
+    let mut case = Case {
+        status: 0,
+        input: String::from_str(alloc, ROSTER)?,
+        output: String::from_str(alloc, LONG_ANSWERS)?,
+    };
+    push_long(&mut case.input)?;
+    case.input.push_str("\n")?;
+    push_longest(&mut case.input)?;
+    case.input.push_str("\n")?;
+    case.input.push_str(ASK)?;
+    push_long(&mut case.input)?;
+    case.output.push_str(AWARDED)?;
+    case.output.push_str(LAST_ANSWER)?;
+    case.output.push_str(TABLE)?;
+    assert!(rt; answers(alloc, &case, 0)?);
+    Ok(())
+}
+
+#[test]
+fn refuses_a_long_first_line_whole_and_cut(rt: HostRuntime) -> Result<(), Fail> {
+    let alloc = rt.alloc();
+    let mut case = Case {
+        status: 3,
+        input: String::new(alloc),
+        output: String::from_str(alloc, "{\"answer\":\"roster\",\"why\":\"long\"}\n")?,
+    };
+    push_long(&mut case.input)?;
+    assert!(rt; answers(alloc, &case, 0)?);
+    case.input.push_str("\n")?;
+    assert!(rt; answers(alloc, &case, 0)?);
+    Ok(())
+}
 
 /// So many lines from the front of the text.
 fn first_lines(text: &[u8], count: usize) -> &[u8] {
@@ -272,8 +228,8 @@ fn keeps_the_answers_to_whole_lines_at_a_read_fault(rt: HostRuntime) -> Result<(
     const STEP: usize = 7;
     let alloc = rt.alloc();
     let words = [Text::of(alloc, "day")?];
-    let input = EVENTFUL.input.as_bytes();
-    let output = EVENTFUL.output.as_bytes();
+    let input = EVENTFUL.as_bytes();
+    let output = EVENTFUL_ANSWERS.as_bytes();
     // One call for each piece of the input, and one that finds its end.
     let calls = input.len().div_ceil(STEP) + 1;
     for call in 0..=calls {
@@ -297,8 +253,8 @@ fn keeps_the_answers_to_whole_lines_at_a_read_fault(rt: HostRuntime) -> Result<(
 fn leaves_a_front_of_the_output_at_a_write_fault(rt: HostRuntime) -> Result<(), Fail> {
     let alloc = rt.alloc();
     let words = [Text::of(alloc, "day")?];
-    let input = EVENTFUL.input.as_bytes();
-    let output = EVENTFUL.output.as_bytes();
+    let input = EVENTFUL.as_bytes();
+    let output = EVENTFUL_ANSWERS.as_bytes();
     for call in 0..=output.len() {
         let mut source = MemorySource::new(alloc, input, 0, &[])?;
         let mut sink = MemorySink::new(alloc, 1, &[call as u64])?;
@@ -307,31 +263,5 @@ fn leaves_a_front_of_the_output_at_a_write_fault(rt: HostRuntime) -> Result<(), 
         assert_eq!(rt; status, want_status, "put {call} fails");
         assert_eq!(rt; sink.taken(), output.split_at(call).0, "put {call} fails");
     }
-    Ok(())
-}
-
-#[test]
-fn refuses_an_overlong_line(rt: HostRuntime) -> Result<(), Fail> {
-    const LINE_LIMIT: usize = 4_194_304;
-    let alloc = rt.alloc();
-    let words = [Text::of(alloc, "day")?];
-    let (roster, lines) = EVENTFUL.input.split_once('\n').unwrap_or(("", ""));
-    let mut input = Vec::from_slice(alloc, roster.as_bytes())?;
-    input.push(b'\n')?;
-    for _ in 0..=LINE_LIMIT {
-        input.push(b'x')?;
-    }
-    input.push(b'\n')?;
-    input.extend_from_slice(lines.as_bytes())?;
-    let mut output = Vec::from_slice(
-        alloc,
-        b"{\"answer\":\"refused\",\"line\":2,\"why\":\"form\"}\n",
-    )?;
-    output.extend_from_slice(EVENTFUL.output.as_bytes())?;
-    let mut source = MemorySource::new(alloc, input.as_slice(), 0, &[])?;
-    let mut sink = MemorySink::new(alloc, 0, &[])?;
-    let status = adx(alloc, &words, &mut source, &mut sink);
-    assert_eq!(rt; status, 0);
-    assert_eq!(rt; sink.taken(), output.as_slice());
     Ok(())
 }

@@ -14,5 +14,5 @@ pub returns-in_err-push_roster_refused-clause-ends : goal.returns-in_err-push_ro
 returns-in_err-push_roster_refused-clause-ends g c =
     let p = err_from_is_err_and c.from_residual.result c.from_residual.ensures.1 in
     let held = g.K.Sink.held c.args.talk.now.sink.now in
-    let bytes = string_bytes c.args.talk.now.out.now ++ roster_refused_line in
+    let bytes = string_bytes c.args.talk.now.out.now ++ roster_refused_line c.args.why in
     subst (PutsEnd held held bytes (Err Ending.Refused)) (sym (p.1 ∙ ap Err p.2)) (end_unput held bytes (Err Ending.Refused))

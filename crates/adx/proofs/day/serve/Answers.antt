@@ -13,16 +13,16 @@ use Rattle.adx.proofs.day.serve.Goals as goal
 pub returns-in-Line-clause-ends : goal.returns-in-Line-clause-ends
 returns-in-Line-clause-ends g c =
     let is : c.next_line.result ≡ Ok Next.Line = c.in_ok-next_line.was ∙ ap Ok c.in-Line.is in
-    behind_line (state_of c.args.talk.now) (state_of c.next_line.new.self) (g.S.Source.tape c.serve_roster.new.talk.source.now) (g.K.Sink.held c.serve_roster.new.talk.sink.now) c.serve_roster.result c.requires.unwritten c.requires.whole
-    (rw is at c.next_line.ensures.reads) (rw is at c.next_line.ensures.puts) c.serve_roster.ensures.tells c.serve_roster.ensures.ends
+    behind_line (state_of c.args.talk.now) (state_of c.next_line.new.self) (g.S.Source.tape c.serve_first.new.talk.source.now) (g.K.Sink.held c.serve_first.new.talk.sink.now) c.serve_first.result c.requires.unwritten c.requires.whole
+    (rw is at c.next_line.ensures.reads) (rw is at c.next_line.ensures.puts) c.serve_first.ensures.tells c.serve_first.ensures.ends
 
 pub returns-in-End-clause-ends : goal.returns-in-End-clause-ends
 returns-in-End-clause-ends g c =
     let is : c.next_line.result ≡ Ok Next.End = c.in_ok-next_line.was ∙ ap Ok c.in-End.is in
     let now = c.next_line.new.self in
     subst (λ t. EndsTalk INPUT_LIMIT day (state_of c.args.talk.now) t (g.K.Sink.held c.refuse_roster.new.talk.sink.now) c.refuse_roster.result) (sym (ap (λ (x : MutBor _). g.S.Source.tape x.now) c.refuse_roster.ensures.rest.0))
-    (behind_end (state_of c.args.talk.now) (state_of now) now.buffer.now.pending (g.S.Source.tape now.source.now) (g.K.Sink.held c.refuse_roster.new.talk.sink.now) c.refuse_roster.result c.requires.unwritten c.requires.whole
-    (rw is at c.next_line.ensures.reads) (c.next_line.ensures.looked (λ e. cc (e, is)) (λ e. cc (e, is))) (rw is at c.next_line.ensures.puts) c.refuse_roster.ensures.ends)
+    (behind_end (state_of c.args.talk.now) (state_of now) now.buffer.now.pending (g.S.Source.tape now.source.now) (g.K.Sink.held c.refuse_roster.new.talk.sink.now) c.refuse_roster.result c.cut_first-why.result c.requires.unwritten c.requires.whole
+    (rw is at c.next_line.ensures.reads) (c.next_line.ensures.looked (λ e. cc (e, is)) (λ e. cc (e, is))) (rw is at c.next_line.ensures.puts) c.cut_first-why.ensures c.refuse_roster.ensures.ends)
 
 pub returns-in-PastLimit-clause-ends : goal.returns-in-PastLimit-clause-ends
 returns-in-PastLimit-clause-ends g c =

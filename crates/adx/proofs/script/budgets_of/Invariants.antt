@@ -1,6 +1,6 @@
 -- The budgets of the campaigns so far.
 use Rattle.std.proofs.Common.{◌≡◌, take, map}
-use Rattle.adx.specs.declared.roster.Campaign.{Campaign}
+use Rattle.deal_floor.specs.declared.campaign.Campaign.{Campaign}
 use Rattle.adx.proofs.script.budgets_of.Given as goal
 
 abbrev pub invariant-loop-campaign : goal.invariant-loop-campaign

@@ -13,5 +13,5 @@ pub returns-in_err-push_close-clause-ends : goal.returns-in_err-push_close-claus
 returns-in_err-push_close-clause-ends g c = λ line keeps.
     let p = err_from_is_err_and c.from_residual.result c.from_residual.ensures.1 in
     let held = g.K.Sink.held c.args.talk.now.sink.now in
-    let bytes = string_bytes c.args.talk.now.out.now ++ closing c.args.campaigns.now c.args.number line c.args.day.now.history in
+    let bytes = string_bytes c.args.talk.now.out.now ++ closing c.args.roster.now c.args.number line c.args.day.now.history in
     subst (PutsEnd held held bytes (Ok tt)) (sym (p.1 ∙ ap Err p.2)) (end_unput held bytes (Ok tt))

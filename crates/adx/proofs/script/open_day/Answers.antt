@@ -1,9 +1,12 @@
 -- The terms of a roster.
-use Rattle.std.proofs.Common.{◌∙◌, subst, sym}
+use Rattle.std.proofs.Common.{◌∙◌, map, ap, subst, sym}
 use Rattle.day_rules.specs.Terms.{AreTerms, terms_of}
-use Rattle.adx.specs.Script.{standard_limits}
+use Rattle.deal_floor.specs.declared.campaign.Campaign.{Campaign}
+use Rattle.adx.specs.Script.{day_limits}
 use Rattle.adx.proofs.Rosters.{roster_terms}
 use Rattle.adx.proofs.script.open_day.Goals as goal
 
 pub new-requires : goal.new-requires
-new-requires c = subst (λ budgets. AreTerms (terms_of budgets standard_limits)) (sym (c.as_slice.ensures.value ∙ c.in_ok-budgets.ensures)) (roster_terms c.args.campaigns.now c.requires)
+new-requires c =
+    subst (λ budgets. AreTerms (terms_of budgets (day_limits c.args.roster.now.limits)))
+    (sym (c.as_slice-2.ensures.value ∙ c.in_ok-budgets.ensures ∙ ap (map (λ (x : Campaign). x.budget)) c.as_slice.ensures)) (roster_terms c.args.roster.now)

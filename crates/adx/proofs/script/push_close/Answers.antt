@@ -1,15 +1,19 @@
--- The book has an account for each campaign.
-use Rattle.std.proofs.Common.{◌∙◌, List, length, ap}
-use Rattle.std.proofs.lemmas.List.{length-map}
-use Rattle.campaign_book.specs.Accounts.{Account}
-use Rattle.day_rules.specs.Books.{awards_of}
-use Rattle.day_rules.specs.Terms.{Terms, budgets_after}
-use Rattle.day_rules.proofs.Money.{accounts_length}
-use Rattle.adx.specs.declared.roster.Campaign.{Campaign}
+-- A cut line's refusal, and the table behind it.
+use Rattle.std.proofs.Common.{◌∙◌, ◌++◌, length, ap, sym, string_bytes}
+use Rattle.adx.specs.Output.{closing_table}
+use Rattle.adx.specs.Script.{cut_line, terms_by}
+use Rattle.adx.proofs.AnswerLaws.{budgets_counted}
+use Rattle.adx.proofs.Chains.{and_then}
 use Rattle.adx.proofs.script.push_close.Goals as goal
 
-pub push_table-requires-clause-campaigns : goal.push_table-requires-clause-campaigns
-push_table-requires-clause-campaigns c =
+pub push_books-requires : goal.push_books-requires
+push_books-requires c = budgets_counted c.args.roster.now c.args.day.now.terms c.requires ∙ ap (λ cs. length cs) (sym c.as_slice.ensures)
+
+pub returns : goal.returns
+returns c = λ line keeps.
+    let roster = c.args.roster.now in
     let day = c.args.day.now in
-    ap (λ (accounts : List Account). length accounts) c.book.ensures ∙ accounts_length (budgets_after day.terms day.history) (awards_of day.history)
-    ∙ ap (λ (t : Terms). length t.budgets) c.requires ∙ length-map c.args.campaigns.now (λ (x : Campaign). x.budget)
+    let mid = string_bytes c.push_cut.new.out in
+    and_then (string_bytes c.args.out.now) (cut_line c.args.number line) (closing_table roster.campaigns (terms_by roster) day.history) mid (string_bytes c.push_books.new.out)
+    (c.in_ok-push_books.ensures ∙ ap (λ cs. mid ++ closing_table cs day.terms day.history) c.as_slice.ensures ∙ ap (λ t. mid ++ closing_table roster.campaigns t day.history) c.requires)
+    (c.in_ok-push_cut.ensures line keeps)

@@ -14,7 +14,7 @@ use Rattle.adx.proofs.script.run_lines.Goals as goal
 
 pub lines-init : goal.lines-init
 lines-init g c = record {
-  running = run_starts c.args.campaigns.now [] (state_of c.args.talk.now) c.args.day.now.history c.requires.begins c.requires.unwritten;
+  running = run_starts c.args.roster.now [] (state_of c.args.talk.now) c.args.day.now.history c.requires.begins c.requires.unwritten;
   terms = c.requires.terms;
   work = omega arith;
   read_same = refl;
@@ -27,7 +27,7 @@ lines-preserved g c =
     let is : c.next_line.result ≡ Ok Next.Line = c.in_ok-next_line.was ∙ ap Ok c.in-Line.is in
     let same = c.answer_next.ensures.state in
     let leaves = answer_leaves (state_of c.answer_next.new.talk) (state_of c.next_line.new.self) (state_of c.answer_next.new.talk).out same in record {
-      running = run_more c.args.campaigns.now [] (state_of c.args.talk.now) (state_of c.lines.talk) (state_of c.next_line.new.self) (state_of c.answer_next.new.talk) c.lines.day.history c.answer_next.new.day.history c.lines.number (state_of c.answer_next.new.talk).out
+      running = run_more c.args.roster.now [] (state_of c.args.talk.now) (state_of c.lines.talk) (state_of c.next_line.new.self) (state_of c.answer_next.new.talk) c.lines.day.history c.answer_next.new.day.history c.lines.number (state_of c.answer_next.new.talk).out
           c.lines.invariant.running (rw is at c.next_line.ensures.reads) (rw is at c.next_line.ensures.puts) c.in_ok-answer_next-in-Line.ensures.answered same;
       terms = c.answer_next.ensures.terms ∙ c.lines.invariant.terms;
       work = omega (arith, c.lines.invariant.work, c.next_line.ensures.goes_on is, leaves.0);
@@ -41,24 +41,24 @@ returns-in_err-next_line-clause-ends g c =
     let p = err_from_is_err_and c.from_residual.result c.from_residual.ensures.1 in
     let stop = c.in_err-next_line.field-0.0 in
     let now = c.next_line.new.self in
-    subst (λ r. EndsTalk (state_of c.args.talk.now).allowed (script_of c.args.campaigns.now []) (state_of c.args.talk.now) (g.S.Source.tape now.source.now) (g.K.Sink.held now.sink.now) r) (sym (p.1 ∙ ap Err p.2))
-    (run_stopped c.args.campaigns.now [] (state_of c.args.talk.now) (state_of c.lines.talk) (state_of now) c.lines.day.history c.lines.number now.buffer.now.pending (g.S.Source.tape now.source.now) stop (legal_none (terms_by c.args.campaigns.now)) c.lines.invariant.running
+    subst (λ r. EndsTalk (state_of c.args.talk.now).allowed (script_of c.args.roster.now []) (state_of c.args.talk.now) (g.S.Source.tape now.source.now) (g.K.Sink.held now.sink.now) r) (sym (p.1 ∙ ap Err p.2))
+    (run_stopped c.args.roster.now [] (state_of c.args.talk.now) (state_of c.lines.talk) (state_of now) c.lines.day.history c.lines.number now.buffer.now.pending (g.S.Source.tape now.source.now) stop (legal_none (terms_by c.args.roster.now)) c.lines.invariant.running
     c.in_err-next_line.ensures.reads c.next_line.ensures.ahead (λ other. c.in_err-next_line.ensures.looked (λ e. cc e) (λ e. other (cc e))) c.in_err-next_line.ensures.puts)
 
 pub returns-in-End-clause-ends : goal.returns-in-End-clause-ends
 returns-in-End-clause-ends g c =
     let is : c.next_line.result ≡ Ok Next.End = c.in_ok-next_line.was ∙ ap Ok c.in-End.is in
     let now = c.next_line.new.self in
-    subst (λ t. EndsTalk (state_of c.args.talk.now).allowed (script_of c.args.campaigns.now []) (state_of c.args.talk.now) t (g.K.Sink.held c.close.new.talk.sink.now) c.close.result) (sym (ap (λ (x : MutBor _). g.S.Source.tape x.now) c.close.ensures.rest.0))
-    (run_done c.args.campaigns.now [] (state_of c.args.talk.now) (state_of c.lines.talk) (state_of now) c.lines.day.history c.lines.number now.buffer.now.pending (g.S.Source.tape now.source.now) (g.K.Sink.held c.close.new.talk.sink.now) c.close.result (legal_none (terms_by c.args.campaigns.now)) c.lines.invariant.running
+    subst (λ t. EndsTalk (state_of c.args.talk.now).allowed (script_of c.args.roster.now []) (state_of c.args.talk.now) t (g.K.Sink.held c.close.new.talk.sink.now) c.close.result) (sym (ap (λ (x : MutBor _). g.S.Source.tape x.now) c.close.ensures.rest.0))
+    (run_done c.args.roster.now [] (state_of c.args.talk.now) (state_of c.lines.talk) (state_of now) c.lines.day.history c.lines.number now.buffer.now.pending (g.S.Source.tape now.source.now) (g.K.Sink.held c.close.new.talk.sink.now) c.close.result (legal_none (terms_by c.args.roster.now)) c.lines.invariant.running
     (rw is at c.next_line.ensures.reads) (rw is at c.next_line.ensures.puts) c.close.ensures.ends)
 
 pub returns-in-PastLimit-clause-ends : goal.returns-in-PastLimit-clause-ends
 returns-in-PastLimit-clause-ends g c =
     let is : c.next_line.result ≡ Ok Next.PastLimit = c.in_ok-next_line.was ∙ ap Ok c.in-PastLimit.is in
     let now = c.next_line.new.self in
-    subst (λ t. EndsTalk (state_of c.args.talk.now).allowed (script_of c.args.campaigns.now []) (state_of c.args.talk.now) t (g.K.Sink.held c.refuse_rest.new.talk.sink.now) c.refuse_rest.result) (sym (ap (λ (x : MutBor _). g.S.Source.tape x.now) c.refuse_rest.ensures.rest.0))
-    (run_past c.args.campaigns.now [] (state_of c.args.talk.now) (state_of c.lines.talk) (state_of now) c.lines.day.history c.lines.number now.buffer.now.pending (g.S.Source.tape now.source.now) (g.K.Sink.held c.refuse_rest.new.talk.sink.now) c.refuse_rest.result (legal_none (terms_by c.args.campaigns.now)) c.lines.invariant.running
+    subst (λ t. EndsTalk (state_of c.args.talk.now).allowed (script_of c.args.roster.now []) (state_of c.args.talk.now) t (g.K.Sink.held c.refuse_rest.new.talk.sink.now) c.refuse_rest.result) (sym (ap (λ (x : MutBor _). g.S.Source.tape x.now) c.refuse_rest.ensures.rest.0))
+    (run_past c.args.roster.now [] (state_of c.args.talk.now) (state_of c.lines.talk) (state_of now) c.lines.day.history c.lines.number now.buffer.now.pending (g.S.Source.tape now.source.now) (g.K.Sink.held c.refuse_rest.new.talk.sink.now) c.refuse_rest.result (legal_none (terms_by c.args.roster.now)) c.lines.invariant.running
     (rw is at c.next_line.ensures.reads) (c.next_line.ensures.looked (λ e. cc (e, is)) (λ e. cc (e, is))) (rw is at c.next_line.ensures.puts) c.refuse_rest.ensures.ends)
 
 pub returns-in_err-answer_next-in-Line-clause-ends : goal.returns-in_err-answer_next-in-Line-clause-ends
@@ -67,7 +67,7 @@ returns-in_err-answer_next-in-Line-clause-ends g c =
     let is : c.next_line.result ≡ Ok Next.Line = c.in_ok-next_line.was ∙ ap Ok c.in-Line.is in
     let now = c.next_line.new.self in
     let last = c.answer_next.new.talk in
-    subst (λ r. EndsTalk (state_of c.args.talk.now).allowed (script_of c.args.campaigns.now []) (state_of c.args.talk.now) (g.S.Source.tape last.source.now) (g.K.Sink.held last.sink.now) r) (sym (p.1 ∙ ap Err (p.2 ∙ c.in_err-answer_next-in-Line.ensures.failed)))
-    (subst (λ h. EndsTalk (state_of c.args.talk.now).allowed (script_of c.args.campaigns.now []) (state_of c.args.talk.now) (g.S.Source.tape last.source.now) h (Err (Ending.Stopped Stop.OutOfMemory))) (sym (answer_leaves (state_of last) (state_of now) (state_of last).out c.answer_next.ensures.state).3)
-    (subst (λ t. EndsTalk (state_of c.args.talk.now).allowed (script_of c.args.campaigns.now []) (state_of c.args.talk.now) t (g.K.Sink.held now.sink.now) (Err (Ending.Stopped Stop.OutOfMemory))) (sym (ap (λ (x : MutBor _). g.S.Source.tape x.now) c.answer_next.ensures.rest.0))
-    (run_unanswered c.args.campaigns.now [] (state_of c.args.talk.now) (state_of c.lines.talk) (state_of now) c.lines.day.history c.lines.number now.buffer.now.pending (g.S.Source.tape now.source.now) (legal_none (terms_by c.args.campaigns.now)) c.lines.invariant.running (rw is at c.next_line.ensures.reads) c.next_line.ensures.ahead (rw is at c.next_line.ensures.puts))))
+    subst (λ r. EndsTalk (state_of c.args.talk.now).allowed (script_of c.args.roster.now []) (state_of c.args.talk.now) (g.S.Source.tape last.source.now) (g.K.Sink.held last.sink.now) r) (sym (p.1 ∙ ap Err (p.2 ∙ c.in_err-answer_next-in-Line.ensures.failed)))
+    (subst (λ h. EndsTalk (state_of c.args.talk.now).allowed (script_of c.args.roster.now []) (state_of c.args.talk.now) (g.S.Source.tape last.source.now) h (Err (Ending.Stopped Stop.OutOfMemory))) (sym (answer_leaves (state_of last) (state_of now) (state_of last).out c.answer_next.ensures.state).3)
+    (subst (λ t. EndsTalk (state_of c.args.talk.now).allowed (script_of c.args.roster.now []) (state_of c.args.talk.now) t (g.K.Sink.held now.sink.now) (Err (Ending.Stopped Stop.OutOfMemory))) (sym (ap (λ (x : MutBor _). g.S.Source.tape x.now) c.answer_next.ensures.rest.0))
+    (run_unanswered c.args.roster.now [] (state_of c.args.talk.now) (state_of c.lines.talk) (state_of now) c.lines.day.history c.lines.number now.buffer.now.pending (g.S.Source.tape now.source.now) (legal_none (terms_by c.args.roster.now)) c.lines.invariant.running (rw is at c.next_line.ensures.reads) c.next_line.ensures.ahead (rw is at c.next_line.ensures.puts))))
