@@ -1,13 +1,13 @@
 -- What the asks of a legal history are like: formed, and with one award of each impression at most.
-use Rattle.std.proofs.Common.{◌≡◌, ◌↔◌, ℕ, ◌+◌, ◌<◌, ◌≤◌, ◌^◌, List, [], ◌∷◌, ◌++◌, map, length, Bool, true, false, ◌&&◌, ◌||◌, eqb, refl, sym, ap, ◌∙◌, subst, arith, Option, Some, None}
-use Rattle.std.specs.List.{All, cons_option, filter, find, slice_get}
+use Rattle.std.proofs.Common.{◌≡◌, ℕ, List, [], ◌∷◌, length, Bool, true, false, ◌&&◌, ◌||◌, eqb, refl, sym, ap, ◌∙◌, Option, Some, None}
+use Rattle.std.specs.List.{All, cons_option, filter, find}
 use Rattle.std.proofs.lemmas.Bool.{eqb-true, false≢true}
 use Rattle.std.proofs.lemmas.List.Elements.{All-append, All-cons, All-nil}
 use Rattle.adx_units.specs.declared.offer.Offer.{Offer}
 use Rattle.allocator_core.specs.declared.reason.TheConstants.{AWARDED, LOST_TO_HIGHER, OVER_BUDGET}
 use Rattle.day_rules.specs.declared.ask.Ask.{Ask}
 use Rattle.day_rules.specs.declared.entry.Entry.{Entry}
-use Rattle.day_rules.specs.Asks.{IsWellFormed, is_decided}
+use Rattle.day_rules.specs.Asks.{IsWellFormed}
 use Rattle.day_rules.specs.Laws.{StandsSettled, choice_for}
 use Rattle.day_rules.specs.Legal.{AskMayFollow, IsLegal, MayFollow}
 use Rattle.day_rules.specs.Terms.{Terms}

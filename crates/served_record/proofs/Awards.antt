@@ -1,6 +1,6 @@
 -- The awards of a history entry by entry, what they charge, and how many they are.
-use Rattle.std.proofs.Common.{◌≡◌, ℕ, zero, suc, ◌+◌, ◌<◌, ◌≤◌, ◌^◌, List, [], ◌∷◌, ◌++◌, map, length, take, drop, get_or, Bool, true, false, cond, refl, sym, ap, ap₂, ◌∙◌, subst, arith, is_some, Option, Some, None, option_map}
-use Rattle.std.specs.List.{All, cons_option, enumerate_from, filter, find, flat_map, range_with_len, sum_by}
+use Rattle.std.proofs.Common.{◌≡◌, ℕ, zero, suc, ◌+◌, ◌<◌, ◌≤◌, List, [], ◌∷◌, ◌++◌, map, length, take, drop, get_or, Bool, cond, refl, sym, ap, ap₂, ◌∙◌, subst, arith, is_some, Option, Some, None, option_map}
+use Rattle.std.specs.List.{All, cons_option, enumerate_from, find, flat_map, range_with_len}
 use Rattle.std.proofs.lemmas.List.{append-nil, append_assoc, drop_more, length-append, length-map, length-take-le, map-append, take-append-drop, take_more}
 use Rattle.std.proofs.lemmas.Grind.{flat_map-append}
 use Rattle.std.proofs.lemmas.List.Elements.{All-head, All-tail}
@@ -10,7 +10,7 @@ use Rattle.notice_book.specs.declared.award.Award.{Award}
 use Rattle.notice_book.specs.declared.kind.NoticeKind.{NoticeKind}
 use Rattle.day_rules.specs.declared.ask.Ask.{Ask}
 use Rattle.day_rules.specs.declared.entry.Entry.{Entry}
-use Rattle.day_rules.specs.Books.{award_of, awarded_offers, awards_of, left_by, made, made_by, sale_of, sales_of}
+use Rattle.day_rules.specs.Books.{award_of, awarded_offers, awards_of, left_by, made, made_by, sale_of}
 use Rattle.day_rules.specs.DayState.{IsDay}
 use Rattle.day_rules.specs.Legal.{IsLegal, MayFollow}
 use Rattle.day_rules.specs.Terms.{Terms}

@@ -1,5 +1,5 @@
 -- On lists alone: the only item that passes a test, and lists cut at an item.
-use Rattle.std.proofs.Common.{◌≡◌, ℕ, zero, suc, ◌+◌, ◌<◌, ◌≤◌, List, [], ◌∷◌, ◌++◌, map, length, get_or, Bool, true, false, cond, ◌&&◌, ltb, refl, sym, ap, ◌∙◌, subst, arith, ap₂, is_some, Option, Some, None, option_and_then}
+use Rattle.std.proofs.Common.{◌≡◌, ℕ, zero, suc, ◌<◌, ◌≤◌, List, [], ◌∷◌, ◌++◌, map, length, get_or, Bool, true, false, cond, ◌&&◌, ltb, refl, sym, ap, ◌∙◌, arith, ap₂, is_some, Option, Some, None, option_and_then}
 use Rattle.std.specs.List.{All, cons_option, filter, find, position, position_or_len, slice_get}
 use Rattle.std.proofs.lemmas.Bool.{ltb-false, ltb-true}
 use Rattle.std.proofs.lemmas.List.Folds.{find_at}

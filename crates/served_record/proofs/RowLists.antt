@@ -1,11 +1,11 @@
 -- The rows of entries: what they show of the history, that they may stand in a record, and whose awards they tell.
-use Rattle.std.proofs.Common.{◌≡◌, ℕ, zero, suc, ◌+◌, ◌-◌, ◌*◌, ◌<◌, ◌≤◌, ◌^◌, List, [], ◌∷◌, ◌++◌, map, length, drop, get_or, Bool, true, false, cond, ◌&&◌, ◌||◌, refl, sym, ap, ap₂, ◌∙◌, subst, inl, inr, arith, is_some, Option, Some, None, option_map, option_and_then}
-use Rattle.std.specs.List.{All, cons_option, filter, find, flat_map, position, range_with_len, slice_get, sum_by}
+use Rattle.std.proofs.Common.{◌≡◌, ℕ, zero, suc, ◌+◌, ◌-◌, ◌*◌, ◌<◌, ◌≤◌, ◌^◌, List, [], ◌∷◌, ◌++◌, map, length, drop, get_or, Bool, true, false, cond, ◌&&◌, refl, sym, ap, ap₂, ◌∙◌, subst, inl, inr, arith, is_some, Option, Some, None, option_map, option_and_then}
+use Rattle.std.specs.List.{All, cons_option, find, position, range_with_len, slice_get}
 use Rattle.std.specs.Option.{ForSome, option_map_or}
 use Rattle.std.proofs.lemmas.Bool.{false≢true}
 use Rattle.std.proofs.lemmas.List.{drop_more}
 use Rattle.std.proofs.lemmas.List.{append_assoc, length-append, length-map, map-append}
-use Rattle.std.proofs.lemmas.List.Elements.{All-append, All-cons, All-filter, All-head, All-map, All-nil, All-tail}
+use Rattle.std.proofs.lemmas.List.Elements.{All-append, All-cons, All-head, All-nil, All-tail}
 use Rattle.std.proofs.lemmas.List.Quantifiers.{position-Some}
 use Rattle.std.proofs.lemmas.List.Sums.{sum_by-cons}
 use Rattle.adx_units.specs.declared.offer.Offer.{Offer}
@@ -13,20 +13,18 @@ use Rattle.adx_units.specs.Money.{units}
 use Rattle.notice_book.specs.declared.award.Award.{Award}
 use Rattle.day_rules.specs.declared.ask.Ask.{Ask}
 use Rattle.day_rules.specs.declared.entry.Entry.{Entry}
-use Rattle.day_rules.specs.declared.limits.TheConstants.{MAX_IMPS}
 use Rattle.day_rules.specs.Asks.{IsAdmittedOffer, IsOffer, IsRefusal, is_decided}
 use Rattle.day_rules.specs.Books.{ask_count}
 use Rattle.day_rules.specs.Entries.{asked}
 use Rattle.day_rules.proofs.Lists.{get-append_left, get-append_right}
 use Rattle.bid_record.specs.declared.rows.Charge.{Charge}
-use Rattle.bid_record.specs.declared.rows.End.{End}
 use Rattle.bid_record.specs.declared.rows.ImpRow.{ImpRow}
 use Rattle.bid_record.specs.Records.{IsCharge}
 use Rattle.hindsight.specs.Assignments.{no_charge}
 use Rattle.served_record.specs.Served.{admitted, charge_of, chosen_of, each_in, each_of, end_told, impression_of, is_admitted, is_awarded, name_of}
 use Rattle.served_record.specs.Steps.{IsNamed, end_at, imps_of, is_award, row_by, rows_by, rows_for, rows_in, sold_by, sold_for, sold_in, sold_of}
 use Rattle.served_record.proofs.Asked.{AskIsSettled, IsSettled, awarded_admitted}
-use Rattle.served_record.proofs.Awards.{award_charge, charge_at, charges_by, charges_for, charges_in, entry_long}
+use Rattle.served_record.proofs.Awards.{award_charge, charges_by, charges_for, charges_in, entry_long}
 use Rattle.served_record.proofs.Lists.{cut, found_at, placed_found}
 use Rattle.served_record.proofs.Told.{Told, TellsBy, told_append}
 

@@ -1,5 +1,5 @@
 -- Rows of a record beside the awards that their chosen offers are.
-use Rattle.std.proofs.Common.{◌≡◌, ℕ, ◌+◌, ◌<◌, ◌≤◌, List, [], ◌∷◌, ◌++◌, map, length, get_or, Bool, true, false, cond, ◌&&◌, eqb, refl, sym, ap, ap₂, ◌∙◌, subst, arith, is_some, Option, Some, None}
+use Rattle.std.proofs.Common.{◌≡◌, ℕ, ◌+◌, List, [], ◌∷◌, ◌++◌, map, get_or, Bool, true, false, cond, ◌&&◌, eqb, refl, sym, ap, ap₂, ◌∙◌, subst, arith, is_some, Option, Some, None}
 use Rattle.std.specs.List.{All, filter, sum_by}
 use Rattle.std.proofs.lemmas.List.Elements.{All-cons, All-nil}
 use Rattle.std.proofs.lemmas.List.Sums.{sum_by-cons}

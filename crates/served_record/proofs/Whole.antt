@@ -1,5 +1,5 @@
 -- The rows of a whole history: what a record says of it, and that it may stand in a record.
-use Rattle.std.proofs.Common.{◌≡◌, ℕ, zero, suc, ◌+◌, ◌<◌, ◌≤◌, ◌^◌, List, [], ◌∷◌, map, length, get_or, refl, sym, ap, ap₂, ◌∙◌, subst, arith, min, Option, Some}
+use Rattle.std.proofs.Common.{◌≡◌, ℕ, zero, suc, ◌<◌, ◌≤◌, List, [], ◌∷◌, map, length, get_or, refl, sym, ap, ap₂, ◌∙◌, subst, arith, min, Some}
 use Rattle.std.specs.List.{All, enumerate_from, slice_get, sum_by}
 use Rattle.std.proofs.lemmas.List.{length-map}
 use Rattle.std.proofs.lemmas.List.Elements.{All-weaker}
@@ -15,8 +15,6 @@ use Rattle.day_rules.proofs.Counting.{day_asks}
 use Rattle.day_rules.proofs.Within.{held_sum, within_budget}
 use Rattle.bid_record.specs.declared.record.Record.{Record}
 use Rattle.bid_record.specs.declared.rows.CampaignRow.{CampaignRow}
-use Rattle.bid_record.specs.declared.rows.End.{End}
-use Rattle.bid_record.specs.declared.rows.ImpName.{ImpName}
 use Rattle.bid_record.specs.declared.rows.ImpRow.{ImpRow}
 use Rattle.bid_record.specs.Records.{IsImp, IsSound}
 use Rattle.bid_record.proofs.CampaignLines.{of_none, of_some}
@@ -25,7 +23,6 @@ use Rattle.day_close.specs.Closing.{money_in}
 use Rattle.served_record.specs.Opened.{IsHistoryOf, IsOpened, budgets_of}
 use Rattle.served_record.specs.Served.{IsRecordOf, chosen_of, each_in, earned_in, end_told, ends_of, impression_of, impressions_in, name_of}
 use Rattle.served_record.specs.Steps.{AsksFew, IsNamed, rows_in}
-use Rattle.served_record.specs.declared.opened.OpenedDay.{OpenedDay}
 use Rattle.served_record.proofs.Asked.{AskIsSettled, all_settled}
 use Rattle.served_record.proofs.Awards.{awards_charge}
 use Rattle.served_record.proofs.Lists.{all_three}
@@ -119,10 +116,10 @@ rows_within campaigns history rows h is campaign row below =
     omega (arith, money, within, budget)
 
 -- what an assignment earns by the record is what it earns by the history
-pub earned_same : (opened : OpenedDay) (history : List Entry) (r : Record) (picks : Assignment) → IsRecordOf opened history r → earned_in picks opened.campaigns history ≡ earned picks r
-earned_same opened history r picks h =
+pub earned_same : (day : List ℕ) (campaigns : List CampaignRow) (history : List Entry) (r : Record) (picks : Assignment) → IsRecordOf day campaigns history r → earned_in picks campaigns history ≡ earned picks r
+earned_same day campaigns history r picks h =
     ap₂ (λ (cs : List CampaignRow) (imps : List Impression). sum_by (λ (p : ℕ × CampaignRow). min p.1.budget.0 (assigned picks imps p.0)) (enumerate_from 0 cs))
-    (sym h.campaigns) (sym h.impressions_are)
+    (sym h.campaigns_are) (sym h.impressions_are)
 
 -- a day's history is one of its campaigns
 pub history_of : (campaigns : List CampaignRow) (terms : Terms) (history : List Entry) → budgets_of campaigns ≡ terms.budgets → IsDay terms history → IsHistoryOf campaigns history

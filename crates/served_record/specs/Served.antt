@@ -21,7 +21,6 @@ use Rattle.bid_record.specs.declared.rows.ImpName.{ImpName}
 use Rattle.bid_record.specs.declared.rows.ImpRow.{ImpRow}
 use Rattle.hindsight.specs.Assignments.{Assignment, Impression, assigned, impressions}
 use Rattle.day_close.specs.Closing.{money_in}
-use Rattle.served_record.specs.declared.opened.OpenedDay.{OpenedDay}
 
 -- the offer was admitted for that impression: it was awarded, it lost to another, or its budget didn't hold it
 abbrev pub is_admitted : ℕ → Offer → Bool
@@ -76,11 +75,11 @@ has_chosen row = is_some row.chosen
 abbrev pub ends_of : List ImpRow → List (Option End)
 ends_of rows = map (λ (row : ImpRow). row.end) (filter has_chosen rows)
 
--- the record is that of the day with the history
-pub record IsRecordOf (opened : OpenedDay) (history : List Entry) (r : Record) : Type 0 where
+-- the record is that of a day with these campaigns and this history
+pub record IsRecordOf (day : List ℕ) (campaigns : List CampaignRow) (history : List Entry) (r : Record) : Type 0 where
   pub format : r.format ≡ 2
-  pub day : r.day ≡ opened.day
-  pub campaigns : r.campaigns ≡ opened.campaigns
+  pub day_is : r.day ≡ day
+  pub campaigns_are : r.campaigns ≡ campaigns
   pub names : map (λ (row : ImpRow). row.name) r.imps ≡ each_in name_of history
   pub impressions_are : impressions r ≡ impressions_in history
   pub chosen : map (λ (row : ImpRow). row.chosen) r.imps ≡ each_in chosen_of history

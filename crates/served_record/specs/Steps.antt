@@ -1,7 +1,7 @@
 -- Private, cited by helpers alone: the rows of a record one after another, and the awards of a history entry by entry.
-use Rattle.std.specs.Prelude.{◌≡◌, ℕ, ◌+◌, ◌≤◌, ◌<◌, ◌^◌, List, [], ◌∷◌, ◌++◌, map, length, find, Bool, ◌&&◌, ◌==◌, if◌then◌else◌, Option, Some, None, is_some, option_map, option_and_then, slice_get}
+use Rattle.std.specs.Prelude.{ℕ, ◌+◌, ◌≤◌, ◌<◌, ◌^◌, List, [], ◌∷◌, ◌++◌, length, find, Bool, ◌&&◌, ◌==◌, if◌then◌else◌, Option, is_some, option_map, option_and_then, slice_get}
 use Rattle.std.specs.Option.{ForSome}
-use Rattle.std.specs.List.{cons_option, count_by, flat_map, range_with_len, sum_by}
+use Rattle.std.specs.List.{cons_option, flat_map, range_with_len, sum_by}
 use Rattle.adx_units.specs.declared.offer.Offer.{Offer}
 use Rattle.allocator_core.specs.declared.reason.TheConstants.{AWARDED}
 use Rattle.notice_book.specs.AwardList.{Counts, expired_by, noticed}

@@ -2,15 +2,15 @@
 ghost use Rattle.std.specs.Prelude.{◌≡◌, ◌≤◌, IfOk};
 ghost use Rattle.hindsight.specs.Assignments.{Assignment};
 ghost use Rattle.day_close.specs.Closing.{IsClosing};
-ghost use Rattle.served_record.specs.Opened.{IsHistoryOf};
+ghost use Rattle.served_record.specs.Opened.{IsHistoryOf, campaign_rows};
 ghost use Rattle.served_record.specs.Served.{IsRecordOf, earned_in};
 
-use crate::opened::OpenedDay;
 use crate::served::record_of;
 use adx_units::OutOfMemory;
 use bid_record::Record;
 use day_close::close;
 use day_rules::Entry;
+use deal_floor::Roster;
 use dual_cert::Cert;
 use std::alloc::Global;
 
@@ -21,22 +21,22 @@ pub struct ClosedDay {
     pub cert: Cert,
 }
 
-/// Closes a day: its record by its history, and the closer's certificate of that record.
+/// Closes a roster's day: its record by its history, and the closer's certificate of that record.
 pub fn close_day(
     alloc: Global,
-    opened: OpenedDay,
+    roster: &Roster,
     entries: &[Entry],
 ) -> Result<ClosedDay, OutOfMemory>
-    // The entries are a legal history of the day.
-    requires { IsHistoryOf opened.campaigns entries.now }
+    // The entries are a legal history of the roster.
+    requires { IsHistoryOf (campaign_rows roster.now.campaigns) entries.now }
     // The record is that of the history.
-    ensures served { IfOk result (λ d. IsRecordOf opened entries.now d.record) }
+    ensures served { IfOk result (λ d. IsRecordOf roster.entry.now.day (campaign_rows roster.entry.now.campaigns) entries.now d.record) }
     // The certificate is the closer's of that record.
     ensures closing { IfOk result (λ d. IsClosing d.record d.cert) }
     // No assignment of the history's impressions earns more than its bound.
-    ensures hindsight { IfOk result (λ d. (picks : Assignment) → earned_in picks opened.campaigns entries.now ≤ d.cert.bound) }
+    ensures hindsight { IfOk result (λ d. (picks : Assignment) → earned_in picks (campaign_rows roster.entry.now.campaigns) entries.now ≤ d.cert.bound) }
 {
-    let record = record_of(alloc, opened, entries)?;
+    let record = record_of(alloc, roster, entries)?;
     let cert = close(alloc, &record)?;
     Ok(ClosedDay { record, cert })
 }

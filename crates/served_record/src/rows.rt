@@ -1,11 +1,12 @@
 //! The rows of a record, entry by entry.
 ghost use Rattle.std.specs.Prelude.{◌≡◌, ℕ, ◌+◌, ◌<◌, ◌≤◌, ◌^◌, ◌++◌, All, IfOk, OnOk, Some, if◌then◌else◌, is_some, length, map, position};
 ghost use Rattle.day_rules.specs.Asks.{is_decided as is_decided_by};
-ghost use Rattle.bid_record.specs.Records.{IsImpName, IsName};
+ghost use Rattle.bid_record.specs.Records.{IsImpName};
 ghost use Rattle.served_record.specs.Served.{admitted, charge_of as charge_by, end_told, is_admitted as is_admitted_for, is_awarded, name_of as name_by};
 ghost use Rattle.served_record.specs.Steps.{AsksFew, IsNamed, end_at, imps_of, row_by, rows_by, rows_for, rows_in, sold_by, sold_in, sold_of};
 
-use adx_units::{Id, Offer, OutOfMemory, Sequence};
+use crate::copies::copy_of;
+use adx_units::{Offer, OutOfMemory, Sequence};
 use allocator_core::{AWARDED, LOST_TO_HIGHER, OVER_BUDGET};
 use bid_record::{Charge, End, ImpName, ImpRow};
 use day_rules::{Ask, Entry};
@@ -121,15 +122,6 @@ fn name_of(alloc: Global, ask: &Ask, imp: usize) -> Result<ImpName, OutOfMemory>
         auction: copy_of(alloc, &ask.auction)?,
         imp: copy_of(alloc, &ask.imps.as_slice()[imp])?,
     })
-}
-
-/// A copy of a name.
-fn copy_of(alloc: Global, name: &Id) -> Result<Id, OutOfMemory>
-    ensures copy { IfOk result (λ i. i ≡ name.now) }
-    ensures named { IsName name.now }
-{
-    let _bytes = name.as_bytes();
-    name.copy(alloc)
 }
 
 /// What the offers charge that were admitted for the impression.

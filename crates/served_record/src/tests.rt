@@ -1,58 +1,50 @@
 //! Days that are served, closed and checked, with their documents.
-ghost use Rattle.std.specs.Prelude.{◌≡◌, ◌≤◌, ◌^◌, ◌∷◌, [], IfOk, IfSome, Some};
-ghost use Rattle.adx_units.specs.Money.{units};
+ghost use Rattle.std.specs.Prelude.{◌≡◌, IfOk, IfSome, map};
 ghost use Rattle.day_rules.specs.DayState.{IsDay};
-ghost use Rattle.bid_record.specs.Records.{IsCampaign, IsName};
-ghost use Rattle.served_record.specs.Opened.{budgets_of};
+ghost use Rattle.day_rules.specs.Terms.{AreTerms, terms_of};
 
-use crate::{ClosedDay, OpenedDay, close_day};
+use crate::{ClosedDay, close_day};
+use adx_json::read;
 use adx_units::{Id, Offer, OutOfMemory, Sequence, Text, Units};
-use bid_record::{CampaignRow, write_record};
+use bid_record::write_record;
 use cert_check::{Verdict, check};
 use day_machine::{Ask, Day, DayLimits, Entry, Kept};
+use deal_floor::Roster;
 use dual_cert::write_cert;
 use std::alloc::Global;
 use std::process::Abort;
 use std::test::Fail;
 
 /// A name of a table.
-fn name(alloc: Global, text: &str) -> Result<Id, OutOfMemory>
-    ensures value { IfOk result (λ i. i ≡ text.now) }
-    ensures named { IfOk result (λ i. IsName i) }
-{
-    let id = Id::of(alloc, text)?.ok_or(OutOfMemory)?;
-    let _bytes = id.as_bytes();
-    Ok(id)
+fn name(alloc: Global, text: &str) -> Result<Id, OutOfMemory> {
+    Id::of(alloc, text)?.ok_or(OutOfMemory)
 }
 
-/// A campaign of the seat `s1`.
-fn campaign(alloc: Global, cid: &str, budget: u64) -> Result<CampaignRow, OutOfMemory>
-    requires positive { 1 ≤ budget }
-    requires within { budget ≤ 10 ^ 15 }
-    ensures row { IfOk result (λ c. IsCampaign 2 c) }
-    ensures cid { IfOk result (λ c. c.cid ≡ cid.now) }
-    ensures budget { IfOk result (λ c. c.budget ≡ units budget) }
-    ensures changes { IfOk result (λ c. c.changes ≡ Some 0) }
-{
-    Ok(CampaignRow {
-        seat: name(alloc, "s1")?,
-        cid: name(alloc, cid)?,
-        budget: Units(budget),
-        changes: Some(0),
-    })
+/// The first of March 2025, with two campaigns: 100 and 10,000 units.
+const ROSTER: &str =
+    r#"{"day":"2025-03-01","bidders":[{"name":"b1"}],"campaigns":[{"bidder":"b1","seat":"s1","cid":"c1","budget":0.0000001},{"bidder":"b1","seat":"s1","cid":"c2","budget":0.00001}]}"#;
+
+/// The roster of all cases.
+fn roster(alloc: Global) -> Result<Roster, OutOfMemory> {
+    let Ok(tree) = read(alloc, ROSTER.as_bytes()) else {
+        return Err(OutOfMemory);
+    };
+    match Roster::of(alloc, &tree) {
+        Ok(roster) => Ok(roster),
+        Err(_) => Err(OutOfMemory),
+    }
 }
 
-/// The first of March 2025, with two campaigns.
-fn opened(alloc: Global) -> Result<OpenedDay, OutOfMemory>
-    ensures { IfOk result (λ o. budgets_of o.campaigns ≡ units 100 ∷ units 10000 ∷ []) }
+/// The budgets of a roster.
+fn budgets(alloc: Global, roster: &Roster) -> Result<Vec<Units>, OutOfMemory>
+    ensures { IfOk result (λ b. b.items ≡ map (λ c. c.budget) roster.entry.now.campaigns) }
 {
-    let mut campaigns = Vec::new(alloc);
-    campaigns.push(campaign(alloc, "c1", 100)?)?;
-    campaigns.push(campaign(alloc, "c2", 10_000)?)?;
-    Ok(OpenedDay {
-        day: Text::of(alloc, "2025-03-01")?,
-        campaigns: Sequence::from(campaigns),
-    })
+    let campaigns = roster.campaigns.as_slice();
+    let budgets = campaigns
+        .iter()
+        .map(|campaign| campaign.budget)
+        .collect(alloc)?;
+    Ok(budgets)
 }
 
 /// A bid: its impression, campaign, charge, life and reason.
@@ -150,19 +142,6 @@ fn entry(alloc: Global, given: Given) -> Result<Entry, OutOfMemory> {
     })
 }
 
-/// A day of the two campaigns without entries.
-fn open(alloc: Global) -> Result<Day, OutOfMemory>
-    ensures budgets { IfOk result (λ d. d.terms.budgets ≡ units 100 ∷ units 10000 ∷ []) }
-    ensures day { IfOk result (λ d. IsDay d.terms d.history) }
-{
-    let limits = DayLimits {
-        auctions: 100,
-        bids: 100,
-        text: 100_000,
-    };
-    Day::new(alloc, &[Units(100), Units(10_000)], limits)
-}
-
 /// Adds the entry where it is legal, and tells whether it was.
 fn follow(day: &mut Day, entry: Entry) -> Result<bool, OutOfMemory>
     requires { IsDay day.old.terms day.old.history }
@@ -178,26 +157,23 @@ fn follow(day: &mut Day, entry: Entry) -> Result<bool, OutOfMemory>
 }
 
 /// The day that these entries make. None where one of them isn't legal.
-fn played(alloc: Global, table: &[Given]) -> Result<Option<Day>, OutOfMemory>
-    ensures budgets { IfOk result (λ o. IfSome o (λ d. d.terms.budgets ≡ units 100 ∷ units 10000 ∷ [])) }
+fn played(
+    alloc: Global,
+    budgets: &[Units],
+    limits: DayLimits,
+    table: &[Given],
+) -> Result<Option<Day>, OutOfMemory>
+    requires { AreTerms (terms_of budgets.now limits) }
+    ensures budgets { IfOk result (λ o. IfSome o (λ d. d.terms.budgets ≡ budgets.now)) }
     ensures day { IfOk result (λ o. IfSome o (λ d. IsDay d.terms d.history)) }
 {
-    let mut day = open(alloc)?;
+    let mut day = Day::new(alloc, budgets, limits)?;
     for given in table {
         if !follow(&mut day, entry(alloc, *given)?)? {
             return Ok(None);
         }
     }
     Ok(Some(day))
-}
-
-/// The day closed.
-fn closed(alloc: Global, day: &Day) -> Result<ClosedDay, OutOfMemory>
-    requires budgets { day.now.terms.budgets ≡ units 100 ∷ units 10000 ∷ [] }
-    requires day { IsDay day.now.terms day.now.history }
-{
-    let opened = opened(alloc)?;
-    close_day(alloc, opened, day.entries())
 }
 
 /// A day's entries, its documents, and the bound that a checker accepts.
@@ -315,8 +291,23 @@ fn empty() -> Case {
 
 /// The day of a case, closed.
 fn closed_of(alloc: Global, case: Case) -> Result<ClosedDay, OutOfMemory> {
-    let day = played(alloc, case.table)?.ok_or(OutOfMemory)?;
-    closed(alloc, &day)
+    let roster = roster(alloc)?;
+    let budgets = budgets(alloc, &roster)?;
+    let limits = DayLimits {
+        auctions: 100,
+        bids: 100,
+        text: 100_000,
+    };
+    let day = played(alloc, budgets.as_slice(), limits, case.table)?.ok_or(OutOfMemory)?;
+    closed(alloc, &roster, &day)
+}
+
+/// The day closed.
+fn closed(alloc: Global, roster: &Roster, day: &Day) -> Result<ClosedDay, OutOfMemory>
+    requires budgets { day.now.terms.budgets ≡ map (λ c. c.budget) roster.now.campaigns }
+    requires day { IsDay day.now.terms day.now.history }
+{
+    close_day(alloc, roster, day.entries())
 }
 
 /// Compares a closed day's documents with those of its case.

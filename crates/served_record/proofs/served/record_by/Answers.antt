@@ -1,14 +1,13 @@
 use Rattle.std.proofs.Common.{◌≡◌, List, ap, arith, refl, subst, sym, ◌∙◌, length}
 use Rattle.std.specs.List.{All}
 use Rattle.notice_book.specs.declared.award.Award.{Award}
-use Rattle.bid_record.specs.declared.rows.ImpRow.{ImpRow}
 use Rattle.day_rules.specs.Books.{awards_of}
 use Rattle.day_rules.specs.Terms.{terms_of}
 use Rattle.served_record.specs.Opened.{budgets_of}
 use Rattle.served_record.specs.Steps.{IsNamed, rows_in}
 use Rattle.served_record.proofs.Awards.{sold_awards}
 use Rattle.served_record.proofs.Whole.{all_few, rows_are, rows_sound, rows_within}
-use Rattle.served_record.proofs.served.record_of.Goals as goal
+use Rattle.served_record.proofs.served.record_by.Goals as goal
 
 pub rows_of-requires-clause-formed : goal.rows_of-requires-clause-formed
 rows_of-requires-clause-formed c = all_few c.args.opened.campaigns c.args.entries.now c.requires
@@ -30,8 +29,8 @@ returns-clause-served c =
     let rows = rows_are c.args.opened.campaigns c.args.entries.now c.from.result c.requires is in
     record {
       format = refl;
-      day = refl;
-      campaigns = refl;
+      day_is = refl;
+      campaigns_are = refl;
       names = rows.names;
       impressions_are = rows.impressions_are;
       chosen = rows.chosen;

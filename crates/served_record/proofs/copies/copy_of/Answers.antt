@@ -1,5 +1,5 @@
 use Rattle.std.proofs.lemmas.Str.{is_utf8-from_IsUtf8}
-use Rattle.served_record.proofs.rows.copy_of.Goals as goal
+use Rattle.served_record.proofs.copies.copy_of.Goals as goal
 
 pub returns-clause-named : goal.returns-clause-named
 returns-clause-named c = record {
