@@ -113,7 +113,7 @@ fn refuses_lines_and_goes_on(rt: HostRuntime) -> Result<(), Fail> {
     for line in REFUSED.lines() {
         let (text, why) = line.split_once(" means ").ok_or("no reason")?;
         add_refused(&mut case, text, number, why)?;
-        number += 2;
+        number = number.saturating_add(2);
     }
     assert_eq!(rt; number, LAST_NUMBER);
     case.output.push_str(TABLE)?;
