@@ -7,6 +7,8 @@
 #![tactic(auto)]
 
 mod conn;
+#[cfg(test)]
+mod tests;
 
 pub use conn::{Conn, ConnEnd, Message, Response};
 pub use http_grammar::{HttpFault, Verb};

@@ -1,0 +1,241 @@
+//! Messages by the rules of RFC 9110 and RFC 9112, each read in pieces and whole.
+use crate::{Conn, HttpFault, Message, Verb};
+use adx_io::MemorySource;
+use std::alloc::{AllocError, Global};
+use std::test::Fail;
+
+/// The limit of a body in bytes.
+const LIMIT: u32 = 20;
+
+/// What a row says of its bytes: `<` stands for CR LF, `>` for LF alone, `{` for CR alone and `}` for
+/// NUL.
+fn bytes_of(alloc: Global, text: &str) -> Result<Vec<u8>, AllocError> {
+    let mut bytes = Vec::new(alloc);
+    for byte in text.as_bytes() {
+        match *byte {
+            b'<' => bytes.extend_from_slice(b"\r\n")?,
+            b'>' => bytes.push(b'\n')?,
+            b'{' => bytes.push(b'\r')?,
+            b'}' => bytes.push(0)?,
+            other => bytes.push(other)?,
+        }
+    }
+    Ok(bytes)
+}
+
+/// The name of a fault.
+fn name_of(fault: HttpFault) -> &'static str {
+    match fault {
+        HttpFault::BadHead => "BadHead",
+        HttpFault::HeadTooLong => "HeadTooLong",
+        HttpFault::LengthRequired => "LengthRequired",
+        HttpFault::BodyTooLong => "BodyTooLong",
+        HttpFault::BadChunk => "BadChunk",
+        HttpFault::Cut => "Cut",
+        HttpFault::ReadFault => "ReadFault",
+        HttpFault::Coding => "Coding",
+    }
+}
+
+/// The name of a verb.
+fn verb_name(verb: Verb) -> &'static str {
+    match verb {
+        Verb::Get => "Get",
+        Verb::Head => "Head",
+        Verb::Post => "Post",
+        Verb::Other => "Other",
+    }
+}
+
+/// A message behind the ones before.
+fn push_message(out: &mut String, message: &Message<'_>) -> Result<(), AllocError> {
+    out.push_str(verb_name(message.verb))?;
+    out.push_str(if message.keep { " keep " } else { " close " })?;
+    out.push_str(std::str::from_utf8(message.target).unwrap_or("?"))?;
+    out.push_str(" ")?;
+    out.push_str(std::str::from_utf8(message.body).unwrap_or("?"))?;
+    out.push_str(";")
+}
+
+/// What the next message gives; false where it is the last.
+fn push_next(
+    out: &mut String,
+    conn: &mut Conn,
+    source: &mut MemorySource,
+) -> Result<bool, AllocError> {
+    match conn.next_message(source) {
+        Ok(Some(message)) => match push_message(out, &message) {
+            Ok(_) => Ok(true),
+            Err(wanting) => Err(wanting),
+        },
+        Ok(None) => match out.push_str("end") {
+            Ok(_) => Ok(false),
+            Err(wanting) => Err(wanting),
+        },
+        Err(fault) => match out.push_str(name_of(fault)) {
+            Ok(_) => Ok(false),
+            Err(wanting) => Err(wanting),
+        },
+    }
+}
+
+/// What all messages of the bytes give, one behind the other.
+fn told(alloc: Global, conn: &mut Conn, bytes: &[u8], step: usize) -> Result<String, Fail> {
+    let mut source = MemorySource::new(alloc, bytes, step, &[])?;
+    let mut out = String::new(alloc);
+    conn.clear();
+    for _ in 0..8 {
+        if !push_next(&mut out, conn, &mut source)? {
+            break;
+        }
+    }
+    Ok(out)
+}
+
+/// Whether the bytes give this in pieces of so many bytes; 0 is whole.
+fn gives(
+    alloc: Global,
+    conn: &mut Conn,
+    bytes: &[u8],
+    step: usize,
+    wanted: &str,
+) -> Result<bool, Fail> {
+    let got = told(alloc, conn, bytes, step)?;
+    Ok(got.as_str() == wanted)
+}
+
+/// Rows of bytes and what they give.
+const ROWS: &str = " => end
+< => Cut
+<<>> => Cut
+G => Cut
+GET / HTTP/1.1<Host: x< => Cut
+GET / HTTP/1.1<Host: x<< => Get keep / ;end
+<><GET / HTTP/1.1<Host: x<< => Get keep / ;end
+GET / HTTP/1.1>Host: x>> => Get keep / ;end
+GET / HTTP/1.1>Host: x>< => Get keep / ;end
+GET /a HTTP/1.1<Host: x<<<GET /b HTTP/1.1<Host: x<< => Get keep /a ;Get keep /b ;end
+HEAD /h HTTP/1.1<Host: x<< => Head keep /h ;end
+PUT /p HTTP/1.1<Host: x<< => Other keep /p ;end
+get / HTTP/1.1<Host: x<< => Other keep / ;end
+OPTIONS * HTTP/1.1<Host: x<< => Other keep * ;end
+GET http://x/a?b HTTP/1.1<Host: x<< => Get keep http://x/a?b ;end
+GET / HTTP/1.0<< => Get close / ;end
+GET / HTTP/1.0<Host: x<< => Get close / ;end
+GET / HTTP/1.1<< => BadHead
+GET / HTTP/1.2<Host: x<< => BadHead
+GET / HTTP/2.0<Host: x<< => BadHead
+GET / http/1.1<Host: x<< => BadHead
+GET  / HTTP/1.1<Host: x<< => BadHead
+GET /<Host: x<< => BadHead
+GET<< => BadHead
+ GET / HTTP/1.1<Host: x<< => BadHead
+GET / HTTP/1.1 <Host: x<< => BadHead
+GET / HTTP/1.1{Host: x<< => BadHead
+GET / HTTP/1.1<Host: x{y<< => BadHead
+GET / HTTP/1.1<Host: x}<< => BadHead
+GET / HTTP/1.1<Host : x<< => BadHead
+GET / HTTP/1.1<Host: x<A: b< c<< => BadHead
+GET / HTTP/1.1< Host: x<< => BadHead
+GET / HTTP/1.1<Host<< => BadHead
+GET / HTTP/1.1<Host: x<: y<< => BadHead
+GET / HTTP/1.1<Host: x<A b: y<< => BadHead
+GET / HTTP/1.1<Host: x<Host: x<< => BadHead
+GET / HTTP/1.1<Host: x, y<< => BadHead
+GET / HTTP/1.1<Host: a,b<< => Get keep / ;end
+GET / HTTP/1.1<Host: << => Get keep / ;end
+GET / HTTP/1.1<Host: x:80<< => Get keep / ;end
+GET / HTTP/1.1<Host: x:<< => Get keep / ;end
+GET / HTTP/1.1<Host: x:8a<< => BadHead
+GET / HTTP/1.1<Host: [::1]:80<< => Get keep / ;end
+GET / HTTP/1.1<Host: []<< => BadHead
+GET / HTTP/1.1<Host: a@b<< => BadHead
+GET / HTTP/1.1<Host: a/b<< => BadHead
+GET / HTTP/1.1<Host: %41<< => Get keep / ;end
+GET / HTTP/1.1<Host: %4<< => BadHead
+GET / HTTP/1.1<HOST:\tx\t<< => Get keep / ;end
+POST /p HTTP/1.1<Host: x<Content-Length: 5<<hello => Post keep /p hello;end
+POST /p HTTP/1.1<Host: x<Content-Length: 5<<hell => Cut
+POST /p HTTP/1.1<Host: x<Content-Length: 0<< => Post keep /p ;end
+POST /p HTTP/1.1<Host: x<< => LengthRequired
+GET /p HTTP/1.1<Host: x<Content-Length: 2<<abGET /q HTTP/1.1<Host: x<< => Get keep /p ab;Get keep /q ;end
+POST /p HTTP/1.1<Host: x<Content-Length: 20<<01234567890123456789 => Post keep /p 01234567890123456789;end
+POST /p HTTP/1.1<Host: x<Content-Length: 21<< => BodyTooLong
+POST /p HTTP/1.1<Host: x<Content-Length: 99999999999999999999999<< => BodyTooLong
+POST /p HTTP/1.1<Host: x<Content-Length: 5<Content-Length: 05<<hello => Post keep /p hello;end
+POST /p HTTP/1.1<Host: x<Content-Length: 5<Content-Length: 6<<hello! => BadHead
+POST /p HTTP/1.1<Host: x<Content-Length: 5, 5<<hello => BadHead
+POST /p HTTP/1.1<Host: x<Content-Length: +5<<hello => BadHead
+POST /p HTTP/1.1<Host: x<Content-Length: -0<< => BadHead
+POST /p HTTP/1.1<Host: x<Content-Length:<< => BadHead
+POST /p HTTP/1.1<Host: x<Content-Length: 0x5<<hello => BadHead
+POST /p HTTP/1.1<Host: x<Transfer-Encoding: chunked<Content-Length: 5<< => BadHead
+POST /p HTTP/1.1<Host: x<Transfer-Encoding: chunked, chunked<< => BadHead
+POST /p HTTP/1.1<Host: x<Transfer-Encoding: chunked<Transfer-Encoding: chunked<< => BadHead
+POST /p HTTP/1.1<Host: x<Transfer-Encoding: gzip, chunked<< => BadHead
+POST /p HTTP/1.1<Host: x<Transfer-Encoding: chunked, gzip<< => BadHead
+POST /p HTTP/1.1<Host: x<Transfer-Encoding: identity<< => BadHead
+POST /p HTTP/1.1<Host: x<Transfer-Encoding: Chunked<<0<< => Post keep /p ;end
+POST /p HTTP/1.1<Host: x<Transfer-Encoding: chunked<<5<hello<0<< => Post keep /p hello;end
+POST /p HTTP/1.1<Host: x<Transfer-Encoding: chunked<<3<hel<2<lo<0<< => Post keep /p hello;end
+POST /p HTTP/1.1<Host: x<Transfer-Encoding: chunked<<5;a=b<hello<0<< => Post keep /p hello;end
+POST /p HTTP/1.1<Host: x<Transfer-Encoding: chunked<<5 \t<hello<0<< => Post keep /p hello;end
+POST /p HTTP/1.1<Host: x<Transfer-Encoding: chunked<<05<hello<00<< => Post keep /p hello;end
+POST /p HTTP/1.1<Host: x<Transfer-Encoding: chunked<<A<0123456789<a<0123456789<0<< => Post keep /p 01234567890123456789;end
+POST /p HTTP/1.1<Host: x<Transfer-Encoding: chunked<<15< => BodyTooLong
+POST /p HTTP/1.1<Host: x<Transfer-Encoding: chunked<<A<0123456789<B< => BodyTooLong
+POST /p HTTP/1.1<Host: x<Transfer-Encoding: chunked<<FFFFFFFFFFFFFFFF< => BodyTooLong
+POST /p HTTP/1.1<Host: x<Transfer-Encoding: chunked<<5<hellox< => BadChunk
+POST /p HTTP/1.1<Host: x<Transfer-Encoding: chunked<<5<hello>0<< => BadChunk
+POST /p HTTP/1.1<Host: x<Transfer-Encoding: chunked<<5>hello<0<< => BadChunk
+POST /p HTTP/1.1<Host: x<Transfer-Encoding: chunked<<< => BadChunk
+POST /p HTTP/1.1<Host: x<Transfer-Encoding: chunked<<g< => BadChunk
+POST /p HTTP/1.1<Host: x<Transfer-Encoding: chunked<< 5<hello<0<< => BadChunk
+POST /p HTTP/1.1<Host: x<Transfer-Encoding: chunked<<5 x< => BadChunk
+POST /p HTTP/1.1<Host: x<Transfer-Encoding: chunked<<00000000000000005<hello<0<< => BadChunk
+POST /p HTTP/1.1<Host: x<Transfer-Encoding: chunked<<0000000000000005<hello<0<< => Post keep /p hello;end
+POST /p HTTP/1.1<Host: x<Transfer-Encoding: chunked<<5;a{b<hello<0<< => BadChunk
+POST /p HTTP/1.1<Host: x<Transfer-Encoding: chunked<<1<a<0<A: b<C<< => Post keep /p a;end
+POST /p HTTP/1.1<Host: x<Transfer-Encoding: chunked<<0>> => BadChunk
+POST /p HTTP/1.1<Host: x<Transfer-Encoding: chunked<<1<a<0<> => Post keep /p a;end
+POST /p HTTP/1.1<Host: x<Transfer-Encoding: chunked<<0<A< => Cut
+POST /p HTTP/1.1<Host: x<Transfer-Encoding: chunked<<0< => Cut
+POST /p HTTP/1.1<Host: x<Transfer-Encoding: chunked<<5<hel => Cut
+POST /p HTTP/1.1<Host: x<Transfer-Encoding: chunked<<5 => Cut
+POST /p HTTP/1.1<Host: x<Transfer-Encoding: chunked<<5<hello => Cut
+POST /p HTTP/1.1<Host: x<Transfer-Encoding: chunked<<5<hello{ => Cut
+POST /p HTTP/1.1<Host: x<Transfer-Encoding: chunked<<5<hello<0<<GET /q HTTP/1.1<Host: x<< => Post keep /p hello;Get keep /q ;end
+GET / HTTP/1.1<Host: x<Content-Encoding: gzip<< => Coding
+GET / HTTP/1.1<Host: x<Content-Encoding: IDENTITY<< => Get keep / ;end
+GET / HTTP/1.1<Host: x<Content-Encoding: identity, gzip<< => Coding
+GET / HTTP/1.1<Host: x<Host: x<Content-Encoding: gzip<< => BadHead
+POST /p HTTP/1.1<Host: x<Content-Encoding: gzip<< => Coding
+POST /p HTTP/1.1<Host: x<Content-Encoding: gzip<Content-Length: 21<< => Coding
+GET / HTTP/1.1<Host: x<Connection: close<< => Get close / ;end
+GET / HTTP/1.1<Host: x<Connection: a, CLOSE<< => Get close / ;end
+GET / HTTP/1.1<Host: x<Connection: closed<< => Get keep / ;end
+GET / HTTP/1.0<Host: x<Host: x<< => BadHead
+GET / HTTP/1.1<Host: x<A:<A:<A:<A:<A:<A:<A:<A:<A:<A:<A:<A:<A:<A:<A:<A:<A:<A:<A:<A:<A:<A:<A:<A:<A:<A:<A:<A:<A:<A:<A:<A:<A:<A:<A:<A:<A:<A:<A:<A:<A:<A:<A:<A:<A:<A:<A:<A:<A:<A:<A:<A:<A:<A:<A:<A:<A:<A:<A:<A:<A:<A:<A:<< => Get keep / ;end
+GET / HTTP/1.1<Host: x<A:<A:<A:<A:<A:<A:<A:<A:<A:<A:<A:<A:<A:<A:<A:<A:<A:<A:<A:<A:<A:<A:<A:<A:<A:<A:<A:<A:<A:<A:<A:<A:<A:<A:<A:<A:<A:<A:<A:<A:<A:<A:<A:<A:<A:<A:<A:<A:<A:<A:<A:<A:<A:<A:<A:<A:<A:<A:<A:<A:<A:<A:<A:<A:<< => HeadTooLong
+GET / HTTP/1.1<A<A<A<A<A<A<A<A<A<A<A<A<A<A<A<A<A<A<A<A<A<A<A<A<A<A<A<A<A<A<A<A<A<A<A<A<A<A<A<A<A<A<A<A<A<A<A<A<A<A<A<A<A<A<A<A<A<A<A<A<A<A<A<A<< => BadHead
+GET / HTTP/1.1<A<A<A<A<A<A<A<A<A<A<A<A<A<A<A<A<A<A<A<A<A<A<A<A<A<A<A<A<A<A<A<A<A<A<A<A<A<A<A<A<A<A<A<A<A<A<A<A<A<A<A<A<A<A<A<A<A<A<A<A<A<A<A<A<A<< => HeadTooLong
+POST /p HTTP/1.1<Host: x<Transfer-Encoding: chunked<<0<A<A<A<A<A<A<A<A<A<A<A<A<A<A<A<A<A<A<A<A<A<A<A<A<A<A<A<A<A<A<A<A<A<A<A<A<A<A<A<A<A<A<A<A<A<A<A<A<A<A<A<A<A<A<A<A<A<A<A<A<A<A<A<A<< => Post keep /p ;end
+POST /p HTTP/1.1<Host: x<Transfer-Encoding: chunked<<0<A<A<A<A<A<A<A<A<A<A<A<A<A<A<A<A<A<A<A<A<A<A<A<A<A<A<A<A<A<A<A<A<A<A<A<A<A<A<A<A<A<A<A<A<A<A<A<A<A<A<A<A<A<A<A<A<A<A<A<A<A<A<A<A<A< => BadChunk
+POST /p HTTP/1.0<Transfer-Encoding: chunked<<1<a<0<< => Post close /p a;end";
+
+/// Each row in pieces of 1, 2, 3 and 7 bytes and whole.
+#[test]
+fn reads_messages(rt: HostRuntime) -> Result<(), Fail> {
+    assert_eq!(rt; ROWS.lines().count(), 117);
+    let mut conn = Conn::new(rt.alloc(), LIMIT)?;
+    for row in ROWS.lines() {
+        let (text, wanted) = row.split_once(" => ").ok_or("no answer")?;
+        let bytes = bytes_of(rt.alloc(), text)?;
+        assert!(rt; gives(rt.alloc(), &mut conn, &bytes, 1, wanted)?, "{row}");
+        assert!(rt; gives(rt.alloc(), &mut conn, &bytes, 2, wanted)?, "{row}");
+        assert!(rt; gives(rt.alloc(), &mut conn, &bytes, 3, wanted)?, "{row}");
+        assert!(rt; gives(rt.alloc(), &mut conn, &bytes, 7, wanted)?, "{row}");
+        assert!(rt; gives(rt.alloc(), &mut conn, &bytes, 0, wanted)?, "{row}");
+    }
+    Ok(())
+}
