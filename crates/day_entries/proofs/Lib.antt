@@ -1,0 +1,5 @@
+pub mod Readers
+pub mod Entries
+pub mod Loops
+pub mod Texts
+pub mod Writes

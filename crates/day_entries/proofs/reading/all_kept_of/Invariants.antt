@@ -1,0 +1,8 @@
+use Rattle.std.proofs.Common.{◌≡◌, ◌-◌}
+use Rattle.day_entries.specs.Reading.{kept_at}
+use Rattle.day_entries.specs.Readers.{parts_at}
+use Rattle.day_entries.proofs.Loops.{with_front}
+use Rattle.day_entries.proofs.reading.all_kept_of.Given as goal
+
+abbrev pub invariant-loop : goal.invariant-loop
+invariant-loop l = with_front l.kept.items (parts_at kept_at (l.count - l.counter) l.rest) ≡ parts_at kept_at l.count l.initial.rest

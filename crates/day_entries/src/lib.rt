@@ -1,0 +1,16 @@
+//! Entries of a day's history as bytes: written into a record's payload, and read back.
+//!
+//! A contract sees the spelling of an entry as a list of bytes. What is read is spelled so, each byte of
+//! it; what is spelled so is read, whatever follows. An ask can be copied, since a history keeps its own.
+//! Stands on `adx_units`, `adx_io` and `day_rules`.
+#![tactic(auto)]
+
+mod copying;
+mod fields;
+mod reading;
+mod unread;
+mod writing;
+
+pub use copying::copy_of;
+pub use reading::decode;
+pub use writing::encode;
