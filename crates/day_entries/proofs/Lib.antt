@@ -3,3 +3,4 @@ pub mod Entries
 pub mod Loops
 pub mod Texts
 pub mod Writes
+pub mod Fitting
