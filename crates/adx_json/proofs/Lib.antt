@@ -1,13 +1,6 @@
 pub mod Views
 pub mod Runs
-pub mod Numbers
-pub mod Unique
-pub mod Fronts
-pub mod Values
-pub mod ItemSteps
-pub mod MemberSteps
 pub mod Names
-pub mod Faults
 pub mod Escapes
 pub mod Rows
 pub mod Utf8Steps

@@ -6,8 +6,7 @@ use Rattle.adx_json.specs.Tree.{Tree, null, boolean, number, text, list, object,
 use Rattle.adx_json.specs.Reading.{Stops}
 use Rattle.adx_json.specs.Grammar.{is_space, IsSpace, IsPadded, IsString, IsValue, AreItems, AreMoreItems, AreMembers, AreMoreMembers, piece_bytes, resolved, IsJson}
 use Rattle.adx_json.specs.declared.number.Numeral.TheVariants.{Start}
-use Rattle.adx_json.proofs.Runs.{one_cut}
-use Rattle.adx_json.proofs.Unique.{head_of, tail_of, apart}
+use Rattle.adx_json.proofs.Runs.{one_cut, head_of, tail_of, apart}
 use Rattle.adx_json.proofs.NumberTexts.{number_is}
 use Rattle.adx_json.proofs.Stops.{Ended, number_other, number_begins}
 use Rattle.adx_json.proofs.Complete.{ended_spaces, ended_items, ended_members}

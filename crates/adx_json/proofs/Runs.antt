@@ -1,13 +1,23 @@
 -- Runs of bytes of one kind, and the bytes that a text spells as themselves.
 use Rattle.std.proofs.Common.{◌≡◌, ℕ, suc, ◌<◌, ◌≤◌, List, [], ◌∷◌, ◌++◌, length, get_or, ◌||◌, ◌⊎◌, take, drop, Bool, true, false, refl, sym, ap, ap₂, ltb, eqb, cond, ◌+◌, ◌∙◌, subst, arith, inl, inr, append_assoc}
-use Rattle.std.proofs.lemmas.Bool.{false≢true, and_parts, and_from, or_parts, not-true, not-false, ne_eqb, le-ltb, ltb-false, agree_below_at, cases_lt, or_cases, ltb-true, eqb-true}
+use Rattle.std.proofs.lemmas.Bool.{false≢true, and_parts, and_from, or_parts, not-true, not-false, ne_eqb, le-ltb, ltb-false, agree_below_at, cases_lt, or_cases, ltb-true, eqb-true, eqb-false}
 use Rattle.std.proofs.lemmas.List.Sums.{prefix_len-le-length, prefix_len_stops}
 use Rattle.std.proofs.lemmas.Str.{IsCharBoundary-before_ascii, IsCharBoundary-end}
 use Rattle.std.specs.Str.{IsCharBoundary}
 use Rattle.std.specs.List.{list_all, flat_map, prefix_len}
 use Rattle.adx_json.specs.Spelling.{escape, text_spelling}
-use Rattle.adx_json.specs.Plain.{is_plain_byte, is_plain_text}
 use Rattle.adx_json.specs.Reading.{Stops, is_bare}
+
+-- the first bytes and the later bytes of equal bytes
+pub head_of : (x y : ℕ) (a b : List ℕ) → x ∷ a ≡ y ∷ b → x ≡ y
+head_of x y a b e = cc
+
+pub tail_of : (x y : ℕ) (a b : List ℕ) → x ∷ a ≡ y ∷ b → a ≡ b
+tail_of x y a b e = cc
+
+-- bytes with different first bytes differ
+pub apart : (x y : ℕ) (a b : List ℕ) → eqb x y ≡ false → x ∷ a ≡ y ∷ b → ⊥
+apart x y a b d e = eqb-false x y d (head_of x y a b e)
 
 -- bytes of one kind, up to one of another kind, are cut in one way
 pub one_cut : (p : ℕ → Bool) (a b r s : List ℕ) → list_all p a ≡ true → list_all p b ≡ true → Stops p r → Stops p s → a ++ r ≡ b ++ s → (a ≡ b) × (r ≡ s)
@@ -67,33 +77,6 @@ bare_text [] h = refl
 bare_text (b ∷ t) h =
     let parts = and_parts _ _ h in
     rw (bare_escape b parts.0, bare_text t parts.1)
-
-not_below : (b : ℕ) → is_plain_byte b ≡ true → (b < 32) ⊎ (32 ≤ b) → 32 ≤ b
-not_below b h (inl low) = absurd (false≢true (sym (agree_below_at is_plain_byte (λ _. false) 32 b refl low) ∙ h))
-not_below b h (inr high) = high
-
-pub plain_byte_is_bare : (b : ℕ) → is_plain_byte b ≡ true → is_bare b ≡ true
-plain_byte_is_bare b h =
-    let quote : eqb b 34 ≡ false = ne_eqb b 34 (λ e. false≢true (ap is_plain_byte (sym e) ∙ h)) in
-    let backslash : eqb b 92 ≡ false = ne_eqb b 92 (λ e. false≢true (ap is_plain_byte (sym e) ∙ h)) in
-    let high : 32 ≤ b = not_below b h (cases_lt b 32) in
-    let below : ltb b 32 ≡ false = le-ltb b 32 high in
-    rw (quote, backslash, below) refl
-
-pub plain_bytes_are_bare : (t : List ℕ) → list_all is_plain_byte t ≡ true → list_all is_bare t ≡ true
-plain_bytes_are_bare [] h = refl
-plain_bytes_are_bare (b ∷ t) h =
-    let parts = and_parts _ _ h in
-    and_from _ _ (plain_byte_is_bare b parts.0) (plain_bytes_are_bare t parts.1)
-
--- a plain text is spelled as itself
-pub plain_text_bytes : (t : List ℕ) → is_plain_text t ≡ true → list_all is_plain_byte t ≡ true
-plain_text_bytes t h = (and_parts _ _ h).1
-
-pub plain_spelling : (t rest : List ℕ) → is_plain_text t ≡ true → text_spelling t ++ rest ≡ 34 ∷ (t ++ 34 ∷ rest)
-plain_spelling t rest h =
-    let same = bare_text t (plain_bytes_are_bare t (plain_text_bytes t h)) in
-    ap (λ bs. 34 ∷ ((bs ++ 34 ∷ []) ++ rest)) same ∙ ap (λ bs. 34 ∷ bs) (append_assoc t (34 ∷ []) rest)
 
 low_mark : (b : ℕ) → (eqb b 34 ≡ true) ⊎ (eqb b 92 ≡ true) → b < 128
 low_mark b (inl quote) = omega (arith, eqb-true b 34 quote)

@@ -1,6 +1,5 @@
 pub mod Tree
 pub mod Spelling
-pub mod Plain
 pub mod View
 pub mod Reading
 pub mod Grammar

@@ -1,10 +1,9 @@
-//! A law of the spelling.
-ghost use Rattle.std.specs.Prelude.{◌≡◌};
+//! A law of the grammar.
+ghost use Rattle.std.specs.Prelude.{◌≡◌, ℕ, List};
 ghost use Rattle.adx_json.specs.Tree.{Tree};
-ghost use Rattle.adx_json.specs.Spelling.{spelling};
-ghost use Rattle.adx_json.specs.Plain.{IsPlain};
+ghost use Rattle.adx_json.specs.Grammar.{IsJson};
 
-/// A text has at most one plain tree.
+/// A text is JSON of at most one tree.
 pub fn one_tree()
-    ensures { (t u : Tree) → IsPlain t → IsPlain u → spelling t ≡ spelling u → t ≡ u }
+    ensures { (bytes : List ℕ) (t u : Tree) → IsJson bytes t → IsJson bytes u → t ≡ u }
 {}

@@ -2,7 +2,7 @@
 //!
 //! A contract sees a value as a `Tree`, without where it lies in memory, and its text as bytes. `read`
 //! takes exactly the texts of the grammar with at most 64 levels, and `write` gives one that is read back.
-//! The module `plain` reads the narrow form of this project's lines. Stands on adx_units.
+//! Stands on adx_units and byte_runs.
 #![tactic(auto)]
 
 mod escape;
@@ -11,7 +11,6 @@ mod front;
 mod law;
 mod named;
 mod number;
-pub mod plain;
 mod reader;
 mod repeats;
 #[cfg(test)]

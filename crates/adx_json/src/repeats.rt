@@ -1,11 +1,13 @@
 //! Repeated names of an object's members.
 ghost use Rattle.std.specs.Prelude.{◌≡◌, ◌<◌, length, IfOk};
+ghost use Rattle.std.specs.List.{list_any};
+ghost use Rattle.std.specs.Str.{bytes_eq};
 ghost use Rattle.adx_json.specs.Tree.{members_of};
 ghost use Rattle.adx_json.specs.Grammar.{last_of_each};
 ghost use Rattle.adx_json.specs.View.{members_view};
 ghost use Rattle.adx_json.specs.Repeats.{ComesAgain};
+ghost use Rattle.adx_json.specs.declared.tree.Member.{out-Member};
 
-use crate::plain::has_name;
 use crate::tree::Member;
 use adx_units::OutOfMemory;
 use std::alloc::Global;
@@ -76,4 +78,11 @@ fn comes_again(members: &[Member], at: usize) -> bool
         Some((member, later)) => has_name(later, member.name.as_bytes()),
         None => false,
     }
+}
+
+/// Whether one of the members has that name.
+fn has_name(members: &[Member], name: &[u8]) -> bool
+    ensures { result ≡ list_any (λ m. bytes_eq (out-Member m).name name.now) members.now }
+{
+    members.iter().any(|member| member.name.as_bytes() == name)
 }

@@ -1,5 +1,4 @@
 use crate::fault::JsonFault;
-use crate::plain::{self, PlainFault};
 use crate::reader;
 use crate::tree::Json;
 use crate::writing::write;
@@ -7,66 +6,10 @@ use adx_units::Text;
 use std::alloc::{AllocError, Global};
 use std::test::Fail;
 
-/// The answer for these bytes: "form" where they are no plain value, or else how they are written again.
-fn answer(alloc: Global, text: &str) -> Result<String, AllocError> {
-    match plain::read(alloc, text.as_bytes()) {
-        Ok(tree) => match write(alloc, &tree) {
-            Ok(again) => String::from_str(alloc, again.as_str()),
-            Err(_) => String::from_str(alloc, "out of memory"),
-        },
-        Err(PlainFault::Form) => String::from_str(alloc, "form"),
-        Err(PlainFault::OutOfMemory) => String::from_str(alloc, "out of memory"),
-    }
-}
-
-#[test]
-fn reads_and_writes_plain_lines(rt: HostRuntime) -> Result<(), Fail> {
-    for text in [
-        "0",
-        "12.50",
-        "[]",
-        "{}",
-        "\"a-Z_0.9\"",
-        "{\"campaign\":\"c1\",\"price\":2.5,\"sizes\":[300,250],\"tags\":[[],{}]}",
-        "[[[[[[[[]]]]]]]]",
-    ] {
-        let written = answer(rt.alloc(), text)?;
-        assert_eq!(rt; written.as_str(), text);
-    }
-    for text in [
-        "",
-        " 1",
-        "1 ",
-        "01",
-        "1.",
-        ".5",
-        "-1",
-        "1e3",
-        "null",
-        "true",
-        "\"\"",
-        "\"a",
-        "\"a b\"",
-        "\"\\n\"",
-        "[1,]",
-        "[1,2",
-        "[1]]",
-        "{\"a\":1,\"a\":2}",
-        "{\"a\"1}",
-        "{\"a\":1,}",
-        "{a:1}",
-        "[[[[[[[[[]]]]]]]]]",
-    ] {
-        let refused = answer(rt.alloc(), text)?;
-        assert_eq!(rt; refused.as_str(), "form", "{text}");
-    }
-    Ok(())
-}
-
 #[test]
 fn takes_a_tree_apart(rt: HostRuntime) -> Result<(), Fail> {
     let line = "{\"id\":\"c1\",\"price\":2.5,\"list\":[7]}";
-    let tree = plain::read(rt.alloc(), line.as_bytes())?;
+    let tree = reader::read(rt.alloc(), line.as_bytes())?;
     let members = tree.members().ok_or("an object")?;
     assert!(rt; tree.items().is_none());
     assert_eq!(rt; members.len(), 3);

@@ -1,5 +1,5 @@
-use Rattle.adx_json.proofs.Unique.{one_plain_tree}
+use Rattle.adx_json.proofs.OneTree.{one_json}
 use Rattle.adx_json.proofs.law.one_tree.Goals as goal
 
 pub returns : goal.returns
-returns c = one_plain_tree
+returns c = one_json
