@@ -5,7 +5,7 @@ ghost use Rattle.allocator_core.specs.declared.reason.TheConstants.{AWARDED as A
 ghost use Rattle.notice_book.specs.AwardList.{Counts};
 ghost use Rattle.notice_book.specs.declared.award.Award.{Award as AwardValue};
 ghost use Rattle.day_rules.specs.Asks.{IsUndecided, IsWellFormed, settled};
-ghost use Rattle.day_rules.specs.Books.{accounts_in, awards_of, sales_of};
+ghost use Rattle.day_rules.specs.Books.{accounts_in, awards_of, entries_to_come, sales_of};
 ghost use Rattle.day_rules.specs.DayState.{HasRoomFor, HasRoomForAsk};
 ghost use Rattle.day_rules.specs.Entries.{entry_of_notice};
 ghost use Rattle.day_rules.specs.Legal.{AskMayFollow, ExpireMayFollow, MayFollow};
@@ -141,6 +141,14 @@ impl Day {
         ensures { result.now.awards ≡ awards_of self.now.history }
     {
         self.ledger.sold()
+    }
+
+    /// How many entries notices and moments may still add: one that ends each open award, and one win of each award
+    /// that may still be won.
+    pub fn to_come(&self) -> u64
+        ensures { result ≡ entries_to_come (awards_of self.now.history) }
+    {
+        self.ledger.to_come()
     }
 
     /// Whether a request stands in the history, by its auction and its digest, or its auction with

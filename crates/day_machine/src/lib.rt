@@ -19,6 +19,7 @@ pub use day_rules::{
     Answer, Ask, DayLimits, Entry, KEPT_OVERHEAD, Kept, MAX_AUCTIONS, MAX_BIDS, MAX_IMPS, MAX_KEPT,
     MAX_LIFE, MAX_OFFERS, MAX_TEXT, NO_IMP, Seen, Which,
 };
+pub use sales::sale_count;
 
 #[cfg(test)]
 mod legal_tests;

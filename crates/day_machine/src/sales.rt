@@ -32,8 +32,8 @@ fn count_of_imp(offers: &[Offer], imp: usize) -> usize
     count
 }
 
-/// How many awards the ask makes.
-pub(crate) fn sale_count(ask: &Ask) -> usize
+/// How many awards the ask makes once it is in a history: one for each awarded offer on one of its impressions.
+pub fn sale_count(ask: &Ask) -> usize
     requires { length ask.now.offers ≤ 1024 }
     ensures value { result ≡ length (sales_of ask.entry.now) }
     ensures few { result ≤ 1024 }
