@@ -11,6 +11,7 @@ use Rattle.adx_io.specs.Frames.{body, longest_payload}
 use Rattle.adx_io.specs.Streams.{last_count}
 use Rattle.day_journal.specs.Openings.{WindowState, IsWindow, HasPlace, ReadsMore, ReadsOn, OpeningState, StandsBehind, IsPlace, IsSized, IsNoLength, HasNoLength}
 use Rattle.day_journal.specs.declared.place.Place.{Place}
+use Rattle.day_journal.specs.declared.window.TheConstants.{CHUNK}
 use Rattle.day_journal.specs.Places.{head, new_file, IsPayload, IsClosed, IsBadPlace, HasBadLength, HasNoHead, IsUnfinished, open_place, opened}
 use Rattle.day_journal.proofs.Keeping.{opened_push}
 use Rattle.day_journal.proofs.Once.{short}
@@ -51,7 +52,7 @@ window_end file at bytes w = omega (arith, w.within, ap length w.shown, length-t
 
 -- a window that was filled
 pub filled : (file : List ℕ) (at len n : ℕ) (bytes first second : List ℕ) → IsWindow file (record { at = at; bytes = bytes }) → length bytes ≡ len → take len first ≡ bytes
-    → ReadsOn file at len first n second → length second ≡ 262144 → len < 5 → len + n ≤ length second → HasPlace file (record { at = at; bytes = take (len + n) second })
+    → ReadsOn file at len first n second → length second ≡ CHUNK → len < 5 → len + n ≤ length second → HasPlace file (record { at = at; bytes = take (len + n) second })
 filled file at len n bytes first second w is front reads size few within =
     let more = reads w.addressed (omega (arith, window_end file at bytes w, is)) (front ∙ w.shown ∙ ap (λ (k : ℕ). take k (drop at file)) is) in
     let new_len : length (take (len + n) second) ≡ len + n = length-take-le (len + n) second within in
@@ -61,7 +62,7 @@ filled file at len n bytes first second w is front reads size few within =
         addressed = w.addressed;
         shown = more.shown ∙ ap (λ (k : ℕ). take k (drop at file)) (sym new_len);
       };
-      enough = elim (cases_eq n (262144 - len)) [
+      enough = elim (cases_eq n (CHUNK - len)) [
         | inl all ↦ inl (omega (arith, all, new_len, few))
         | inr not ↦ inr (more.shown ∙ take_all (len + n) (drop at file) (omega (arith, not, more.count, size, few, length-drop at file)))
       ];
@@ -243,7 +244,7 @@ filled_behind file old new size closed now ps b same is off = record {
 }
 
 -- the front of a file
-front_get : (xs : List ℕ) (n i : ℕ) → i < n → slice_get (take n xs) i ≡ slice_get xs i
+pub front_get : (xs : List ℕ) (n i : ℕ) → i < n → slice_get (take n xs) i ≡ slice_get xs i
 front_get [] zero i lt = refl
 front_get [] (suc n) i lt = refl
 front_get (x ∷ xs) zero i lt = absurd (omega (arith, lt))

@@ -2,11 +2,12 @@
 use Rattle.std.specs.Prelude.{◌≡◌, ℕ, ◌<◌, ◌≤◌, min, List, Result, Ok, Err, ⊤}
 use Rattle.adx_io.specs.Streams.{Rises, last_count}
 use Rattle.day_journal.specs.declared.fault.JournalFault.{JournalFault}
+use Rattle.day_journal.specs.declared.journal.TheConstants.{GREATEST_SIZE}
 use Rattle.day_journal.specs.Places.{HasBadLength, HasNoHead}
 
 -- the greatest size of a journal with what is held for later records, in bytes
 abbrev pub greatest_size : ℕ
-greatest_size = 4294967296
+greatest_size = GREATEST_SIZE
 
 -- How an append ends: full exactly where the size would pass the greatest, which it then tells; and
 -- with a disk fault only where the disk's count rose.

@@ -14,7 +14,7 @@ use adx_io::{Disk, Failed, Frame};
 use std::marker::Model;
 
 /// The greatest size of a journal with what is held for later records.
-const LIMIT: u128 = 1 << 32;
+const GREATEST_SIZE: u128 = 1 << 32;
 
 /// An open journal; it owns no disk.
 #[derive(Debug, Drop)]
@@ -130,7 +130,7 @@ impl Journal {
     {
         let record_bytes = frame.record_bytes();
         let size = size_with(self.gate, record_bytes.len(), held);
-        if size > LIMIT {
+        if size > GREATEST_SIZE {
             return Err(JournalFault::Full {
                 size: u64::try_from(size).unwrap_or(u64::MAX),
             });

@@ -7,6 +7,7 @@
 
 mod fault;
 mod journal;
+mod laws;
 mod making;
 mod opening;
 mod place;
@@ -18,4 +19,5 @@ mod window;
 
 pub use fault::JournalFault;
 pub use journal::Journal;
+pub use laws::{faults_exclude, one_place, stands_once};
 pub use opening::Opening;

@@ -1,5 +1,6 @@
 //! How a journal is opened: made anew where there is none, and else read payload by payload.
 ghost use Rattle.adx_io.specs.Disks.{AsRead, Each, LeavesOnly};
+ghost use Rattle.adx_io.specs.Frames.{longest_payload};
 ghost use Rattle.adx_io.specs.Streams.{HasCause, last_count};
 ghost use Rattle.day_journal.specs.Faults.{EndsOpening, Refuses};
 ghost use Rattle.day_journal.specs.Openings.{IsPlace, OnlyReads, OpeningState, StandsBehind};
@@ -186,7 +187,7 @@ impl Opening {
         requires empty { payload.old.items ≡ [] }
         requires open { 5 ≤ length self.old.window.bytes }
         requires some { 0 < count }
-        requires fits { count ≤ 67108864 }
+        requires fits { count ≤ longest_payload }
         requires closed { self.old.closed ≡ false }
         ensures found { OnOk result ((file : List ℕ) (payloads : List (List ℕ)) → D.reads disk.old ≡ Some file → StandsBehind file self.old payloads
             → IsPlace self.old.window.bytes (Place.Open count) → StandsBehind file self.new (payloads ++ payload.new.items ∷ [])) }

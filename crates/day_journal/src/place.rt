@@ -1,6 +1,9 @@
 //! What stands at a place of a journal.
 ghost use Rattle.day_journal.specs.Openings.{IsPlace, IsSized};
 
+/// The longest payload of a frame, in bytes.
+const LONGEST_PAYLOAD: u32 = 67_108_864;
+
 /// What the first bytes of a place tell.
 #[derive(Clone, Copy, Debug, PartialEq, Eq)]
 pub(crate) enum Place {
@@ -32,7 +35,7 @@ pub(crate) fn place_in(bytes: &[u8]) -> Place
 fn sized(count: u32) -> Place
     ensures { IsSized count result }
 {
-    if count == 0 || count > 67_108_864 {
+    if count == 0 || count > LONGEST_PAYLOAD {
         Place::Bad
     } else {
         Place::Open(count as usize)

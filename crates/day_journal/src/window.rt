@@ -24,12 +24,13 @@ pub(crate) struct Window {
 impl Model for Window {
     ghost use Rattle.std.specs.Prelude.{◌≡◌, ◌≤◌, take, drop, vec_len};
     ghost use Rattle.day_journal.specs.Openings.{WindowState};
+    ghost use Rattle.day_journal.specs.declared.window.TheConstants.{CHUNK};
 
     ghost Value = { WindowState };
 
     ghost view = { λ w. record { at = w.at; bytes = drop w.start (take w.end w.chunk.items) } };
 
-    ghost invariant = { λ w. (w.start ≤ w.end) × (w.end ≤ vec_len w.chunk) × (vec_len w.chunk ≡ 262144) };
+    ghost invariant = { λ w. (w.start ≤ w.end) × (w.end ≤ vec_len w.chunk) × (vec_len w.chunk ≡ CHUNK) };
 }
 
 impl Window {
