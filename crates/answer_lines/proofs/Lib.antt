@@ -1,0 +1,4 @@
+pub mod AtHand
+pub mod Chains
+pub mod Joined
+pub mod Sold

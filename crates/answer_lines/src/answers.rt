@@ -1,0 +1,131 @@
+//! The line of each answer.
+ghost use Rattle.std.specs.Prelude.{◌≡◌, ◌++◌, OnOk, option_map, string_bytes};
+ghost use Rattle.hex.specs.Hex.{encode_lower};
+ghost use Rattle.answer_lines.specs.Answers.{answer_line, conflict_line, dayfull_line, end_text, repeat_line, reused_line, ticked_line, which_text};
+
+use crate::awards::{push_ask, push_awarded, push_no_sale};
+use crate::pieces::push;
+use adx_json::push_number;
+use adx_units::OutOfMemory;
+use day_rules::{Answer, Ask, Which};
+use deal_floor::Campaign;
+use hex::encode;
+use notice_book::End;
+use std::alloc::Global;
+
+fn push_which(out: &mut String, which: Which) -> Result<(), OutOfMemory>
+    ensures { OnOk result (string_bytes out.new ≡ string_bytes out.old ++ which_text which) }
+{
+    match which {
+        Which::Auctions => push(out, "auctions"),
+        Which::Bids => push(out, "bids"),
+        Which::Text => push(out, "text"),
+    }
+}
+
+/// Writes the line of an ask that would pass a limit of the day.
+fn push_day_full(out: &mut String, which: Which, count: u64) -> Result<(), OutOfMemory>
+    ensures { OnOk result (string_bytes out.new ≡ string_bytes out.old ++ dayfull_line which count) }
+{
+    push(out, "{\"answer\":\"dayfull\",\"which\":\"")?;
+    push_which(out, which)?;
+    push(out, "\",\"count\":")?;
+    push_number(out, count)?;
+    push(out, "}")
+}
+
+/// Writes a digest in lower-case hexadecimal digits.
+fn push_digest(alloc: Global, out: &mut String, digest: &[u8; 32]) -> Result<(), OutOfMemory>
+    ensures { OnOk result (string_bytes out.new ≡ string_bytes out.old ++ encode_lower digest.now) }
+{
+    let text = encode(alloc, digest.as_slice())?;
+    push(out, text.as_str())
+}
+
+/// Writes the line of an id that stands with another request.
+fn push_reused(
+    alloc: Global,
+    out: &mut String,
+    kept: &[u8; 32],
+    given: &[u8; 32],
+) -> Result<(), OutOfMemory>
+    ensures { OnOk result (string_bytes out.new ≡ string_bytes out.old ++ reused_line kept.now given.now) }
+{
+    push(out, "{\"answer\":\"reused\",\"kept\":\"")?;
+    push_digest(alloc, out, kept)?;
+    push(out, "\",\"given\":\"")?;
+    push_digest(alloc, out, given)?;
+    push(out, "\"}")
+}
+
+fn push_end(out: &mut String, kept: End) -> Result<(), OutOfMemory>
+    ensures { OnOk result (string_bytes out.new ≡ string_bytes out.old ++ end_text kept) }
+{
+    match kept {
+        End::Billed => push(out, "billed"),
+        End::Lost => push(out, "lost"),
+        End::Expired => push(out, "expired"),
+    }
+}
+
+/// Writes the line of a notice that came too late, by how its award ended.
+fn push_conflict(out: &mut String, kept: End) -> Result<(), OutOfMemory>
+    ensures { OnOk result (string_bytes out.new ≡ string_bytes out.old ++ conflict_line kept) }
+{
+    push(out, "{\"answer\":\"conflict\",\"kept\":\"")?;
+    push_end(out, kept)?;
+    push(out, "\"}")
+}
+
+/// Writes the line of a tick, by how many awards it ended.
+fn push_ticked(out: &mut String, ended: u32) -> Result<(), OutOfMemory>
+    ensures { OnOk result (string_bytes out.new ≡ string_bytes out.old ++ ticked_line ended) }
+{
+    push(out, "{\"answer\":\"ticked\",\"ended\":")?;
+    push_number(out, u64::from(ended))?;
+    push(out, "}")
+}
+
+/// Writes the line of a repeat: of an ask its own line.
+fn push_repeat(
+    out: &mut String,
+    campaigns: &[Campaign],
+    ask: Option<&Ask>,
+) -> Result<(), OutOfMemory>
+    ensures { OnOk result (string_bytes out.new ≡ string_bytes out.old ++ repeat_line campaigns.now (option_map (λ a. a.now) ask.entry)) }
+{
+    match ask {
+        Some(ask) => push_ask(out, campaigns, ask),
+        None => push(out, "{\"answer\":\"repeat\"}"),
+    }
+}
+
+/// Writes the line of an answer, without a newline. `ask` is the ask that the answer is about: the one
+/// that was taken now, or the one that stands in the history already; a notice and a tick are about none.
+pub fn push_answer(
+    alloc: Global,
+    out: &mut String,
+    campaigns: &[Campaign],
+    answer: &Answer,
+    ask: Option<&Ask>,
+) -> Result<(), OutOfMemory>
+    ensures { OnOk result (string_bytes out.new ≡ string_bytes out.old ++ answer_line campaigns.now answer.now (option_map (λ a. a.now) ask.entry)) }
+{
+    match answer {
+        Answer::Awarded { .. } => match ask {
+            Some(ask) => push_awarded(out, campaigns, ask),
+            None => Ok(()),
+        },
+        Answer::NoSale { .. } => match ask {
+            Some(ask) => push_no_sale(out, ask),
+            None => Ok(()),
+        },
+        Answer::Counted => push(out, "{\"answer\":\"counted\"}"),
+        Answer::Repeat { .. } => push_repeat(out, campaigns, ask),
+        Answer::Conflict { kept } => push_conflict(out, *kept),
+        Answer::Unknown => push(out, "{\"answer\":\"unknown\"}"),
+        Answer::Ticked { ended } => push_ticked(out, *ended),
+        Answer::Reused { kept_digest, given } => push_reused(alloc, out, kept_digest, given),
+        Answer::DayFull { which, count } => push_day_full(out, *which, *count),
+    }
+}

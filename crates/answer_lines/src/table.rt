@@ -1,0 +1,101 @@
+//! The closing table.
+ghost use Rattle.std.specs.Prelude.{◌≡◌, ◌<◌, ◌++◌, length, OnOk, string_bytes};
+ghost use Rattle.campaign_book.specs.Accounts.{account_at, IsAccount};
+ghost use Rattle.day_rules.specs.Books.{accounts_in, ask_count as ask_count_of, awards_of};
+ghost use Rattle.day_rules.specs.Terms.{Terms, budgets_after};
+ghost use Rattle.std.specs.List.{flat_map, enumerate_from};
+ghost use Rattle.answer_lines.specs.Table.{account_line, campaign_line, closing_table, counts_line};
+
+use crate::pieces::push;
+use adx_json::{push_number, push_text};
+use adx_units::OutOfMemory;
+use campaign_book::Book;
+use day_rules::Entry;
+use deal_floor::Campaign;
+use discount_table::slab_of;
+use notice_book::Awards;
+
+/// Writes a campaign's row of the closing table.
+fn push_campaign(
+    out: &mut String,
+    campaign: &Campaign,
+    book: &Book,
+    place: u32,
+) -> Result<(), OutOfMemory>
+    requires there { place < length book.now }
+    requires sound { IsAccount (account_at book.now place) }
+    ensures { OnOk result (string_bytes out.new ≡ string_bytes out.old ++ account_line campaign.now (account_at book.now place)) }
+{
+    let budget = book.budget(place).0;
+    push(out, "{\"seat\":")?;
+    push_text(out, campaign.seat.as_str())?;
+    push(out, ",\"cid\":")?;
+    push_text(out, campaign.cid.as_str())?;
+    push(out, ",\"budget\":")?;
+    push_number(out, budget)?;
+    push(out, ",\"reserved\":")?;
+    push_number(out, book.reserved(place).0)?;
+    push(out, ",\"billed\":")?;
+    push_number(out, book.billed(place).0)?;
+    push(out, ",\"slab\":")?;
+    push_number(out, u64::from(slab_of(book.committed(place).0, budget)))?;
+    push(out, "}\n")?;
+    Ok(())
+}
+
+/// Writes a row for each campaign of the roster.
+fn push_rows(out: &mut String, campaigns: &[Campaign], book: &Book) -> Result<(), OutOfMemory>
+    requires { length book.now ≡ length campaigns.now }
+    ensures { OnOk result (string_bytes out.new ≡ string_bytes out.old ++ flat_map (campaign_line book.now) (enumerate_from 0 campaigns.now)) }
+{
+    for place in 0..book.count() {
+        push_campaign(out, &campaigns[place as usize], book, place)?;
+    }
+    Ok(())
+}
+
+/// The number of asks of a history.
+fn ask_count(entries: &[Entry]) -> u64
+    ensures { result ≡ ask_count_of entries.now }
+{
+    let mut count: u64 = 0;
+    for entry in entries {
+        if let Entry::Ask(_) = entry {
+            count += 1;
+        }
+    }
+    count
+}
+
+/// Writes the row of counts of the closing table.
+fn push_counts(out: &mut String, awards: &Awards, entries: &[Entry]) -> Result<(), OutOfMemory>
+    requires { awards.now.awards ≡ awards_of entries.now }
+    ensures { OnOk result (string_bytes out.new ≡ string_bytes out.old ++ counts_line entries.now) }
+{
+    push(out, "{\"asks\":")?;
+    push_number(out, ask_count(entries))?;
+    push(out, ",\"awards\":")?;
+    push_number(out, u64::from(awards.len()))?;
+    push(out, ",\"entries\":")?;
+    push_number(out, entries.len() as u64)?;
+    push(out, "}\n")
+}
+
+/// Writes the closing table: a row for each campaign of the roster, and the counts. The book and the
+/// awards are those of the history.
+pub fn push_table(
+    out: &mut String,
+    campaigns: &[Campaign],
+    book: &Book,
+    awards: &Awards,
+    entries: &[Entry],
+) -> Result<(), OutOfMemory>
+    requires campaigns { length book.now ≡ length campaigns.now }
+    requires awards { awards.now.awards ≡ awards_of entries.now }
+    ensures { OnOk result ((terms : Terms) → book.now ≡ accounts_in (budgets_after terms entries.now) (awards_of entries.now)
+        → string_bytes out.new ≡ string_bytes out.old ++ closing_table campaigns.now terms entries.now) }
+{
+    push_rows(out, campaigns, book)?;
+    push_counts(out, awards, entries)?;
+    Ok(())
+}
