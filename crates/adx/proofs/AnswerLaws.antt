@@ -13,19 +13,19 @@ use Rattle.deal_floor.specs.declared.roster.Roster.{Roster}
 use Rattle.deal_floor.specs.declared.campaign.Campaign.{Campaign}
 use Rattle.script_lines.specs.Meanings.{calls, refused}
 use Rattle.script_lines.specs.declared.refusal.Refusal.{Refusal}
-use Rattle.adx.specs.Output.{answer_line, refusal_line}
+use Rattle.adx.specs.Output.{told_line, refusal_line}
 use Rattle.adx.specs.Running.{AnswersTo}
 use Rattle.adx.specs.Script.{Means, terms_by, cut_line}
 
 -- a call was done, and its answer written from the history that it left
 pub call_answered : (roster : Roster) (terms : Terms) (history : List Entry) (number : ℕ) (line : List ℕ) (c : Call) (old new : List ℕ) (next : List Entry)
-    → terms ≡ terms_by roster → Means roster line (calls c) → IsCall (length (terms_by roster).budgets) c → next ≡ with_entry history (reply terms history c).entry → new ≡ old ++ answer_line roster.campaigns next (reply terms history c).answer
+    → terms ≡ terms_by roster → Means roster line (calls c) → IsCall (length (terms_by roster).budgets) c → next ≡ with_entry history (reply terms history c).entry → new ≡ old ++ told_line roster.campaigns next (reply terms history c).answer
     → AnswersTo roster history number line old new next
 call_answered roster terms history number line c old new next opened means taken entry answer =
     let t : Turn = record { call = c; outcome = done } in
     let left : next ≡ after_turn (terms_by roster) history t = entry ∙ ap (λ (x : Terms). with_entry history (reply x history c).entry) opened in record {
       turns = t ∷ [];
-      out = answer_line roster.campaigns next (reply terms history c).answer;
+      out = told_line roster.campaigns next (reply terms history c).answer;
       answered = record {
         meaning = calls c;
         means = means;
@@ -33,7 +33,7 @@ call_answered roster terms history number line c old new next opened means taken
           t,
           refl,
           refl,
-          inl (refl, ap (λ (h : List Entry). answer_line roster.campaigns h (reply terms history c).answer) left ∙ ap (λ (x : Terms). answer_line roster.campaigns (after_turn (terms_by roster) history t) (reply x history c).answer) opened),
+          inl (refl, ap (λ (h : List Entry). told_line roster.campaigns h (reply terms history c).answer) left ∙ ap (λ (x : Terms). told_line roster.campaigns (after_turn (terms_by roster) history t) (reply x history c).answer) opened),
         );
       };
       done = All-cons (λ (u : Turn). u.outcome ≡ done) t [] refl (All-nil (λ (u : Turn). u.outcome ≡ done));

@@ -1,5 +1,3 @@
-pub mod Joined
-pub mod Chains
 pub mod FirstLine
 pub mod OneMeaning
 pub mod AnswerLaws

@@ -1,5 +1,6 @@
 -- What a run over lines answers, from any history, by what each line means. This project's own.
 use Rattle.std.specs.Prelude.{◌≡◌, ◌⊎◌, ℕ, suc, List, [], ◌∷◌, ◌++◌, All}
+use Rattle.answer_lines.specs.declared.faults.Fault.{Fault}
 use Rattle.day_rules.specs.declared.answer.Answer.{Answer}
 use Rattle.day_rules.specs.declared.entry.Entry.{Entry}
 use Rattle.day_rules.specs.Replies.{reply}
@@ -7,11 +8,6 @@ use Rattle.day_rules.specs.Runs.{Outcome, Turn, done, faulted, after_turn, run}
 use Rattle.day_rules.specs.Terms.{Terms}
 use Rattle.script_lines.specs.Meanings.{Meaning, calls, refused}
 use Rattle.script_lines.specs.declared.refusal.Refusal.{Refusal}
-
--- why a call was given up: the disk failed, or the journal would come to that size
-pub data Fault : Type 0 where
-  disk : Fault
-  journal_full : ℕ → Fault
 
 -- how a format writes the answers of the day, from the history that a call leaves; the faults; and the refusals, by
 -- the line's number and why

@@ -20,7 +20,8 @@ use Rattle.adx.specs.Calls.{HasBooks}
 use Rattle.adx.specs.Endings.{Command}
 use Rattle.adx.specs.Lines.{IsCut, BeginsWithLine}
 use Rattle.adx.specs.Meanings.{Answers, AreDone}
-use Rattle.adx.specs.Output.{writing, refusal_line, toolong_line, roster_refused_line, closing_table}
+use Rattle.answer_lines.specs.Table.{closing_table}
+use Rattle.adx.specs.Output.{writing, refusal_line, toolong_line, roster_refused_line}
 
 -- how much a day with these limits may take
 abbrev pub day_limits : Limits → DayLimits

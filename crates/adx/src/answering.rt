@@ -1,26 +1,59 @@
-//! A line's answer: what the day replies to its call, and then its bytes.
-ghost use Rattle.std.specs.Prelude.{◌≡◌, ◌≤◌, ◌<◌, ◌^◌, ℕ, List, ◌++◌, length, OnOk, string_bytes};
+//! A line's answer: what the day replies to its call, written before the call's entry is added.
+ghost use Rattle.std.specs.Prelude.{◌≡◌, ◌≤◌, ◌<◌, ◌^◌, ℕ, List, ◌++◌, length, IfSome, OnErr, OnOk, string_bytes};
 ghost use Rattle.adx_io.specs.Lines.{Keeps};
+ghost use Rattle.adx_io.specs.Talk.{ended};
+ghost use Rattle.answer_lines.specs.Answers.{answer_line as line_of_answer, ask_at_hand as at_hand};
 ghost use Rattle.day_rules.specs.Asks.{IsWellFormed, IsUndecided};
+ghost use Rattle.day_rules.specs.DayState.{HasRoomFor};
+ghost use Rattle.day_rules.specs.Legal.{MayFollow};
 ghost use Rattle.day_rules.specs.Replies.{ask_reply, notice_reply, tick_reply, reply, with_entry};
 ghost use Rattle.day_rules.specs.Runs.{IsCall};
 ghost use Rattle.adx.specs.declared.limits.TheConstants.{LINE_LIMIT};
-ghost use Rattle.adx.specs.Output.{answer_line as answer_line_of};
+ghost use Rattle.adx.specs.Output.{told_line};
 ghost use Rattle.script_lines.specs.Found.{call_of};
 ghost use Rattle.adx.specs.Running.{AnswersTo};
 ghost use Rattle.adx.specs.Script.{terms_by};
 
-use crate::ask_lines::push_answer;
-use crate::output::push_refused;
+use crate::refusals::{push, push_refused};
 use adx_io::LineBuffer;
 use adx_units::OutOfMemory;
+use answer_lines::{ask_at_hand, push_answer};
 use day_machine::Day;
-use day_rules::Ask;
+use day_rules::{Answer, Ask, Entry};
 use deal_floor::{Campaign, Roster};
 use script_lines::{LineFault, Notice, Refusal, ScriptLine, read_line};
 use std::alloc::Global;
 
-/// Takes an ask, and then writes its answer.
+/// Writes the answer to a call, and then adds the call's entry, for which there is memory: where memory
+/// is wanting for the answer, the day is as it was.
+fn answer_planned(
+    alloc: Global,
+    campaigns: &[Campaign],
+    day: &mut Day,
+    answer: &Answer,
+    entry: Option<Entry>,
+    out: &mut String,
+) -> Result<(), OutOfMemory>
+    requires legal { IfSome entry (MayFollow day.old.terms day.old.history) }
+    requires room { IfSome entry (HasRoomFor day.old) }
+    ensures terms { day.new.terms ≡ day.old.terms }
+    ensures entry { OnOk result (day.new.history ≡ with_entry day.old.history entry) }
+    ensures unchanged { OnErr result (day.new.history ≡ day.old.history) }
+    ensures answer { OnOk result (string_bytes out.new ≡ string_bytes out.old ++ ended (line_of_answer campaigns.now answer.now (at_hand day.old.history answer.now entry))) }
+{
+    let ask = ask_at_hand(day.entries(), answer, entry.as_ref());
+    push_answer(alloc, out, campaigns, answer, ask)?;
+    push(out, "\n")?;
+    match entry {
+        Some(entry) => {
+            day.commit(entry);
+            Ok(())
+        }
+        None => Ok(()),
+    }
+}
+
+/// Takes an ask, and writes its answer.
 fn answer_ask(
     alloc: Global,
     campaigns: &[Campaign],
@@ -32,17 +65,20 @@ fn answer_ask(
     requires undecided { IsUndecided ask }
     ensures terms { day.new.terms ≡ day.old.terms }
     ensures entry { OnOk result (day.new.history ≡ with_entry day.old.history (ask_reply day.old.terms day.old.history ask).entry) }
-    ensures answer { OnOk result (string_bytes out.new ≡ string_bytes out.old ++ answer_line_of campaigns.now day.new.history (ask_reply day.old.terms day.old.history ask).answer) }
+    ensures unchanged { OnErr result (day.new.history ≡ day.old.history) }
+    ensures answer { OnOk result (string_bytes out.new ≡ string_bytes out.old ++ told_line campaigns.now day.new.history (ask_reply day.old.terms day.old.history ask).answer) }
 {
     let (answer, entry) = day.plan_ask(ask);
-    if let Some(entry) = entry {
-        day.prepare(&entry)?;
-        day.commit(entry);
+    match entry {
+        Some(entry) => {
+            day.prepare(&entry)?;
+            answer_planned(alloc, campaigns, day, &answer, Some(entry), out)
+        }
+        None => answer_planned(alloc, campaigns, day, &answer, None, out),
     }
-    push_answer(alloc, out, campaigns, day.entries(), answer)
 }
 
-/// Takes a notice, and then writes its answer.
+/// Takes a notice, and writes its answer.
 fn answer_notice(
     alloc: Global,
     campaigns: &[Campaign],
@@ -51,17 +87,16 @@ fn answer_notice(
     out: &mut String,
 ) -> Result<(), OutOfMemory>
     ensures terms { day.new.terms ≡ day.old.terms }
-    ensures entry { day.new.history ≡ with_entry day.old.history (notice_reply day.old.history notice.now.kind notice.now.auction notice.now.award).entry }
-    ensures answer { OnOk result (string_bytes out.new ≡ string_bytes out.old ++ answer_line_of campaigns.now day.new.history (notice_reply day.old.history notice.now.kind notice.now.auction notice.now.award).answer) }
+    ensures entry { OnOk result (day.new.history ≡ with_entry day.old.history (notice_reply day.old.history notice.now.kind notice.now.auction notice.now.award).entry) }
+    ensures unchanged { OnErr result (day.new.history ≡ day.old.history) }
+    ensures answer { OnOk result (string_bytes out.new ≡ string_bytes out.old ++ told_line campaigns.now day.new.history (notice_reply day.old.history notice.now.kind notice.now.auction notice.now.award).answer) }
 {
     let (answer, entry) = day.plan_notice(notice.kind, notice.auction.as_str(), notice.award);
-    if let Some(entry) = entry {
-        day.commit(entry);
-    }
-    push_answer(alloc, out, campaigns, day.entries(), answer)
+    answer_planned(alloc, campaigns, day, &answer, entry, out)?;
+    Ok(())
 }
 
-/// Takes a tick, and then writes its answer.
+/// Takes a tick, and writes its answer.
 fn answer_tick(
     alloc: Global,
     campaigns: &[Campaign],
@@ -71,17 +106,16 @@ fn answer_tick(
 ) -> Result<(), OutOfMemory>
     requires { now < 2 ^ 63 }
     ensures terms { day.new.terms ≡ day.old.terms }
-    ensures entry { day.new.history ≡ with_entry day.old.history (tick_reply day.old.history now).entry }
-    ensures answer { OnOk result (string_bytes out.new ≡ string_bytes out.old ++ answer_line_of campaigns.now day.new.history (tick_reply day.old.history now).answer) }
+    ensures entry { OnOk result (day.new.history ≡ with_entry day.old.history (tick_reply day.old.history now).entry) }
+    ensures unchanged { OnErr result (day.new.history ≡ day.old.history) }
+    ensures answer { OnOk result (string_bytes out.new ≡ string_bytes out.old ++ told_line campaigns.now day.new.history (tick_reply day.old.history now).answer) }
 {
     let (answer, entry) = day.plan_tick(now);
-    if let Some(entry) = entry {
-        day.commit(entry);
-    }
-    push_answer(alloc, out, campaigns, day.entries(), answer)
+    answer_planned(alloc, campaigns, day, &answer, entry, out)?;
+    Ok(())
 }
 
-/// Takes the call of a line, and then writes its answer.
+/// Takes the call of a line, and writes its answer.
 fn answer_call(
     alloc: Global,
     campaigns: &[Campaign],
@@ -92,7 +126,8 @@ fn answer_call(
     requires { IsCall (length day.old.terms.budgets) (call_of call) }
     ensures terms { day.new.terms ≡ day.old.terms }
     ensures entry { OnOk result (day.new.history ≡ with_entry day.old.history (reply day.old.terms day.old.history (call_of call)).entry) }
-    ensures answer { OnOk result (string_bytes out.new ≡ string_bytes out.old ++ answer_line_of campaigns.now day.new.history (reply day.old.terms day.old.history (call_of call)).answer) }
+    ensures unchanged { OnErr result (day.new.history ≡ day.old.history) }
+    ensures answer { OnOk result (string_bytes out.new ≡ string_bytes out.old ++ told_line campaigns.now day.new.history (reply day.old.terms day.old.history (call_of call)).answer) }
 {
     match call {
         ScriptLine::Ask { ask } => answer_ask(alloc, campaigns, day, ask, out),
@@ -112,6 +147,7 @@ fn answer_text(
 ) -> Result<(), OutOfMemory>
     requires terms { day.old.terms ≡ terms_by roster.now }
     ensures terms { day.new.terms ≡ day.old.terms }
+    ensures unchanged { OnErr result (day.new.history ≡ day.old.history) }
     ensures answered { OnOk result (length line.now ≤ LINE_LIMIT → AnswersTo roster.entry.now day.old.history number line.now (string_bytes out.old) (string_bytes out.new) day.new.history) }
 {
     match read_line(alloc, roster, line) {
@@ -138,6 +174,7 @@ pub(crate) fn answer_line(
 ) -> Result<(), OutOfMemory>
     requires terms { day.old.terms ≡ terms_by roster.now }
     ensures terms { day.new.terms ≡ day.old.terms }
+    ensures unchanged { OnErr result (day.new.history ≡ day.old.history) }
     ensures answered { OnOk result ((line : List ℕ) → Keeps LINE_LIMIT buffer.now.overlong buffer.now.line line
         → AnswersTo roster.entry.now day.old.history number line (string_bytes out.old) (string_bytes out.new) day.new.history) }
 {

@@ -15,7 +15,7 @@ ghost use Rattle.adx.specs.Steps.{HasCauses};
 
 use crate::ending::Ending;
 use crate::limits::{INPUT_LIMIT, LINE_LIMIT};
-use crate::output::push_roster_refused;
+use crate::refusals::push_roster_refused;
 use crate::script::{put_end, run_day};
 use adx_io::{LineBuffer, Next, Sink, Source, Talk};
 use adx_units::OutOfMemory;

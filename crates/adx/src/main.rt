@@ -3,18 +3,17 @@
 //! The call `adx` of the module `command` does all that the program does, from the words of its command
 //! line and the bytes of a source to those of a sink; its contract is the program's. It stands on
 //! `script_lines`, which says what a line means, on `day_machine`, which holds a day, on `day_rules`, which
-//! says what a day means, and on `deal_floor`, `adx_json`, `adx_io` and `adx_units`.
+//! says what a day means, on `answer_lines`, which writes the answers, and on `deal_floor`, `adx_json`, `adx_io`
+//! and `adx_units`.
 #![tactic(auto)]
 
 mod answering;
-mod ask_lines;
 mod command;
 mod day;
 mod ending;
 mod limits;
-mod output;
+mod refusals;
 mod script;
-mod table;
 #[cfg(test)]
 mod test_tables;
 #[cfg(test)]

@@ -8,7 +8,8 @@ ghost use Rattle.adx.specs.declared.ending.Ending.TheVariants.{Refused, Stopped}
 ghost use Rattle.adx_io.specs.declared.stop.Stop.TheVariants.{OutOfMemory as NoMemory};
 ghost use Rattle.adx_io.specs.declared.line_buffer.TheConstants.{CHUNK};
 ghost use Rattle.adx.specs.declared.limits.TheConstants.{INPUT_LIMIT as input_limit, LINE_LIMIT as line_limit};
-ghost use Rattle.adx.specs.Output.{closing_table, toolong_line};
+ghost use Rattle.answer_lines.specs.Table.{closing_table};
+ghost use Rattle.adx.specs.Output.{toolong_line};
 ghost use Rattle.adx.specs.Running.{AnswersKept, EndsTalk, PutsEnd};
 ghost use Rattle.adx.specs.Script.{closing, cut_line, script_of, terms_by};
 ghost use Rattle.adx.specs.Steps.{HasCauses, IsAnswer};
@@ -16,10 +17,10 @@ ghost use Rattle.adx.specs.Steps.{HasCauses, IsAnswer};
 use crate::answering::answer_line;
 use crate::ending::Ending;
 use crate::limits::LINE_LIMIT;
-use crate::output::{push_refusal, push_refused};
-use crate::table::push_table;
+use crate::refusals::{push_refusal, push_refused};
 use adx_io::{LineBuffer, Next, Sink, Source, Talk};
 use adx_units::{OutOfMemory, Units};
+use answer_lines::push_table;
 use day_machine::Day;
 use day_rules::DayLimits;
 use deal_floor::{Campaign, Roster};
@@ -74,11 +75,20 @@ fn push_cut(
 }
 
 /// Writes the closing table of a day with these campaigns.
-fn push_books(out: &mut String, day: &Day, campaigns: &[Campaign]) -> Result<(), OutOfMemory>
+fn push_campaigns(out: &mut String, day: &Day, campaigns: &[Campaign]) -> Result<(), OutOfMemory>
     requires { length day.now.terms.budgets ≡ length campaigns.now }
     ensures { OnOk result (string_bytes out.new ≡ string_bytes out.old ++ closing_table campaigns.now day.now.terms day.now.history) }
 {
     push_table(out, campaigns, day.book(), day.awards(), day.entries())?;
+    Ok(())
+}
+
+/// Writes the closing table of the day of a roster.
+fn push_books(out: &mut String, day: &Day, roster: &Roster) -> Result<(), OutOfMemory>
+    requires { day.now.terms ≡ terms_by roster.now }
+    ensures { OnOk result (string_bytes out.new ≡ string_bytes out.old ++ closing_table roster.entry.now.campaigns (terms_by roster.entry.now) day.now.history) }
+{
+    push_campaigns(out, day, roster.campaigns.as_slice())?;
     Ok(())
 }
 
@@ -96,7 +106,7 @@ fn push_close(
         → string_bytes out.new ≡ string_bytes out.old ++ closing roster.entry.now number line day.now.history) }
 {
     push_cut(alloc, out, number, buffer)?;
-    push_books(out, day, roster.campaigns.as_slice())?;
+    push_books(out, day, roster)?;
     Ok(())
 }
 

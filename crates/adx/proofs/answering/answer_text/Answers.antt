@@ -3,7 +3,7 @@ use Rattle.std.proofs.Common.{◌∙◌, ◌++◌, inr, ap, refl, sym, subst, st
 use Rattle.day_rules.specs.Replies.{reply}
 use Rattle.day_rules.specs.Runs.{IsCall}
 use Rattle.script_lines.specs.Found.{call_of}
-use Rattle.adx.specs.Output.{answer_line}
+use Rattle.adx.specs.Output.{told_line}
 use Rattle.adx.specs.Script.{terms_by}
 use Rattle.adx.proofs.AnswerLaws.{call_answered, line_refused, budgets_counted}
 use Rattle.adx.proofs.answering.answer_text.Goals as goal
@@ -20,7 +20,7 @@ returns-in_ok-answer_call-in-Ok-clause-answered c = λ short.
     call_answered roster day.terms day.history c.args.number c.args.line.now call old (string_bytes c.answer_call.new.out) c.answer_call.new.day.history
     c.requires.terms (inr (short, c.in-Ok.ensures.means)) (subst (λ n. IsCall n call) (sym (budgets_counted roster (terms_by roster) refl)) c.in-Ok.ensures.ready)
     c.in_ok-answer_call-in-Ok.ensures.entry
-    (c.in_ok-answer_call-in-Ok.ensures.answer ∙ ap (λ cs. old ++ answer_line cs c.answer_call.new.day.history (reply day.terms day.history call).answer) c.as_slice.ensures)
+    (c.in_ok-answer_call-in-Ok.ensures.answer ∙ ap (λ cs. old ++ told_line cs c.answer_call.new.day.history (reply day.terms day.history call).answer) c.as_slice.ensures)
 
 pub returns-in_ok-push_refused-in-Err-Refused-clause-answered : goal.returns-in_ok-push_refused-in-Err-Refused-clause-answered
 returns-in_ok-push_refused-in-Err-Refused-clause-answered c = λ short.

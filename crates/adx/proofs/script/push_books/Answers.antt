@@ -1,12 +1,15 @@
--- The book has an account for each campaign.
-use Rattle.std.proofs.Common.{◌∙◌, List, length, ap}
-use Rattle.campaign_book.specs.Accounts.{Account}
-use Rattle.day_rules.specs.Books.{awards_of}
-use Rattle.day_rules.specs.Terms.{budgets_after}
-use Rattle.day_rules.proofs.Money.{accounts_length}
+-- The day's terms are the roster's.
+use Rattle.std.proofs.Common.{◌∙◌, ◌++◌, length, ap, sym, string_bytes}
+use Rattle.answer_lines.specs.Table.{closing_table}
+use Rattle.adx.proofs.AnswerLaws.{budgets_counted}
 use Rattle.adx.proofs.script.push_books.Goals as goal
 
-pub push_table-requires-clause-campaigns : goal.push_table-requires-clause-campaigns
-push_table-requires-clause-campaigns c =
+pub push_campaigns-requires : goal.push_campaigns-requires
+push_campaigns-requires c = budgets_counted c.args.roster.now c.args.day.now.terms c.requires ∙ ap (λ cs. length cs) (sym c.as_slice.ensures)
+
+pub returns : goal.returns
+returns c =
+    let roster = c.args.roster.now in
     let day = c.args.day.now in
-    ap (λ (accounts : List Account). length accounts) c.book.ensures ∙ accounts_length (budgets_after day.terms day.history) (awards_of day.history) ∙ c.requires
+    let old = string_bytes c.args.out.now in
+    c.in_ok-push_campaigns.ensures ∙ ap (λ cs. old ++ closing_table cs day.terms day.history) c.as_slice.ensures ∙ ap (λ t. old ++ closing_table roster.campaigns t day.history) c.requires
