@@ -25,3 +25,8 @@ ReadsRest limit before now (Err stop) old new = Adds before now old new
 -- whatever a source tells, so many bytes at most stand behind what was there
 abbrev pub Within : ℕ → List ℕ → List ℕ → Type 0
 Within limit before now = (bytes : List ℕ) × (now ≡ before ++ bytes) × (length bytes ≤ limit)
+
+-- past the limit so many bytes were added, whatever a source tells
+abbrev pub IsFull : ℕ → List ℕ → List ℕ → Rest → Type 0
+IsFull limit before now Rest.PastLimit = length now ≡ length before + limit
+IsFull limit before now Rest.Whole = Unit

@@ -82,6 +82,7 @@ impl Frame {
         ensures err { OnErr result (self.new.payload ≡ self.old.payload) }
         ensures succeeds { length piece.now ≤ self.old.spare → IsOk result }
         ensures spare { self.old.spare ≤ self.new.spare + length piece.now }
+        ensures room { self.old.spare + length self.old.payload ≤ self.new.spare + length self.new.payload }
     {
         let len = self.bytes.len() - 5;
         if piece.len() > LONGEST_PAYLOAD - len {

@@ -1,7 +1,7 @@
 //! The rest of an input, read to its end.
 ghost use Rattle.std.specs.Prelude.{◌≡◌, ◌≤◌, ◌<◌, ◌+◌, ◌-◌, length, take, drop, IfOk, OnOk, OnErr};
 ghost use Rattle.adx_io.specs.Lines.{Fills};
-ghost use Rattle.adx_io.specs.Rest.{AddsSome, ReadsRest, Within};
+ghost use Rattle.adx_io.specs.Rest.{AddsSome, IsFull, ReadsRest, Within};
 ghost use Rattle.adx_io.specs.Streams.{HasCause, HasReadCause, WhereTold};
 ghost use Rattle.adx_io.specs.declared.line_buffer.TheConstants.{CHUNK};
 
@@ -27,6 +27,7 @@ pub enum Rest {
 pub fn read_rest<S: Source>(source: &mut S, out: &mut Vec<u8>, limit: u64) -> Result<Rest, Stop>
     ensures reads { WhereTold (S.tape source.old) (S.tape source.new) (ReadsRest limit out.old.items out.new.items result) }
     ensures within { Within limit out.old.items out.new.items }
+    ensures full { IfOk result (IsFull limit out.old.items out.new.items) }
     ensures cause { HasReadCause (S.faults source.old) (S.faults source.new) result }
     ensures same { S.place source.new ≡ S.place source.old }
 {

@@ -1,5 +1,5 @@
 -- The bytes that were taken stand behind those that were there.
-use Rattle.std.proofs.Common.{◌≡◌, ◌≤◌, ◌+◌, ◌-◌, ◌++◌, List, ℕ, length, take, drop, ap, sym, ◌∙◌, arith}
+use Rattle.std.proofs.Common.{◌≡◌, ◌++◌, length, take, drop, ap, ◌∙◌, arith}
 use Rattle.adx_io.proofs.Rests.{taken_behind, fills_adds, within_taken}
 use Rattle.adx_io.proofs.rest.add_some.Given.{Over}
 use Rattle.adx_io.proofs.rest.add_some.Goals as goal
