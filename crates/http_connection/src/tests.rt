@@ -2,6 +2,7 @@
 use crate::{Conn, HttpFault, Message, Verb};
 use adx_io::MemorySource;
 use std::alloc::{AllocError, Global};
+use std::fmt::Write;
 use std::test::Fail;
 
 /// The limit of a body in bytes.
@@ -237,5 +238,94 @@ fn reads_messages(rt: HostRuntime) -> Result<(), Fail> {
         assert!(rt; gives(rt.alloc(), &mut conn, &bytes, 7, wanted)?, "{row}");
         assert!(rt; gives(rt.alloc(), &mut conn, &bytes, 0, wanted)?, "{row}");
     }
+    Ok(())
+}
+
+/// What the response of the bytes gives.
+fn answered(alloc: Global, conn: &mut Conn, bytes: &[u8], step: usize) -> Result<String, Fail> {
+    let mut source = MemorySource::new(alloc, bytes, step, &[])?;
+    let mut out = String::new(alloc);
+    conn.clear();
+    match conn.read_response(&mut source) {
+        Ok(response) => {
+            write!(&mut out, "{}:", response.status)?;
+            out.push_str(std::str::from_utf8(response.body).unwrap_or("?"))?;
+        }
+        Err(fault) => out.push_str(name_of(fault))?,
+    }
+    Ok(out)
+}
+
+/// Whether the response of the bytes gives this in pieces of so many bytes; 0 is whole.
+fn answers(
+    alloc: Global,
+    conn: &mut Conn,
+    bytes: &[u8],
+    step: usize,
+    wanted: &str,
+) -> Result<bool, Fail> {
+    let got = answered(alloc, conn, bytes, step)?;
+    Ok(got.as_str() == wanted)
+}
+
+/// Rows of bytes and the status and body that they give.
+const RESPONSES: &str = " => Cut
+HTTP/1.1 200 OK<Content-Length: 5<<hello => 200:hello
+HTTP/1.1 200 OK<Content-Length: 5<<hello more => 200:hello
+HTTP/1.1 200 OK<Content-Length: 5<<hell => Cut
+HTTP/1.1 200 OK<Content-Length: 0<< => 200:
+HTTP/1.1 200 OK<Content-Length: 21<< => BodyTooLong
+HTTP/1.1 200 OK<Content-Length: 5<Content-Length: 6<<hello! => BadHead
+HTTP/1.1 200 OK<Content-Length: 5<Transfer-Encoding: chunked<< => BadHead
+HTTP/1.1 200 OK<Transfer-Encoding: chunked<<3<hel<2<lo<0<< => 200:hello
+HTTP/1.1 200 OK<Transfer-Encoding: chunked<<3<hel<2<lo<0< => Cut
+HTTP/1.1 200 OK<Transfer-Encoding: chunked<<zz< => BadChunk
+HTTP/1.1 200 OK<<hello => 200:hello
+HTTP/1.1 200 OK<<01234567890123456789 => 200:01234567890123456789
+HTTP/1.1 200 OK<<012345678901234567890 => BodyTooLong
+HTTP/1.0 200 OK<<hello => 200:hello
+HTTP/1.1 204 No Content<< => 204:
+HTTP/1.1 204 No Content<Content-Length: 5<< => 204:
+HTTP/1.1 304 Not Modified<Content-Length: 99<< => 304:
+HTTP/1.1 500 Oh<Content-Length: 1<<x => 500:x
+HTTP/1.1 200<Content-Length: 1<<x => 200:x
+HTTP/1.1 200 OK<Content-Encoding: gzip<< => Coding
+HTTP/1.1 20 OK<< => BadHead
+HTTP/1.1 2000 OK<< => BadHead
+HTTP/1.1 abc OK<< => BadHead
+HTTP/2.0 200 OK<< => BadHead
+HTTP/1.1 200 OK<A: b< c<< => BadHead
+GET / HTTP/1.1<Host: x<< => BadHead
+HTTP/1.1 200 OK< => Cut";
+
+/// Each row in pieces of 1, 2, 3 and 7 bytes and whole.
+#[test]
+fn reads_responses(rt: HostRuntime) -> Result<(), Fail> {
+    assert_eq!(rt; RESPONSES.lines().count(), 28);
+    let mut conn = Conn::new(rt.alloc(), LIMIT)?;
+    for row in RESPONSES.lines() {
+        let (text, wanted) = row.split_once(" => ").ok_or("no answer")?;
+        let bytes = bytes_of(rt.alloc(), text)?;
+        assert!(rt; answers(rt.alloc(), &mut conn, &bytes, 1, wanted)?, "{row}");
+        assert!(rt; answers(rt.alloc(), &mut conn, &bytes, 2, wanted)?, "{row}");
+        assert!(rt; answers(rt.alloc(), &mut conn, &bytes, 3, wanted)?, "{row}");
+        assert!(rt; answers(rt.alloc(), &mut conn, &bytes, 7, wanted)?, "{row}");
+        assert!(rt; answers(rt.alloc(), &mut conn, &bytes, 0, wanted)?, "{row}");
+    }
+    Ok(())
+}
+
+/// After a fault each call answers `Cut` until `clear`.
+#[test]
+fn keeps_a_fault(rt: HostRuntime) -> Result<(), Fail> {
+    let bytes = bytes_of(rt.alloc(), "GET<<GET / HTTP/1.1<Host: x<<")?;
+    let mut source = MemorySource::new(rt.alloc(), &bytes, 0, &[])?;
+    let mut out = String::new(rt.alloc());
+    let mut conn = Conn::new(rt.alloc(), LIMIT)?;
+    push_next(&mut out, &mut conn, &mut source)?;
+    push_next(&mut out, &mut conn, &mut source)?;
+    conn.clear();
+    push_next(&mut out, &mut conn, &mut source)?;
+    assert_eq!(rt; out.as_str(), "BadHeadCutend");
     Ok(())
 }
