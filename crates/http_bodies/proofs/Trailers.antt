@@ -115,15 +115,15 @@ trailer_many at count end before mid old new t s many e some =
     ))
     (flow before mid old new t)
 
-all_front : (a b : List (List ℕ)) → All IsFull (a ++ b) → All IsFull a
+pub all_front : (a b : List (List ℕ)) → All IsFull (a ++ b) → All IsFull a
 all_front [] b all = All-nil IsFull
 all_front (x ∷ a) b all = All-cons IsFull x a (All-head IsFull x (a ++ b) all) (all_front a b (All-tail IsFull x (a ++ b) all))
 
-all_last : (a : List (List ℕ)) (x : List ℕ) → All IsFull (a ++ x ∷ []) → IsFull x
+pub all_last : (a : List (List ℕ)) (x : List ℕ) → All IsFull (a ++ x ∷ []) → IsFull x
 all_last [] x all = All-head IsFull x [] all
 all_last (y ∷ a) x all = all_last a x (All-tail IsFull y (a ++ x ∷ []) all)
 
-trailer_lines : (trailer : List ℕ) → (t : IsTrailer trailer) → All IsLine (IsTrailer.lines t ++ IsTrailer.last t ∷ [])
+pub trailer_lines : (trailer : List ℕ) → (t : IsTrailer trailer) → All IsLine (IsTrailer.lines t ++ IsTrailer.last t ∷ [])
 trailer_lines trailer t = All-append IsLine t.lines (t.last ∷ []) (fulls_are_lines t.lines t.full) (All-cons IsLine t.last [] (empty_is_line t.last t.ends) (All-nil IsLine))
 
 -- where the next line doesn't end within the bound, no trailer does

@@ -11,7 +11,7 @@ use Rattle.http_buffer.specs.Walks.{step, walk, count_of}
 use Rattle.http_buffer.specs.declared.head.Walk.{Walk}
 
 -- a line that ends is cut in one way
-cut : (a b p q : List ℕ) → IsLine a → IsLine b → a ++ 10 ∷ p ≡ b ++ 10 ∷ q → (a ≡ b) × (p ≡ q)
+pub cut : (a b p q : List ℕ) → IsLine a → IsLine b → a ++ 10 ∷ p ≡ b ++ 10 ∷ q → (a ≡ b) × (p ≡ q)
 cut [] [] p q ones twos e = (refl, cc)
 cut [] (y ∷ b) p q ones twos e = let h : 10 ≡ y = cc in absurd (All-head (λ x. x ≢ 10) y b twos (sym h))
 cut (x ∷ a) [] p q ones twos e = let h : x ≡ 10 = cc in absurd (All-head (λ x. x ≢ 10) x a ones h)
@@ -22,14 +22,14 @@ cut (x ∷ a) (y ∷ b) p q ones twos e =
     (cc (first, rest.0), rest.1)
 
 -- bytes without a line feed reach no further than a line does
-reach : (a b p q : List ℕ) → IsLine a → IsLine b → a ++ p ≡ b ++ 10 ∷ q → length a ≤ length b
+pub reach : (a b p q : List ℕ) → IsLine a → IsLine b → a ++ p ≡ b ++ 10 ∷ q → length a ≤ length b
 reach [] b p q ones twos e = omega arith
 reach (x ∷ a) [] p q ones twos e = let h : x ≡ 10 = cc in absurd (All-head (λ x. x ≢ 10) x a ones h)
 reach (x ∷ a) (y ∷ b) p q ones twos e =
     let tails : a ++ p ≡ b ++ 10 ∷ q = cc in
     let less = reach a b p q (All-tail (λ x. x ≢ 10) x a ones) (All-tail (λ x. x ≢ 10) y b twos) tails in omega (arith, less)
 
-ended_cons : (b : List ℕ) (bs : List (List ℕ)) (rest : List ℕ) → flat_map ended (b ∷ bs) ++ rest ≡ b ++ 10 ∷ (flat_map ended bs ++ rest)
+pub ended_cons : (b : List ℕ) (bs : List (List ℕ)) (rest : List ℕ) → flat_map ended (b ∷ bs) ++ rest ≡ b ++ 10 ∷ (flat_map ended bs ++ rest)
 ended_cons b bs rest = append_assoc (b ++ 10 ∷ []) (flat_map ended bs) rest ∙ append_assoc b (10 ∷ []) (flat_map ended bs ++ rest)
 
 ended_length : (b : List ℕ) (bs : List (List ℕ)) → length (flat_map ended (b ∷ bs)) ≡ length b + 1 + length (flat_map ended bs)
@@ -56,15 +56,15 @@ pub walk_append : (w : Walk) (a b : List (List ℕ)) → walk w (a ++ b) ≡ wal
 walk_append w [] b = refl
 walk_append w (x ∷ a) b = walk_append (step w (is_empty_line x)) a b
 
-walk_over : (n : ℕ) (lines : List (List ℕ)) → walk (Walk.Over n) lines ≡ Walk.Over n
+pub walk_over : (n : ℕ) (lines : List (List ℕ)) → walk (Walk.Over n) lines ≡ Walk.Over n
 walk_over n [] = refl
 walk_over n (x ∷ lines) = walk_over n lines
 
-walk_blank : (before : List (List ℕ)) → All IsEmpty before → walk Walk.Blank before ≡ Walk.Blank
+pub walk_blank : (before : List (List ℕ)) → All IsEmpty before → walk Walk.Blank before ≡ Walk.Blank
 walk_blank [] empty = refl
 walk_blank (x ∷ before) empty = ap (λ b. walk (step Walk.Blank b) before) (All-head IsEmpty x before empty) ∙ walk_blank before (All-tail IsEmpty x before empty)
 
-walk_full : (n : ℕ) (lines : List (List ℕ)) → All IsFull lines → walk (Walk.Full n) lines ≡ Walk.Full (n + length lines)
+pub walk_full : (n : ℕ) (lines : List (List ℕ)) → All IsFull lines → walk (Walk.Full n) lines ≡ Walk.Full (n + length lines)
 walk_full n [] full = ap Walk.Full (omega arith)
 walk_full n (x ∷ lines) full =
     ap (λ b. walk (step (Walk.Full n) b) lines) (IsFull.some (All-head IsFull x lines full)) ∙ walk_full (n + 1) lines (All-tail IsFull x lines full) ∙ ap Walk.Full (omega arith)
@@ -243,13 +243,13 @@ fulls_are_lines (x ∷ lines) all = All-cons IsLine x lines (IsFull.is_line (All
 abbrev pub head_lines : {bytes head rest : List ℕ} → BeginsWithHead bytes head rest → List (List ℕ)
 head_lines h = (h.before ++ (h.first ∷ h.lines)) ++ h.last ∷ []
 
-are_head_lines : {bytes head rest : List ℕ} → (h : BeginsWithHead bytes head rest) → All IsLine (head_lines h)
+pub are_head_lines : {bytes head rest : List ℕ} → (h : BeginsWithHead bytes head rest) → All IsLine (head_lines h)
 are_head_lines h =
     All-append IsLine (h.before ++ (h.first ∷ h.lines)) (h.last ∷ [])
     (All-append IsLine h.before (h.first ∷ h.lines) (empties_are_lines h.before h.empty) (fulls_are_lines (h.first ∷ h.lines) h.full))
     (All-cons IsLine h.last [] (empty_is_line h.last h.ends) (All-nil IsLine))
 
-head_walk : {bytes head rest : List ℕ} → (h : BeginsWithHead bytes head rest) → walk Walk.Blank (head_lines h) ≡ Walk.Over (length h.lines)
+pub head_walk : {bytes head rest : List ℕ} → (h : BeginsWithHead bytes head rest) → walk Walk.Blank (head_lines h) ≡ Walk.Over (length h.lines)
 head_walk h =
     walk_append Walk.Blank (h.before ++ (h.first ∷ h.lines)) (h.last ∷ [])
     ∙ ap (λ w. step w (is_empty_line h.last)) (walk_append Walk.Blank h.before (h.first ∷ h.lines) ∙ ap (λ w. walk w (h.first ∷ h.lines)) (walk_blank h.before h.empty)

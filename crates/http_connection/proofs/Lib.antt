@@ -3,3 +3,8 @@ pub mod Heads
 pub mod Requests
 pub mod Responses
 pub mod Given
+pub mod OneChunk
+pub mod OneBody
+pub mod OneFraming
+pub mod OneAnswer
+pub mod Fronts

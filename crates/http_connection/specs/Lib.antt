@@ -2,3 +2,4 @@ pub mod Messages
 pub mod State
 pub mod Answers
 pub mod Found
+pub mod Laws

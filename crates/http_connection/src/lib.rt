@@ -7,8 +7,10 @@
 #![tactic(auto)]
 
 mod conn;
+mod laws;
 #[cfg(test)]
 mod tests;
 
 pub use conn::{Conn, ConnEnd, Message, Response};
 pub use http_grammar::{HttpFault, Verb};
+pub use laws::{fronts_stay, one_answer};
