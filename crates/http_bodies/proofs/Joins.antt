@@ -33,7 +33,7 @@ joining_none limit before old = record {
 }
 
 -- one chunk more
-one_chunk : (limit size : ℕ) (b data_bytes bytes mid behind rest : List ℕ) → HasJoined limit b bytes mid → BeginsChunk mid size behind → behind ≡ (data_bytes ++ crlf_bytes) ++ rest
+pub one_chunk : (limit size : ℕ) (b data_bytes bytes mid behind rest : List ℕ) → HasJoined limit b bytes mid → BeginsChunk mid size behind → behind ≡ (data_bytes ++ crlf_bytes) ++ rest
     → length data_bytes ≡ size → 0 < size → length b + size ≤ limit → HasJoined limit (b ++ data_bytes) bytes rest
 one_chunk limit size b d bytes mid behind rest h c e is some fits =
     let chunk : Chunk = record { line = c.line; bytes = d } in

@@ -3,3 +3,4 @@ pub mod BodyParts
 pub mod ChunkParts
 pub mod Trailers
 pub mod Joins
+pub mod AtHand

@@ -32,3 +32,11 @@ FailsBody limit Body.Chunked bytes HttpFault.BadChunk = FailsChunks limit bytes 
 FailsBody limit Body.Chunked bytes HttpFault.BodyTooLong = FailsChunks limit bytes ChunkFault.too_long
 FailsBody limit Body.ToEnd bytes HttpFault.BodyTooLong = limit < length bytes
 FailsBody limit body bytes fault = ⊥
+
+-- the bytes begin with a whole body
+abbrev pub HasBody : ℕ → Body → List ℕ → Type 0
+HasBody limit body bytes = (b : List ℕ) × (rest : List ℕ) × IsBodyThen limit body bytes b rest
+
+-- something is wrong with the body, as that the bytes end within it
+abbrev pub LacksBody : ℕ → Body → List ℕ → Type 0
+LacksBody limit body bytes = (fault : HttpFault) × FailsBody limit body bytes fault

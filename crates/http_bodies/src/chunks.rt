@@ -13,7 +13,7 @@ use httparse::{Status, parse_chunk_size};
 pub const LINE_COUNT_LIMIT: usize = 64;
 
 /// The size that a chunk line says; None where the bytes are no chunk line.
-fn size_of(line: &[u8]) -> Option<u64>
+pub(crate) fn size_of(line: &[u8]) -> Option<u64>
     ensures { MatchOption result (IsNoLine line.now) (IsLineOf line.now) }
 {
     match parse_chunk_size(line) {
@@ -50,7 +50,7 @@ fn read_chunk_line<S: Source>(buffer: &mut Buffer, source: &mut S) -> Result<u64
 }
 
 /// Whether CR and LF stand behind so many bytes.
-fn ends_behind(bytes: &[u8], size: usize) -> bool
+pub(crate) fn ends_behind(bytes: &[u8], size: usize) -> bool
     requires { size + 2 ≤ length bytes.now }
     ensures { result ≡ ends_behind bytes.now size }
 {
@@ -88,7 +88,7 @@ fn read_chunk_data<S: Source>(
 }
 
 /// Whether the line that ends there is empty.
-fn is_empty_to(bytes: &[u8], at: usize, end: usize) -> bool
+pub(crate) fn is_empty_to(bytes: &[u8], at: usize, end: usize) -> bool
     requires order { at < end }
     requires within { end ≤ length bytes.now }
     ensures { result ≡ is_empty_line (drop at (take (end - 1) bytes.now)) }

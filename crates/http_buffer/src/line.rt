@@ -38,6 +38,20 @@ fn feed_behind(bytes: &[u8], from: usize) -> Option<usize>
     }
 }
 
+/// Where a line ends behind the place `from` of the bytes at hand. `Open` where none does and there
+/// are fewer than `bound` bytes.
+pub fn line_in(bytes: &[u8], from: usize, bound: usize) -> Line
+    requires { from ≤ length bytes.now }
+    ensures { FindsLine from bound bytes.now result }
+{
+    match feed_behind(bytes, from) {
+        Some(feed) if feed < bound => Line::At(feed + 1),
+        Some(_) => Line::TooLong,
+        None if bytes.len() < bound => Line::Open,
+        None => Line::TooLong,
+    }
+}
+
 /// Takes bytes until a line ends behind the place `from` of the pending bytes, until `bound` pending
 /// bytes are there, or to the source's end. No byte is searched twice.
 pub fn line_end<S: Source>(

@@ -8,3 +8,4 @@ pub mod OneBody
 pub mod OneFraming
 pub mod OneAnswer
 pub mod Fronts
+pub mod Readies

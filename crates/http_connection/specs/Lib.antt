@@ -3,3 +3,4 @@ pub mod State
 pub mod Answers
 pub mod Found
 pub mod Laws
+pub mod Ready

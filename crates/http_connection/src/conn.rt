@@ -8,6 +8,7 @@ ghost use Rattle.http_connection.specs.Found.{HeadGives, HasHead, HasRequestHead
 ghost use Rattle.http_buffer.specs.State.{Takes, IsAtEnd};
 ghost use Rattle.httparse.specs.Spans.{span_bytes};
 
+use crate::ready::has_request;
 use adx_io::Source;
 use adx_units::OutOfMemory;
 use http_bodies::{LINE_COUNT_LIMIT, body_of_request, body_of_response, read_body};
@@ -95,7 +96,9 @@ impl Model for Conn {
 }
 
 impl Conn {
+    ghost use Rattle.std.specs.Prelude.{Decides};
     ghost use Rattle.http_connection.specs.State.{ConnState};
+    ghost use Rattle.http_connection.specs.Ready.{IsReady};
     ghost use Rattle.http_connection.specs.Answers.{AnswersMessage, AnswersResponse};
     ghost use Rattle.http_connection.specs.contracts.conn.Conn.{the_row};
 
@@ -117,6 +120,17 @@ impl Conn {
     {
         self.buffer.clear();
         self.failed = false;
+    }
+
+    /// Whether the bytes that were taken and not handed out begin with a whole request; false behind
+    /// a fault. Takes no memory and nothing from a source, and changes nothing.
+    pub fn ready(&self) -> bool
+        ensures { Decides result (IsReady self.now) }
+    {
+        if self.failed {
+            return false;
+        }
+        has_request(self.buffer.pending(), self.limit)
     }
 
     /// Reads the next message; None where the source ended between messages. After a fault each call

@@ -8,6 +8,7 @@
 
 mod conn;
 mod laws;
+mod ready;
 #[cfg(test)]
 mod tests;
 
