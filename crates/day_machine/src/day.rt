@@ -6,7 +6,7 @@ ghost use Rattle.notice_book.specs.AwardList.{Counts};
 ghost use Rattle.notice_book.specs.declared.award.Award.{Award as AwardValue};
 ghost use Rattle.day_rules.specs.Asks.{IsUndecided, IsWellFormed, settled};
 ghost use Rattle.day_rules.specs.Books.{accounts_in, awards_of, entries_to_come, sales_of};
-ghost use Rattle.day_rules.specs.DayState.{HasRoomFor, HasRoomForAsk};
+ghost use Rattle.day_rules.specs.DayState.{HasRoomFor, HasRoomForAsk, IsDay};
 ghost use Rattle.day_rules.specs.Entries.{entry_of_notice};
 ghost use Rattle.day_rules.specs.Legal.{AskMayFollow, ExpireMayFollow, MayFollow};
 ghost use Rattle.day_rules.specs.Replies.{ask_of, ask_reply, notice_reply, ruled_reply, sale_reply, seen_in, settled_reply, tick_reply};
@@ -122,9 +122,10 @@ impl Day {
         })
     }
 
-    /// What happened so far.
+    /// What happened so far: a legal history, whatever was called.
     pub fn entries(&self) -> &[Entry]
-        ensures { result.now ≡ self.now.history }
+        ensures history { result.now ≡ self.now.history }
+        ensures legal { IsDay self.now.terms self.now.history }
     {
         self.history.as_slice()
     }

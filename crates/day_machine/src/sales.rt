@@ -3,6 +3,7 @@ ghost use Rattle.std.specs.Prelude.{◌≡◌, ℕ, ◌+◌, ◌==◌, ◌&&◌,
 ghost use Rattle.allocator_core.specs.Choice.{budget_at};
 ghost use Rattle.allocator_core.specs.declared.reason.TheConstants.{AWARDED as AWARDED_MARK};
 ghost use Rattle.day_rules.specs.Books.{award_of as award_by, awarded_offers, sale_of, sales_of};
+ghost use Rattle.day_rules.specs.declared.limits.TheConstants.{MAX_OFFERS};
 ghost use Rattle.day_machine.specs.LedgerState.{committed_in, no_places};
 ghost use Rattle.day_machine.specs.Selling.{IsSoldTo, imp_awards, ask_awards};
 
@@ -34,9 +35,9 @@ fn count_of_imp(offers: &[Offer], imp: usize) -> usize
 
 /// How many awards the ask makes once it is in a history: one for each awarded offer on one of its impressions.
 pub fn sale_count(ask: &Ask) -> usize
-    requires { length ask.now.offers ≤ 1024 }
+    requires { length ask.now.offers ≤ MAX_OFFERS }
     ensures value { result ≡ length (sales_of ask.entry.now) }
-    ensures few { result ≤ 1024 }
+    ensures few { result ≤ MAX_OFFERS }
 {
     let mut count = 0;
     for imp in 0..ask.imps.len() {
