@@ -27,7 +27,6 @@ use std::alloc::Global;
 /// Writes the answer to a call, and then adds the call's entry, for which there is memory: where memory
 /// is wanting for the answer, the day is as it was.
 fn answer_planned(
-    alloc: Global,
     campaigns: &[Campaign],
     day: &mut Day,
     answer: &Answer,
@@ -42,7 +41,7 @@ fn answer_planned(
     ensures answer { OnOk result (string_bytes out.new ≡ string_bytes out.old ++ ended (line_of_answer campaigns.now answer.now (at_hand day.old.history answer.now entry))) }
 {
     let ask = ask_at_hand(day.entries(), answer, entry.as_ref());
-    push_answer(alloc, out, campaigns, answer, ask)?;
+    push_answer(out, campaigns, answer, ask)?;
     push(out, "\n")?;
     match entry {
         Some(entry) => {
@@ -55,7 +54,6 @@ fn answer_planned(
 
 /// Takes an ask, and writes its answer.
 fn answer_ask(
-    alloc: Global,
     campaigns: &[Campaign],
     day: &mut Day,
     ask: Ask,
@@ -72,15 +70,14 @@ fn answer_ask(
     match entry {
         Some(entry) => {
             day.prepare(&entry)?;
-            answer_planned(alloc, campaigns, day, &answer, Some(entry), out)
+            answer_planned(campaigns, day, &answer, Some(entry), out)
         }
-        None => answer_planned(alloc, campaigns, day, &answer, None, out),
+        None => answer_planned(campaigns, day, &answer, None, out),
     }
 }
 
 /// Takes a notice, and writes its answer.
 fn answer_notice(
-    alloc: Global,
     campaigns: &[Campaign],
     day: &mut Day,
     notice: &Notice,
@@ -92,13 +89,12 @@ fn answer_notice(
     ensures answer { OnOk result (string_bytes out.new ≡ string_bytes out.old ++ told_line campaigns.now day.new.history (notice_reply day.old.history notice.now.kind notice.now.auction notice.now.award).answer) }
 {
     let (answer, entry) = day.plan_notice(notice.kind, notice.auction.as_str(), notice.award);
-    answer_planned(alloc, campaigns, day, &answer, entry, out)?;
+    answer_planned(campaigns, day, &answer, entry, out)?;
     Ok(())
 }
 
 /// Takes a tick, and writes its answer.
 fn answer_tick(
-    alloc: Global,
     campaigns: &[Campaign],
     day: &mut Day,
     now: u64,
@@ -111,13 +107,12 @@ fn answer_tick(
     ensures answer { OnOk result (string_bytes out.new ≡ string_bytes out.old ++ told_line campaigns.now day.new.history (tick_reply day.old.history now).answer) }
 {
     let (answer, entry) = day.plan_tick(now);
-    answer_planned(alloc, campaigns, day, &answer, entry, out)?;
+    answer_planned(campaigns, day, &answer, entry, out)?;
     Ok(())
 }
 
 /// Takes the call of a line, and writes its answer.
 fn answer_call(
-    alloc: Global,
     campaigns: &[Campaign],
     day: &mut Day,
     call: ScriptLine,
@@ -130,9 +125,9 @@ fn answer_call(
     ensures answer { OnOk result (string_bytes out.new ≡ string_bytes out.old ++ told_line campaigns.now day.new.history (reply day.old.terms day.old.history (call_of call)).answer) }
 {
     match call {
-        ScriptLine::Ask { ask } => answer_ask(alloc, campaigns, day, ask, out),
-        ScriptLine::Notice { notice } => answer_notice(alloc, campaigns, day, &notice, out),
-        ScriptLine::Tick { now } => answer_tick(alloc, campaigns, day, now, out),
+        ScriptLine::Ask { ask } => answer_ask(campaigns, day, ask, out),
+        ScriptLine::Notice { notice } => answer_notice(campaigns, day, &notice, out),
+        ScriptLine::Tick { now } => answer_tick(campaigns, day, now, out),
     }
 }
 
@@ -152,7 +147,7 @@ fn answer_text(
 {
     match read_line(alloc, roster, line) {
         Ok(call) => {
-            answer_call(alloc, roster.campaigns.as_slice(), day, call, out)?;
+            answer_call(roster.campaigns.as_slice(), day, call, out)?;
             Ok(())
         }
         Err(LineFault::Refused { why }) => {

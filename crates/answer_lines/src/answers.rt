@@ -9,9 +9,8 @@ use adx_json::push_number;
 use adx_units::OutOfMemory;
 use day_rules::{Answer, Ask, Which};
 use deal_floor::Campaign;
-use hex::encode;
+use hex::encode_to_slice;
 use notice_book::End;
-use std::alloc::Global;
 
 fn push_which(out: &mut String, which: Which) -> Result<(), OutOfMemory>
     ensures { OnOk result (string_bytes out.new ≡ string_bytes out.old ++ which_text which) }
@@ -35,26 +34,24 @@ fn push_day_full(out: &mut String, which: Which, count: u64) -> Result<(), OutOf
 }
 
 /// Writes a digest in lower-case hexadecimal digits.
-fn push_digest(alloc: Global, out: &mut String, digest: &[u8; 32]) -> Result<(), OutOfMemory>
+fn push_digest(out: &mut String, digest: &[u8; 32]) -> Result<(), OutOfMemory>
     ensures { OnOk result (string_bytes out.new ≡ string_bytes out.old ++ encode_lower digest.now) }
 {
-    let text = encode(alloc, digest.as_slice())?;
-    push(out, text.as_str())
+    let mut digits = [0; 64];
+    match encode_to_slice(digest.as_slice(), &mut digits) {
+        Ok(()) => push(out, str::from_utf8(&digits).unwrap()),
+        Err(_) => unreachable!(),
+    }
 }
 
 /// Writes the line of an id that stands with another request.
-fn push_reused(
-    alloc: Global,
-    out: &mut String,
-    kept: &[u8; 32],
-    given: &[u8; 32],
-) -> Result<(), OutOfMemory>
+fn push_reused(out: &mut String, kept: &[u8; 32], given: &[u8; 32]) -> Result<(), OutOfMemory>
     ensures { OnOk result (string_bytes out.new ≡ string_bytes out.old ++ reused_line kept.now given.now) }
 {
     push(out, "{\"answer\":\"reused\",\"kept\":\"")?;
-    push_digest(alloc, out, kept)?;
+    push_digest(out, kept)?;
     push(out, "\",\"given\":\"")?;
-    push_digest(alloc, out, given)?;
+    push_digest(out, given)?;
     push(out, "\"}")
 }
 
@@ -103,7 +100,6 @@ fn push_repeat(
 /// Writes the line of an answer, without a newline. `ask` is the ask that the answer is about: the one
 /// that was taken now, or the one that stands in the history already; a notice and a tick are about none.
 pub fn push_answer(
-    alloc: Global,
     out: &mut String,
     campaigns: &[Campaign],
     answer: &Answer,
@@ -125,7 +121,7 @@ pub fn push_answer(
         Answer::Conflict { kept } => push_conflict(out, *kept),
         Answer::Unknown => push(out, "{\"answer\":\"unknown\"}"),
         Answer::Ticked { ended } => push_ticked(out, *ended),
-        Answer::Reused { kept_digest, given } => push_reused(alloc, out, kept_digest, given),
+        Answer::Reused { kept_digest, given } => push_reused(out, kept_digest, given),
         Answer::DayFull { which, count } => push_day_full(out, *which, *count),
     }
 }
