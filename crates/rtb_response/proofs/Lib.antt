@@ -1,3 +1,4 @@
+pub mod BidNames
 pub mod Passed
 pub mod Chains
 pub mod Seats

@@ -1,5 +1,6 @@
 pub mod Prices
 pub mod Bodies
+pub mod BidNames
 pub mod Bids
 pub mod Answers
 pub mod Seen

@@ -116,7 +116,7 @@ fn count_bids(seats: &[Json]) -> Option<usize>
 fn bids_of(alloc: Global, scratch: &mut String, trees: &[Json]) -> Result<Vec<Bid>, OutOfMemory>
     ensures { IfOk result (λ bs. map seen_bid bs.items ≡ map bid_view (trees_of trees.now)) }
 {
-    let mut bids = Vec::new(alloc);
+    let mut bids = Vec::with_capacity(alloc, trees.len())?;
     for tree in trees {
         bids.push(bid_of(alloc, scratch, tree)?)?;
     }
@@ -138,7 +138,7 @@ fn seats_of(alloc: Global, trees: &[Json]) -> Result<Vec<SeatBid>, OutOfMemory>
     ensures { IfOk result (λ ss. map seen_seat ss.items ≡ map seat_view (trees_of trees.now)) }
 {
     let mut scratch = String::new(alloc);
-    let mut seats = Vec::new(alloc);
+    let mut seats = Vec::with_capacity(alloc, trees.len())?;
     for tree in trees {
         seats.push(seat_of(alloc, &mut scratch, tree)?)?;
     }

@@ -7,11 +7,12 @@ ghost use Rattle.rtb_response.specs.Bids.{bid_view};
 ghost use Rattle.rtb_response.specs.Seen.{seen_bid};
 
 use crate::bid::{Bid, MOST_SECONDS};
+use crate::bid_names::{KNOWN_NAMES, keep};
 use crate::body::body_of;
 use adx_json::Json;
 use adx_units::{OutOfMemory, PriceFault, Text, Units, price_of};
 use std::alloc::Global;
-use tree_view::{given, members_in, met, number_in, text_in, texts_in, whole_or_zero};
+use tree_view::{given, members_in, number_in, text_in, texts_in, whole_or_zero};
 
 /// The members of a bid that its view reads, as they lie in its tree.
 #[derive(Clone, Copy)]
@@ -44,32 +45,24 @@ fn bid_members(tree: &Json) -> BidMembers<'_>
     ensures dealid { option_map (λ t. tree_of t.now) result.dealid ≡ given_in (codes "dealid") (tree_of tree.now) }
     ensures exp { option_map (λ t. tree_of t.now) result.exp ≡ given_in (codes "exp") (tree_of tree.now) }
 {
-    let mut id = None;
-    let mut impid = None;
-    let mut price = None;
-    let mut nurl = None;
-    let mut burl = None;
-    let mut lurl = None;
-    let mut adid = None;
-    let mut adomain = None;
-    let mut cid = None;
-    let mut cat = None;
-    let mut dealid = None;
-    let mut exp = None;
+    let mut found = [None; KNOWN_NAMES];
     for member in members_in(tree) {
-        id = met(id, "id", member);
-        impid = met(impid, "impid", member);
-        price = met(price, "price", member);
-        nurl = met(nurl, "nurl", member);
-        burl = met(burl, "burl", member);
-        lurl = met(lurl, "lurl", member);
-        adid = met(adid, "adid", member);
-        adomain = met(adomain, "adomain", member);
-        cid = met(cid, "cid", member);
-        cat = met(cat, "cat", member);
-        dealid = met(dealid, "dealid", member);
-        exp = met(exp, "exp", member);
+        keep(&mut found, member);
     }
+    let [
+        id,
+        impid,
+        price,
+        nurl,
+        burl,
+        lurl,
+        adid,
+        adomain,
+        cid,
+        cat,
+        dealid,
+        exp,
+    ] = found;
     BidMembers {
         id: given(id),
         impid: given(impid),

@@ -13,12 +13,10 @@ use std::alloc::Global;
 fn is_own(name: &str) -> bool
     ensures { result ≡ is_own_name name.now }
 {
-    name == "id"
-        || name == "impid"
-        || name == "price"
-        || name == "nurl"
-        || name == "burl"
-        || name == "lurl"
+    match name.as_bytes() {
+        b"id" | b"impid" | b"price" | b"nurl" | b"burl" | b"lurl" => true,
+        _ => false,
+    }
 }
 
 /// The compact spelling of the object of the members that are passed on; empty where the tree is no object. It is

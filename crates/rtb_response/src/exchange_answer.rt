@@ -1,8 +1,10 @@
 //! The exchange's answer to a request.
 ghost use Rattle.std.specs.Prelude.{◌≡◌, ◌++◌, ◌∷◌, map, IfOk, OnOk, string_bytes, decimal, codes};
+ghost use Rattle.std.specs.List.{flat_map};
 ghost use Rattle.adx_json.specs.Tree.{items_of};
 ghost use Rattle.adx_json.specs.Spelling.{spelling, items_spelling, text_spelling, more_members_spelling};
 ghost use Rattle.adx_units.specs.Money.{price_text};
+ghost use Rattle.notice_macros.specs.Escaped.{url_byte};
 ghost use Rattle.rtb_response.specs.Notices.{url_of};
 ghost use Rattle.rtb_response.specs.Parts.{own_members};
 ghost use Rattle.rtb_response.specs.ExchangeAnswer.{answer_tree, bid_tree, notice_members, seat_tree};
@@ -27,8 +29,7 @@ use tree_view::members_in;
 pub fn write_answer(alloc: Global, id: &Id, base: &str, sold: &[Sold]) -> Result<Text, OutOfMemory>
     ensures { IfOk result (λ t. t ≡ spelling (answer_tree id.now base.now sold.now)) }
 {
-    let mut auction = String::new(alloc);
-    push_percent_encoded(&mut auction, id.as_str())?;
+    let auction = escaped(alloc, id)?;
     let to = Addressed {
         base,
         auction: auction.as_str(),
@@ -40,6 +41,15 @@ pub fn write_answer(alloc: Global, id: &Id, base: &str, sold: &[Sold]) -> Result
     push_seats(alloc, &mut out, &to, sold)?;
     out.push_str("],\"cur\":\"USD\"}")?;
     Ok(Text::from(out))
+}
+
+/// The percent-encoded id of an auction, as it stands in notice URLs.
+fn escaped(alloc: Global, id: &Id) -> Result<String, OutOfMemory>
+    ensures { IfOk result (λ t. string_bytes t ≡ flat_map url_byte id.now) }
+{
+    let mut auction = String::new(alloc);
+    push_percent_encoded(&mut auction, id.as_str())?;
+    Ok(auction)
 }
 
 /// Puts the seats of the awards at the end, with commas between them.

@@ -8,6 +8,7 @@
 mod answer_reader;
 mod bid;
 mod bid_answer;
+mod bid_names;
 mod bid_reader;
 mod body;
 mod exchange_answer;
