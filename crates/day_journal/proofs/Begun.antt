@@ -1,8 +1,8 @@
 -- What opening leaves of a file.
-use Rattle.std.proofs.Common.{◌≡◌, ◌⊎◌, inl, inr, ℕ, ◌≤◌, List, [], length, take, Option, Some, refl, sym, ◌∙◌, ap, subst, arith, length-take}
+use Rattle.std.proofs.Common.{◌≡◌, ◌⊎◌, inl, inr, ℕ, ◌≤◌, List, [], length, take, Option, Some, None, is_some, false, true, refl, sym, ◌∙◌, ap, subst, arith, length-take}
 use Rattle.adx_io.specs.Disks.{AsRead, Each, LeavesOnly, Within}
 use Rattle.day_journal.specs.Places.{IsCleared, IsMarked, IsUnfinished, StandsFor, new_file}
-use Rattle.day_journal.specs.Starts.{BeginsJournal, HasSome, IsStart, LeavesNoMore, Looked, StandsAsOneOf}
+use Rattle.day_journal.specs.Starts.{BeginsJournal, HasSome, IsStart, KeptOrMade, LeavesNoMore, Looked, StandsAsOneOf}
 use Rattle.day_journal.specs.declared.start.Start.{Start}
 use Rattle.day_journal.proofs.Moments.{joined, weaker}
 use Rattle.day_journal.proofs.NewFile.{stands_empty}
@@ -51,3 +51,9 @@ looked_uncleared size start reads images is l f left = let had = l.found f (l.du
 
 pub begins_new : (file : List ℕ) → file ≡ new_file → BeginsJournal 10 file
 begins_new file is = record { length_is = sym (ap length is); front = ap (λ (l : List ℕ). take 9 (take 11 l)) is }
+
+-- a disk that told what it reads, and whose images are a new journal, reads as one
+pub reads_new : (was now : Option (List ℕ)) (images : List ℕ → Type 0) (file : List ℕ) → is_some now ≡ is_some was → was ≡ Some file
+    → ((f : List ℕ) → now ≡ Some f → images f) → Each images (λ c. c ≡ new_file) → now ≡ Some new_file
+reads_new was None images file told is left each = absurd (cc (told, is))
+reads_new was (Some f) images file told is left each = ap Some (each f (left f refl))

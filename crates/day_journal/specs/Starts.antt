@@ -1,7 +1,7 @@
 -- What a file is before its payloads are read. This project's own.
 use Rattle.std.specs.Prelude.{◌≡◌, ◌⊎◌, ℕ, ◌≤◌, List, length, take, Option, Some}
 use Rattle.adx_io.specs.Disks.{AsRead, LeavesOnly, Within}
-use Rattle.day_journal.specs.Places.{head, IsCleared, IsMarked, HasNoHead, StandsFor}
+use Rattle.day_journal.specs.Places.{head, IsCleared, IsMarked, IsUnfinished, HasNoHead, StandsFor, new_file}
 use Rattle.day_journal.specs.declared.start.Start.{Start}
 
 -- what a file with these first bytes is
@@ -34,3 +34,7 @@ pub record Looked (size : ℕ) (start : Start) (reads : Option (List ℕ)) (imag
 pub record BeginsJournal (size : ℕ) (file : List ℕ) : Type 0 where
   pub length_is : size ≡ length file
   pub front : take 9 (take 11 file) ≡ head
+
+-- a read gives the file as before, or the file was unfinished and a read gives a new journal
+abbrev pub KeptOrMade : List ℕ → Option (List ℕ) → Type 0
+KeptOrMade file now = (now ≡ Some file) ⊎ (IsUnfinished file × (now ≡ Some new_file))

@@ -1,5 +1,5 @@
 //! How a new journal is made of a file that has none.
-ghost use Rattle.std.specs.Prelude.{◌≡◌, ◌⊎◌, ◌≤◌, ◌++◌, [], ◌∷◌, List, ℕ, length, OnOk};
+ghost use Rattle.std.specs.Prelude.{◌≡◌, ◌⊎◌, ◌≤◌, ◌++◌, [], ◌∷◌, List, ℕ, length, is_some, OnOk};
 ghost use Rattle.adx_io.specs.Disks.{AsRead, Each, LeavesOnly};
 ghost use Rattle.adx_io.specs.Streams.{HasCause};
 ghost use Rattle.day_journal.specs.Places.{IsCleared, IsMarked, IsUnfinished, StandsFor, new_file};
@@ -16,6 +16,7 @@ pub(crate) fn make_uncleared<D: Disk>(disk: &mut D) -> Result<(), Failed>
         → LeavesOnly D.moment D.left_since disk.old disk.new (λ c. StandsFor c [] × HasSome (D.may_leave disk.old)) }
     ensures made { OnOk result (Each (D.may_leave disk.old) (λ c. (length c ≤ 1) ⊎ IsMarked c) → Each (D.may_leave disk.new) (λ c. c ≡ new_file)) }
     ensures durable { OnOk result (AsRead (D.reads disk.new) (D.may_leave disk.new)) }
+    ensures told { is_some (D.reads disk.new) ≡ is_some (D.reads disk.old) }
     ensures lasts { D.lasts disk.old disk.new }
     ensures cause { HasCause (D.faults disk.old) (D.faults disk.new) result }
 {
@@ -30,6 +31,7 @@ pub(crate) fn make_cleared<D: Disk>(disk: &mut D) -> Result<(), Failed>
         → LeavesOnly D.moment D.left_since disk.old disk.new (λ c. StandsFor c [] × HasSome (D.may_leave disk.old)) }
     ensures made { OnOk result (Each (D.may_leave disk.old) IsCleared → Each (D.may_leave disk.new) (λ c. c ≡ new_file)) }
     ensures durable { OnOk result (AsRead (D.reads disk.new) (D.may_leave disk.new)) }
+    ensures told { is_some (D.reads disk.new) ≡ is_some (D.reads disk.old) }
     ensures lasts { D.lasts disk.old disk.new }
     ensures cause { HasCause (D.faults disk.old) (D.faults disk.new) result }
 {
@@ -44,6 +46,7 @@ fn clear_first<D: Disk>(disk: &mut D) -> Result<(), Failed>
         → Each (D.may_leave disk.new) (λ c. IsUnfinished c × HasSome (D.may_leave disk.old))
         × LeavesOnly D.moment D.left_since disk.old disk.new (λ c. IsUnfinished c × HasSome (D.may_leave disk.old)) }
     ensures cleared { OnOk result (Each (D.may_leave disk.old) (λ c. (length c ≤ 1) ⊎ IsMarked c) → Each (D.may_leave disk.new) IsCleared) }
+    ensures told { is_some (D.reads disk.new) ≡ is_some (D.reads disk.old) }
     ensures lasts { D.lasts disk.old disk.new }
     ensures cause { HasCause (D.faults disk.old) (D.faults disk.new) result }
 {
@@ -58,6 +61,7 @@ fn put_mark<D: Disk>(disk: &mut D) -> Result<(), Failed>
         → Each (D.may_leave disk.new) (λ c. IsCleared c × HasSome (D.may_leave disk.old))
         × LeavesOnly D.moment D.left_since disk.old disk.new (λ c. IsCleared c × HasSome (D.may_leave disk.old)) }
     ensures marked { OnOk result (Each (D.may_leave disk.old) IsCleared → Each (D.may_leave disk.new) IsMarked) }
+    ensures told { is_some (D.reads disk.new) ≡ is_some (D.reads disk.old) }
     ensures lasts { D.lasts disk.old disk.new }
     ensures cause { HasCause (D.faults disk.old) (D.faults disk.new) result }
 {
@@ -73,6 +77,7 @@ fn put_head<D: Disk>(disk: &mut D) -> Result<(), Failed>
         × LeavesOnly D.moment D.left_since disk.old disk.new (λ c. IsMarked c × HasSome (D.may_leave disk.old)) }
     ensures made { OnOk result (Each (D.may_leave disk.old) IsMarked → Each (D.may_leave disk.new) (λ c. c ≡ new_file)) }
     ensures durable { OnOk result (AsRead (D.reads disk.new) (D.may_leave disk.new)) }
+    ensures told { is_some (D.reads disk.new) ≡ is_some (D.reads disk.old) }
     ensures lasts { D.lasts disk.old disk.new }
     ensures cause { HasCause (D.faults disk.old) (D.faults disk.new) result }
 {

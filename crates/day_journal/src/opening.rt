@@ -5,7 +5,7 @@ ghost use Rattle.adx_io.specs.Streams.{HasCause, last_count};
 ghost use Rattle.day_journal.specs.Faults.{EndsOpening, Refuses};
 ghost use Rattle.day_journal.specs.Openings.{IsPlace, OnlyReads, OpeningState, StandsBehind};
 ghost use Rattle.day_journal.specs.Places.{HasBadLength, IsClosed, StandsFor, opened};
-ghost use Rattle.day_journal.specs.Starts.{BeginsJournal, IsStart, LeavesNoMore, Looked, StandsAsOneOf};
+ghost use Rattle.day_journal.specs.Starts.{BeginsJournal, IsStart, KeptOrMade, LeavesNoMore, Looked, StandsAsOneOf};
 ghost use Rattle.day_journal.specs.Tails.{Keeps};
 ghost use Rattle.day_journal.specs.declared.fault.JournalFault.{JournalFault};
 ghost use Rattle.day_journal.specs.declared.place.Place.{Place};
@@ -51,8 +51,10 @@ impl Journal {
     pub fn open<D: Disk>(alloc: Global, disk: &mut D) -> Result<Opening, JournalFault>
         ensures behind { IfOk result (λ opening. (file : List ℕ) → D.reads disk.new ≡ Some file → StandsBehind file opening []) }
         ensures durable { OnOk result (AsRead (D.reads disk.new) (D.may_leave disk.new)) }
+        ensures reading { OnOk result ((file : List ℕ) → D.reads disk.old ≡ Some file → KeptOrMade file (D.reads disk.new)) }
         ensures refused { IfErr result (λ e. (file : List ℕ) → D.reads disk.old ≡ Some file → Refuses file e) }
         ensures untouched { (at : ℕ) → result ≡ Err (JournalFault.NotAJournal at) → D.reads disk.new ≡ D.reads disk.old }
+        ensures no_place { (at : ℕ) → result ≡ Err (JournalFault.BadLength at) → ⊥ }
 
         // A crash at any moment of the call leaves a file with the payloads of one that a crash before
         // it might have left.
@@ -75,9 +77,12 @@ fn finish<D: Disk>(disk: &mut D, look: Look) -> Result<u64, JournalFault>
     ensures behind { IfOk result (λ size. Looked look.size look.start (D.reads disk.old) (D.may_leave disk.old)
         → (file : List ℕ) → D.reads disk.new ≡ Some file → BeginsJournal size file) }
     ensures durable { OnOk result (Looked look.size look.start (D.reads disk.old) (D.may_leave disk.old) → AsRead (D.reads disk.new) (D.may_leave disk.new)) }
+    ensures reading { OnOk result (Looked look.size look.start (D.reads disk.old) (D.may_leave disk.old)
+        → (file : List ℕ) → D.reads disk.old ≡ Some file → KeptOrMade file (D.reads disk.new)) }
     ensures refused { IfErr result (λ e. Looked look.size look.start (D.reads disk.old) (D.may_leave disk.old)
         → (file : List ℕ) → D.reads disk.old ≡ Some file → Refuses file e) }
     ensures untouched { (at : ℕ) → result ≡ Err (JournalFault.NotAJournal at) → D.reads disk.new ≡ D.reads disk.old }
+    ensures no_place { (at : ℕ) → result ≡ Err (JournalFault.BadLength at) → ⊥ }
     ensures ends { EndsOpening (D.faults disk.old) (D.faults disk.new) result }
     ensures lasts { D.lasts disk.old disk.new }
 {
@@ -135,6 +140,7 @@ impl Opening {
             → MatchOption next (StandsBehind file self.new payloads × IsClosed (opened payloads) file) (λ payload. StandsBehind file self.new (payloads ++ payload.items ∷ []))) }
         ensures closed { result ≡ Ok None → self.new.closed ≡ true }
         ensures refused { IfErr result (λ e. (file : List ℕ) (payloads : List (List ℕ)) → D.reads disk.old ≡ Some file → StandsBehind file self.old payloads → Refuses file e) }
+        ensures place { (at : ℕ) → result ≡ Err (JournalFault.BadLength at) → at ≡ self.old.window.at }
         ensures only_reads { OnlyReads D.reads D.may_leave D.moment D.left_since disk.old disk.new }
         ensures ends { EndsOpening (D.faults disk.old) (D.faults disk.new) result }
         ensures lasts { D.lasts disk.old disk.new }
@@ -155,6 +161,7 @@ impl Opening {
             → MatchBool more (StandsBehind file self.new (payloads ++ payload.new.items ∷ [])) (StandsBehind file self.new payloads × IsClosed (opened payloads) file)) }
         ensures closed { result ≡ Ok false → self.new.closed ≡ true }
         ensures refused { IfErr result (λ e. (file : List ℕ) (payloads : List (List ℕ)) → D.reads disk.old ≡ Some file → StandsBehind file self.old payloads → Refuses file e) }
+        ensures place { (at : ℕ) → result ≡ Err (JournalFault.BadLength at) → at ≡ self.old.window.at }
         ensures only_reads { OnlyReads D.reads D.may_leave D.moment D.left_since disk.old disk.new }
         ensures ends { EndsOpening (D.faults disk.old) (D.faults disk.new) result }
         ensures lasts { D.lasts disk.old disk.new }
@@ -193,6 +200,7 @@ impl Opening {
             → IsPlace self.old.window.bytes (Place.Open count) → StandsBehind file self.new (payloads ++ payload.new.items ∷ [])) }
         ensures refused { IfErr result (λ e. (file : List ℕ) (payloads : List (List ℕ)) → D.reads disk.old ≡ Some file → StandsBehind file self.old payloads
             → IsPlace self.old.window.bytes (Place.Open count) → Refuses file e) }
+        ensures place { (at : ℕ) → result ≡ Err (JournalFault.BadLength at) → at ≡ self.old.window.at }
         ensures only_reads { OnlyReads D.reads D.may_leave D.moment D.left_since disk.old disk.new }
         ensures ends { EndsOpening (D.faults disk.old) (D.faults disk.new) result }
         ensures lasts { D.lasts disk.old disk.new }

@@ -56,3 +56,8 @@ returns-clause-durable g c =
     let D = g.D.Disk in
     let mid = c.look_at.new.disk in
     c.in_ok-size.ensures.durable (record { durable = c.in_ok-look.ensures.durable; found = c.in_ok-look.ensures.found })
+
+pub returns-clause-reading : goal.returns-clause-reading
+returns-clause-reading g c file told =
+    let D = g.D.Disk in
+    c.in_ok-size.ensures.reading (record { durable = c.in_ok-look.ensures.durable; found = c.in_ok-look.ensures.found }) file (c.in_ok-look.ensures.same ∙ told)
