@@ -1,0 +1,60 @@
+-- What an opening leaves that read a journal to its end, or began one.
+use Rattle.std.proofs.Common.{◌≡◌, ◌⊎◌, inl, inr, ℕ, List, [], ◌∷◌, Option, Some, refl, sym, ◌∙◌, subst}
+use Rattle.std.proofs.lemmas.List.Elements.{All-nil}
+use Rattle.std.proofs.lemmas.Option.{same_Some}
+use Rattle.adx_io.specs.Disks.{AsRead, LeavesOnly}
+use Rattle.day_journal.specs.Openings.{OnlyReads, OpeningState}
+use Rattle.day_journal.specs.Places.{IsClosed, IsPayload, StandsFor, opened}
+use Rattle.day_journal.specs.Tails.{JournalState, Keeps}
+use Rattle.day_journal.specs.Tails.{WithAtMostOne as WithOnePayload}
+use Rattle.day_journal.proofs.Moments.{joined, weaker}
+use Rattle.day_rules.specs.declared.entry.Entry.{Entry}
+use Rattle.adx_desk.specs.Histories.{AreRecords, DeskTerms, SameHistories}
+use Rattle.adx_desk.specs.Loading.{HasOpened, HasReadAll}
+use Rattle.adx_desk.proofs.OpenedDays.{empty_same}
+use Rattle.adx_desk.proofs.Records.{no_empty, no_records}
+
+-- before and behind the first payload
+pub begun_file : (file p : List ℕ) → WithOnePayload [] [] p file → StandsFor file [] ⊎ StandsFor file (p ∷ [])
+begun_file file p (inl alone) = inl alone
+begun_file file p (inr (inl none)) = absurd (no_empty file [] none)
+begun_file file p (inr (inr new)) = inr new
+
+-- a file whose places are closed without a payload
+pub none_there : (file : List ℕ) → IsClosed (opened []) file → StandsFor file []
+none_there file closed = inr (All-nil IsPayload, closed)
+
+pub has_opened : (digest file : List ℕ) (now : Option (List ℕ)) (images : List ℕ → Type 0) (opening : OpeningState) (journal : JournalState) (history : List Entry) (all : HasReadAll digest file opening history) → now ≡ Some file
+    → ((tail : List ℕ) → Keeps images journal (digest ∷ all.read.rest) tail) → HasOpened digest file now images journal history
+has_opened digest file now images opening journal history all told kept = record {
+  rest = all.read.rest;
+  records = all.read.records;
+  kept = kept;
+  stood = inl (inr (all.read.behind.each, all.closed), told);
+}
+
+pub has_begun : (digest file : List ℕ) (now : Option (List ℕ)) (images : List ℕ → Type 0) (journal : JournalState) (history : List Entry) → IsClosed (opened []) file → history ≡ []
+    → ((tail : List ℕ) → Keeps images journal (digest ∷ []) tail) → HasOpened digest file now images journal history
+has_begun digest file now images journal history closed none kept = record {
+  rest = [];
+  records = subst (λ (h : List Entry). AreRecords [] h) (sym none) no_records;
+  kept = kept;
+  stood = inr (none_there file closed, refl, none);
+}
+
+module _ {D : Type 0} (reads : D → Option (List ℕ)) (may_leave : D → List ℕ → Type 0) (moment : D → ℕ) (left_since : D → ℕ → List ℕ → Type 0) where
+  -- calls that only read leave the disk durable
+  pub still_durable : (old mid : D) → OnlyReads reads may_leave moment left_since old mid → AsRead (reads old) (may_leave old) → AsRead (reads mid) (may_leave mid)
+  still_durable old mid only durable c left = only.same ∙ durable c (only.crash c left)
+
+  pub read_moments : (terms : DeskTerms) (old mid : D) (file : List ℕ) → OnlyReads reads may_leave moment left_since old mid → AsRead (reads old) (may_leave old) → reads old ≡ Some file
+      → LeavesOnly moment left_since old mid (SameHistories terms file)
+  read_moments terms old mid file only durable told =
+      weaker moment left_since old mid (may_leave old) (SameHistories terms file) only.moments
+      (λ c left. subst (SameHistories terms file) (same_Some file c (sym told ∙ durable c left)) (λ history is. is))
+
+  pub begin_moments : (terms : DeskTerms) (old mid new : D) (file : List ℕ) → OnlyReads reads may_leave moment left_since old mid → AsRead (reads old) (may_leave old) → reads old ≡ Some file → IsClosed (opened []) file
+      → LeavesOnly moment left_since mid new (λ c. StandsFor c [] ⊎ StandsFor c (terms.digest ∷ [])) → LeavesOnly moment left_since old new (SameHistories terms file)
+  begin_moments terms old mid new file only durable told closed run =
+      joined moment left_since old mid new (SameHistories terms file) (λ c. StandsFor c [] ⊎ StandsFor c (terms.digest ∷ [])) (SameHistories terms file)
+      (read_moments terms old mid file only durable told) run (λ c same. same) (λ c now. empty_same terms file c (none_there file closed) now)

@@ -1,0 +1,15 @@
+pub mod Records
+pub mod Holding
+pub mod Keeping
+pub mod Serving
+pub mod Spelled
+pub mod Inside
+pub mod Asked
+pub mod Ending
+pub mod OpenAwards
+pub mod Fronts
+pub mod ReadRecords
+pub mod OpenedDays
+pub mod OpenedOn
+pub mod Beginnings
+pub mod Rosters

@@ -1,0 +1,74 @@
+-- Records behind records, and what a file with them stands for.
+use Rattle.std.proofs.Common.{◌≡◌, inl, inr, ℕ, ◌+◌, ◌≤◌, List, [], ◌∷◌, ◌++◌, length, All, refl, sym, ◌∙◌, ap, subst, arith}
+use Rattle.std.proofs.lemmas.Grind.{flat_map-append}
+use Rattle.std.proofs.lemmas.List.{append-nil, map-append}
+use Rattle.std.proofs.lemmas.List.Elements.{All-cons, All-head, All-nil, All-push, All-tail}
+use Rattle.std.specs.List.{flat_map}
+use Rattle.day_journal.specs.Faults.{greatest_size}
+use Rattle.day_journal.specs.Places.{IsPayload, StandsFor, opened}
+use Rattle.day_entries.specs.Spelling.{Fits, entry_bytes}
+use Rattle.day_rules.specs.declared.entry.Entry.{Entry}
+use Rattle.day_rules.specs.Legal.{IsLegal, MayFollow}
+use Rattle.day_rules.proofs.Histories.{legal_push}
+use Rattle.adx_desk.specs.Desks.{MayStandBehind}
+use Rattle.adx_desk.specs.Held.{held}
+use Rattle.adx_desk.specs.Histories.{AreRecords, DeskTerms, HasRoom, IsHistoryOf, IsRecord, entries_bytes}
+
+-- one entry is a record
+pub one_record : (e : Entry) → Fits e → IsRecord (e ∷ [])
+one_record e fits = record { some = omega arith; spelled = All-cons Fits e [] fits (All-nil Fits) }
+
+pub one_bytes : (e : Entry) → entries_bytes (e ∷ []) ≡ entry_bytes e
+one_bytes e = append-nil (entry_bytes e)
+
+-- no record
+pub no_records : AreRecords [] []
+no_records = record { records = []; each = All-nil IsRecord; entries = refl; spelled = refl }
+
+-- with a record behind the others
+pub records_push : (rest : List (List ℕ)) (history tail : List Entry) → AreRecords rest history → IsRecord tail → AreRecords (rest ++ entries_bytes tail ∷ []) (history ++ tail)
+records_push rest history tail are one =
+    let id : List Entry → List Entry = λ es. es in
+    let all : flat_map id (are.records ++ tail ∷ []) ≡ history ++ tail =
+    flat_map-append id are.records (tail ∷ [])
+    ∙ (ap (λ (es : List Entry). flat_map id are.records ++ es) (append-nil tail) ∙ ap (λ (es : List Entry). es ++ tail) (sym are.entries)) in
+    record {
+      records = are.records ++ tail ∷ [];
+      each = All-push IsRecord are.records tail are.each one;
+      entries = sym all;
+      spelled = ap (λ (ps : List (List ℕ)). ps ++ entries_bytes tail ∷ []) are.spelled ∙ sym (map-append entries_bytes are.records (tail ∷ []));
+    }
+
+-- a file of the digest and the records stands for their history
+pub history_stands : (terms : DeskTerms) (file : List ℕ) (rest : List (List ℕ)) (history : List Entry) → AreRecords rest history → IsLegal terms.day history → HasRoom (terms.digest ∷ rest) history
+    → StandsFor file (terms.digest ∷ rest) → IsHistoryOf terms file history
+history_stands terms file rest history are legal room stands =
+    record { payloads = terms.digest ∷ rest; stands = stands; spells = inr (rest, refl, are); legal = legal; room = room }
+
+-- and with a record behind them for it too
+pub behind_stands : (terms : DeskTerms) (file : List ℕ) (rest : List (List ℕ)) (history tail : List Entry) → AreRecords rest history → MayStandBehind terms (terms.digest ∷ rest) history tail
+    → StandsFor file (terms.digest ∷ rest ++ entries_bytes tail ∷ []) → IsHistoryOf terms file (history ++ tail)
+behind_stands terms file rest history tail are may stands =
+    history_stands terms file (rest ++ entries_bytes tail ∷ []) (history ++ tail) (records_push rest history tail are may.is_record) may.legal may.room stands
+
+pub last_payload : (payloads : List (List ℕ)) (p : List ℕ) → All IsPayload (payloads ++ p ∷ []) → IsPayload p
+last_payload [] p all = All-head IsPayload p [] all
+last_payload (q ∷ qs) p all = last_payload qs p (All-tail IsPayload q (qs ++ p ∷ []) all)
+
+-- a payload has bytes
+pub no_empty : (file : List ℕ) (payloads : List (List ℕ)) → StandsFor file (payloads ++ [] ∷ []) → ⊥
+no_empty file payloads (inl un) = absurd (cons_not_nil payloads un.1)
+  where
+    cons_not_nil : (ps : List (List ℕ)) → ps ++ [] ∷ [] ≡ [] → ⊥
+    cons_not_nil [] h = cc
+    cons_not_nil (p ∷ ps) h = cc
+no_empty file payloads (inr open_) = omega (arith, (last_payload payloads [] open_.0).some)
+
+-- an entry that may follow, as a record behind the history
+pub new_stands_behind : (terms : DeskTerms) (payloads : List (List ℕ)) (history : List Entry) (e : Entry) → IsLegal terms.day history → MayFollow terms.day history e → Fits e
+    → length (opened (payloads ++ entry_bytes e ∷ [])) + 1 + held (history ++ e ∷ []) ≤ greatest_size → MayStandBehind terms payloads history (e ∷ [])
+new_stands_behind terms payloads history e legal follows fits room = record {
+  is_record = one_record e fits;
+  legal = legal_push terms.day history e legal follows;
+  room = subst (λ (p : List ℕ). HasRoom (payloads ++ p ∷ []) (history ++ e ∷ [])) (sym (one_bytes e)) room;
+}

@@ -1,0 +1,145 @@
+-- What a call leaves, by its parts.
+use Rattle.std.proofs.Common.{◌≡◌, ◌⊎◌, inl, ℕ, ◌≤◌, List, [], ◌∷◌, ◌++◌, Option, Some, None, refl, sym, subst}
+use Rattle.std.specs.Prelude.{Result, Ok, Err}
+use Rattle.adx_io.specs.Disks.{LeavesOnly}
+use Rattle.day_journal.specs.Faults.{greatest_size}
+use Rattle.day_journal.specs.Tails.{JournalState, Keeps}
+use Rattle.day_journal.specs.Tails.{WithAtMostOne as WithOnePayload}
+use Rattle.day_entries.specs.Spelling.{Fits, entry_bytes}
+use Rattle.day_rules.specs.declared.entry.Entry.{Entry}
+use Rattle.day_rules.specs.Legal.{MayFollow}
+use Rattle.adx_desk.specs.declared.fault.DeskFault.{DeskFault}
+use Rattle.adx_desk.specs.Desks.{DeskState, OnDisk, added_by}
+use Rattle.adx_desk.specs.Endings.{size_with}
+use Rattle.adx_desk.specs.Serving.{Serves}
+use Rattle.adx_desk.proofs.Keeping.{after_fault, keeps_doubted, keeps_pushed, moments_pushed, moments_same}
+
+along : {A B : Type 0} (P : A → B → Type 0) {a b : A} {c d : B} → a ≡ b → c ≡ d → P a c → P b d
+along P {a} {b} {c} {d} p q h = subst (λ x. P x d) p (subst (P a) q h)
+
+module _ {D : Type 0} (may_leave : D → List ℕ → Type 0) (moment : D → ℕ) (left_since : D → ℕ → List ℕ → Type 0) where
+  -- an entry that was acknowledged
+  pub serves_added : {T : Type 0} (x : T) (desk : DeskState) (old new : D) (journal : JournalState) (faults : ℕ) (e : Entry)
+      → MayFollow desk.terms.day desk.history e → Fits e → size_with desk e ≤ greatest_size
+      → ((payloads : List (List ℕ)) (t : List ℕ) → Keeps (may_leave old) desk.journal payloads t → LeavesOnly moment left_since old new (WithOnePayload payloads t (entry_bytes e)))
+      → ((payloads : List (List ℕ)) (t a : List ℕ) → Keeps (may_leave old) desk.journal payloads t → Keeps (may_leave new) journal (payloads ++ entry_bytes e ∷ []) a)
+      → Serves {T = T} may_leave moment left_since (record { desk = desk; disk = old }) (record { desk = record { terms = desk.terms; history = desk.history ++ e ∷ []; journal = journal; faults = faults }; disk = new }) (Some e) (Ok x)
+  serves_added {T} x desk old new journal faults e follows fits room run kept = record {
+    terms = refl;
+    history = refl;
+    same = record {};
+    any_moment = λ tail k. moments_pushed moment left_since old new (may_leave old) desk e tail follows fits room run k;
+    done = λ tail k. keeps_pushed (may_leave old) (may_leave new) desk journal faults e tail tail follows fits room kept k;
+    acknowledged = λ tail any k. keeps_pushed (may_leave old) (may_leave new) desk journal faults e tail any follows fits room kept k;
+    doubted = record {};
+  }
+
+  -- a fault of the disk
+  pub serves_failed : {T : Type 0} (why : DeskFault) (desk : DeskState) (old new : D) (journal : JournalState) (faults : ℕ) (e : Entry)
+      → MayFollow desk.terms.day desk.history e → Fits e → size_with desk e ≤ greatest_size
+      → ((payloads : List (List ℕ)) (t : List ℕ) → Keeps (may_leave old) desk.journal payloads t → LeavesOnly moment left_since old new (WithOnePayload payloads t (entry_bytes e)))
+      → ((payloads : List (List ℕ)) (t : List ℕ) → Keeps (may_leave old) desk.journal payloads t → Keeps (may_leave new) journal payloads t ⊎ Keeps (may_leave new) journal payloads (entry_bytes e))
+      → Serves {T = T} may_leave moment left_since (record { desk = desk; disk = old }) (record { desk = after_fault desk journal faults; disk = new }) (Some e) (Err why)
+  serves_failed {T} why desk old new journal faults e follows fits room run kept = record {
+    terms = refl;
+    history = record {};
+    same = refl;
+    any_moment = λ tail k. moments_pushed moment left_since old new (may_leave old) desk e tail follows fits room run k;
+    done = record {};
+    acknowledged = record {};
+    doubted = λ tail k. keeps_doubted (may_leave old) (may_leave new) desk journal faults e tail follows fits room kept k;
+  }
+
+  -- a refusal, which leaves desk and disk as they are
+  pub serves_refused : {T : Type 0} (why : DeskFault) (on : OnDisk D) (entry : Option Entry) → ((c : List ℕ) → left_since on.disk (moment on.disk) c → may_leave on.disk c)
+      → Serves {T = T} may_leave moment left_since on on entry (Err why)
+  serves_refused {T} why on entry now = record {
+    terms = refl;
+    history = record {};
+    same = refl;
+    any_moment = λ tail k. moments_same moment left_since on.disk (may_leave on.disk) on.desk tail (added_by entry) now k;
+    done = record {};
+    acknowledged = record {};
+    doubted = λ tail k. inl k;
+  }
+
+  -- an answer that adds nothing
+  pub serves_nothing : {T : Type 0} (x : T) (on : OnDisk D) → ((c : List ℕ) → left_since on.disk (moment on.disk) c → may_leave on.disk c)
+      → Serves {T = T} may_leave moment left_since on on None (Ok x)
+  serves_nothing {T} x on now = record {
+    terms = refl;
+    history = refl;
+    same = record {};
+    any_moment = λ tail k. moments_same moment left_since on.disk (may_leave on.disk) on.desk tail [] now k;
+    done = λ tail k. k;
+    acknowledged = record {};
+    doubted = record {};
+  }
+
+  -- the same by what the journal told of its payload, in the words of the fields
+  pub added : {T : Type 0} (x : T) (desk next : DeskState) (was : JournalState) (payload : List ℕ) (old new : D) (e : Entry)
+      → was ≡ desk.journal → payload ≡ entry_bytes e → next.terms ≡ desk.terms → next.history ≡ desk.history ++ e ∷ []
+      → MayFollow desk.terms.day desk.history e → Fits e → size_with desk e ≤ greatest_size
+      → ((payloads : List (List ℕ)) (t : List ℕ) → Keeps (may_leave old) was payloads t → LeavesOnly moment left_since old new (WithOnePayload payloads t payload))
+      → ((payloads : List (List ℕ)) (t a : List ℕ) → Keeps (may_leave old) was payloads t → Keeps (may_leave new) next.journal (payloads ++ payload ∷ []) a)
+      → Serves {T = T} may_leave moment left_since (record { desk = desk; disk = old }) (record { desk = next; disk = new }) (Some e) (Ok x)
+  added {T} x desk next was payload old new e journal bytes terms history follows fits room run kept =
+      let run_on = along (λ (j : JournalState) (p : List ℕ). (payloads : List (List ℕ)) (t : List ℕ) → Keeps (may_leave old) j payloads t → LeavesOnly moment left_since old new (WithOnePayload payloads t p)) journal bytes run in
+      let kept_on = along (λ (j : JournalState) (p : List ℕ). (payloads : List (List ℕ)) (t a : List ℕ) → Keeps (may_leave old) j payloads t → Keeps (may_leave new) next.journal (payloads ++ p ∷ []) a) journal bytes kept in
+      subst (λ (d : DeskState). Serves {T = T} may_leave moment left_since (record { desk = desk; disk = old }) (record { desk = d; disk = new }) (Some e) (Ok x))
+      (λ i. record { terms = sym terms i; history = sym history i; journal = next.journal; faults = next.faults })
+      (serves_added x desk old new next.journal next.faults e follows fits room run_on kept_on)
+
+  pub failed : {T : Type 0} (why : DeskFault) (desk next : DeskState) (was : JournalState) (payload : List ℕ) (old new : D) (e : Entry)
+      → was ≡ desk.journal → payload ≡ entry_bytes e → next.terms ≡ desk.terms → next.history ≡ desk.history
+      → MayFollow desk.terms.day desk.history e → Fits e → size_with desk e ≤ greatest_size
+      → ((payloads : List (List ℕ)) (t : List ℕ) → Keeps (may_leave old) was payloads t → LeavesOnly moment left_since old new (WithOnePayload payloads t payload))
+      → ((payloads : List (List ℕ)) (t : List ℕ) → Keeps (may_leave old) was payloads t → Keeps (may_leave new) next.journal payloads t ⊎ Keeps (may_leave new) next.journal payloads payload)
+      → Serves {T = T} may_leave moment left_since (record { desk = desk; disk = old }) (record { desk = next; disk = new }) (Some e) (Err why)
+  failed {T} why desk next was payload old new e journal bytes terms history follows fits room run kept =
+      let run_on = along (λ (j : JournalState) (p : List ℕ). (payloads : List (List ℕ)) (t : List ℕ) → Keeps (may_leave old) j payloads t → LeavesOnly moment left_since old new (WithOnePayload payloads t p)) journal bytes run in
+      let kept_on = along (λ (j : JournalState) (p : List ℕ). (payloads : List (List ℕ)) (t : List ℕ) → Keeps (may_leave old) j payloads t → Keeps (may_leave new) next.journal payloads t ⊎ Keeps (may_leave new) next.journal payloads p) journal bytes kept in
+      subst (λ (d : DeskState). Serves {T = T} may_leave moment left_since (record { desk = desk; disk = old }) (record { desk = d; disk = new }) (Some e) (Err why))
+      (λ i. record { terms = sym terms i; history = sym history i; journal = next.journal; faults = next.faults })
+      (serves_failed why desk old new next.journal next.faults e follows fits room run_on kept_on)
+
+  -- where desk and disk are as they were
+  pub refused : {T : Type 0} (why : DeskFault) (on next : OnDisk D) (entry : Option Entry) → next ≡ on → ((c : List ℕ) → left_since on.disk (moment on.disk) c → may_leave on.disk c)
+      → Serves {T = T} may_leave moment left_since on next entry (Err why)
+  refused {T} why on next entry same now =
+      subst (λ (o : OnDisk D). Serves {T = T} may_leave moment left_since on o entry (Err why)) (sym same) (serves_refused why on entry now)
+
+  pub nothing : {T : Type 0} (x : T) (on next : OnDisk D) (entry : Option Entry) → entry ≡ None → next ≡ on → ((c : List ℕ) → left_since on.disk (moment on.disk) c → may_leave on.disk c)
+      → Serves {T = T} may_leave moment left_since on next entry (Ok x)
+  nothing {T} x on next entry none same now =
+      subst (λ (o : OnDisk D). Serves {T = T} may_leave moment left_since on o entry (Ok x)) (sym same)
+      (subst (λ (m : Option Entry). Serves {T = T} may_leave moment left_since on on m (Ok x)) (sym none) (serves_nothing x on now))
+
+  -- an answer or a refusal, of a call that adds nothing
+  pub untouched : {T : Type 0} (r : Result T DeskFault) (on : OnDisk D) (entry : Option Entry) → entry ≡ None → ((c : List ℕ) → left_since on.disk (moment on.disk) c → may_leave on.disk c)
+      → Serves {T = T} may_leave moment left_since on on entry r
+  untouched (Ok x) on entry none now = nothing x on on entry none (λ i. on) now
+  untouched (Err why) on entry none now = refused why on on entry (λ i. on) now
+
+  -- the same outcome with another answer
+  pub told_ok : {T U : Type 0} (x : T) (y : U) (old next : OnDisk D) (entry : Option Entry) → Serves {T = T} may_leave moment left_since old next entry (Ok x) → Serves {T = U} may_leave moment left_since old next entry (Ok y)
+  told_ok {T} {U} x y old next entry s = record {
+    terms = s.terms;
+    history = s.history;
+    same = record {};
+    any_moment = s.any_moment;
+    done = s.done;
+    acknowledged = s.acknowledged;
+    doubted = record {};
+  }
+
+  pub told_err : {T U : Type 0} (why : DeskFault) (old next : OnDisk D) (entry : Option Entry) → Serves {T = T} may_leave moment left_since old next entry (Err why) → Serves {T = U} may_leave moment left_since old next entry (Err why)
+  told_err {T} {U} why old next entry s = record {
+    terms = s.terms;
+    history = record {};
+    same = s.same;
+    any_moment = s.any_moment;
+    done = record {};
+    acknowledged = record {};
+    doubted = s.doubted;
+  }

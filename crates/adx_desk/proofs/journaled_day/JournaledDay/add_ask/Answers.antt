@@ -1,0 +1,44 @@
+-- By the memory that was taken, and what the record came to.
+use Rattle.std.proofs.Common.{◌≡◌, Option, Some, sym, ap, subst}
+use Rattle.std.specs.Prelude.{IfErr, IfOk}
+use Rattle.day_rules.specs.declared.ask.Ask.{Ask}
+use Rattle.day_rules.specs.Legal.{MayFollow}
+use Rattle.adx_desk.specs.declared.fault.DeskFault.{DeskFault}
+use Rattle.adx_desk.specs.Desks.{DeskState}
+use Rattle.adx_desk.specs.Endings.{EndsAsk}
+use Rattle.adx_desk.specs.Journaled.{on_disk}
+use Rattle.adx_desk.specs.Serving.{Serves}
+use Rattle.adx_desk.proofs.Serving.{refused}
+use Rattle.adx_desk.proofs.journaled_day.JournaledDay.add_ask.Goals as goal
+
+pub append_as-requires-clause-follows : goal.append_as-requires-clause-follows
+append_as-requires-clause-follows g c = subst (λ (d : DeskState). MayFollow d.terms.day d.history c.args.entry) (sym c.make_room.ensures.desk) c.requires
+
+pub returns-in-Ok-clause-copy : goal.returns-in-Ok-clause-copy
+returns-in-Ok-clause-copy g c = subst (λ (o : Option Ask). IfOk c.append_as.result (λ d. d.ask ≡ o)) c.in-Ok.ensures.copy c.append_as.ensures.copy
+
+pub returns-in-Ok-clause-serves : goal.returns-in-Ok-clause-serves
+returns-in-Ok-clause-serves g c =
+    let D = g.D.Disk in
+    subst (λ (d : DeskState). Serves D.may_leave D.moment D.left_since (record { desk = d; disk = c.args.disk.now }) (on_disk c.append_as.new.self c.append_as.new.disk) (Some c.args.entry) c.append_as.result) c.make_room.ensures.desk c.append_as.ensures.serves
+
+pub returns-in-Ok-clause-ends : goal.returns-in-Ok-clause-ends
+returns-in-Ok-clause-ends g c =
+    let D = g.D.Disk in
+    subst (λ (d : DeskState). EndsAsk (D.faults c.args.disk.now) (D.faults c.append_as.new.disk) d c.append_as.new.self.desk (Some c.args.entry) c.append_as.result) c.make_room.ensures.desk c.append_as.ensures.ends
+
+pub returns-in-Ok-clause-refused : goal.returns-in-Ok-clause-refused
+returns-in-Ok-clause-refused g c =
+    subst (λ (d : DeskState). IfErr c.append_as.result (λ e. (e ≡ DeskFault.DiskFault → ⊥) → on_disk c.append_as.new.self c.append_as.new.disk ≡ record { desk = d; disk = c.args.disk.now })) c.make_room.ensures.desk c.append_as.ensures.refused
+
+pub returns-in-Err-clause-serves : goal.returns-in-Err-clause-serves
+returns-in-Err-clause-serves g c =
+    let D = g.D.Disk in
+    refused D.may_leave D.moment D.left_since DeskFault.OutOfMemory (on_disk c.args.self.now c.args.disk.now) (on_disk c.make_room.new.self c.args.disk.now) (Some c.args.entry)
+    (λ i. record { desk = c.make_room.ensures.desk i; disk = c.args.disk.now }) (g.met.D.Disk.only_now c.args.disk.now)
+
+pub returns-in-Err-clause-ends : goal.returns-in-Err-clause-ends
+returns-in-Err-clause-ends g c = record { disk = λ i. g.D.Disk.faults c.args.disk.now; desk = ap (λ (d : DeskState). d.faults) c.make_room.ensures.desk }
+
+pub returns-in-Err-clause-refused : goal.returns-in-Err-clause-refused
+returns-in-Err-clause-refused g c = λ other i. record { desk = c.make_room.ensures.desk i; disk = c.args.disk.now }

@@ -1,0 +1,153 @@
+-- An entry in the journal, and then in the history.
+use Rattle.std.proofs.Common.{◌≡◌, ℕ, ◌<◌, ◌≤◌, min, Some, List, [], ◌∷◌, ◌++◌, length, sym, ◌∙◌, ap, subst, arith}
+use Rattle.std.specs.Prelude.{Err}
+use Rattle.adx_io.specs.Streams.{last_count}
+use Rattle.day_journal.specs.declared.fault.JournalFault.{JournalFault}
+use Rattle.day_journal.specs.Faults.{greatest_size}
+use Rattle.day_journal.specs.Tails.{JournalState, size_after}
+use Rattle.day_entries.specs.Spelling.{entry_bytes}
+use Rattle.day_rules.specs.declared.entry.Entry.{Entry}
+use Rattle.day_rules.specs.DayState.{HasRoomFor}
+use Rattle.day_rules.specs.Legal.{MayFollow}
+use Rattle.adx_desk.specs.Desks.{DeskState}
+use Rattle.adx_desk.specs.Endings.{size_with}
+use Rattle.adx_desk.specs.Journaled.{JournaledState, beside, day_in, on_disk}
+use Rattle.adx_desk.proofs.Inside.{journaled_pushed, known, some_bytes}
+use Rattle.adx_desk.proofs.Keeping.{fits_with, notice_fits, passes_with}
+use Rattle.adx_desk.proofs.Serving.{added, failed, refused}
+use Rattle.adx_desk.proofs.journaled_day.JournaledDay.append.Goals as goal
+
+sizes : (a b : JournalState) (p q : List ℕ) (h k : ℕ) → a ≡ b → p ≡ q → h ≡ k → size_after a p h ≡ size_after b q k
+sizes a b p q h k x y z = λ i. size_after (x i) (y i) (z i)
+
+pub append-requires : goal.append-requires
+append-requires g c = subst (λ (p : List ℕ). 0 < length p) (sym c.requires.payload) (some_bytes c.args.entry)
+
+pub commit-requires-clause-legal : goal.commit-requires-clause-legal
+commit-requires-clause-legal g c =
+    subst (λ (s : JournaledState). MayFollow s.desk.terms.day s.desk.history c.args.entry) (sym c.self.view_is) c.requires.follows
+
+pub commit-requires-clause-room : goal.commit-requires-clause-room
+commit-requires-clause-room g c = subst (λ (s : JournaledState). HasRoomFor (day_in s) c.args.entry) (sym c.self.view_is) c.requires.room
+
+pub invariant_of-self : goal.invariant_of-self
+invariant_of-self g c =
+    let s : JournaledState = c.args.self.now in
+    let e : Entry = c.args.entry in
+    let k = known c.self.inside.day c.self.inside.digest c.self.inside.journal c.self.inside.faults c.self.inside.open s c.self.invariant c.self.view_is in
+    let journal : c.self.inside.journal ≡ s.desk.journal = ap (λ (t : JournaledState). t.desk.journal) c.self.view_is in
+    let room : size_with s.desk e ≤ greatest_size =
+    fits_with s.desk e c.requires.follows k.room (subst (λ (n : ℕ). n ≤ greatest_size) (sizes _ _ _ _ _ _ journal c.requires.payload c.held_beside-held.ensures) c.in-Ok.ensures.ends.0) in
+    journaled_pushed c.self.inside.day c.commit.new.self c.self.inside.journal c.append.new.self s.desk c.open_behind-open.result c.args.frame.now.payload e
+    c.commit.ensures.terms c.commit.ensures.history c.self.invariant.legal
+    (subst (λ (t : JournaledState). MayFollow t.desk.terms.day t.desk.history e) (sym c.self.view_is) c.requires.follows)
+    journal (ap (λ (t : JournaledState). t.desk.history) c.self.view_is) c.requires.payload c.in-Ok.ensures.grown room c.open_behind-open.ensures
+
+pub returns-in-Ok-clause-serves : goal.returns-in-Ok-clause-serves
+returns-in-Ok-clause-serves g c =
+    let D = g.D.Disk in
+    let s : JournaledState = c.args.self.now in
+    let e : Entry = c.args.entry in
+    let k = known c.self.inside.day c.self.inside.digest c.self.inside.journal c.self.inside.faults c.self.inside.open s c.self.invariant c.self.view_is in
+    let journal : c.self.inside.journal ≡ s.desk.journal = ap (λ (t : JournaledState). t.desk.journal) c.self.view_is in
+    let room : size_with s.desk e ≤ greatest_size =
+    fits_with s.desk e c.requires.follows k.room (subst (λ (n : ℕ). n ≤ greatest_size) (sizes _ _ _ _ _ _ journal c.requires.payload c.held_beside-held.ensures) c.in-Ok.ensures.ends.0) in
+    let next : DeskState = record {
+      terms = record { day = c.commit.new.self.terms; digest = c.self.inside.digest };
+      history = c.commit.new.self.history;
+      journal = c.append.new.self;
+      faults = c.self.inside.faults;
+    } in
+    let terms : next.terms ≡ s.desk.terms =
+    ap (λ t. record { day = t; digest = c.self.inside.digest }) c.commit.ensures.terms ∙ ap (λ (t : JournaledState). t.desk.terms) c.self.view_is in
+    let history : next.history ≡ s.desk.history ++ e ∷ [] = c.commit.ensures.history ∙ ap (λ (t : JournaledState). t.desk.history ++ e ∷ []) c.self.view_is in
+    added D.may_leave D.moment D.left_since _ s.desk next c.self.inside.journal c.args.frame.now.payload c.args.disk.now c.append.new.disk e
+    journal c.requires.payload terms history c.requires.follows c.requires.fits room c.in-Ok.ensures.any_moment c.in-Ok.ensures.acknowledged
+
+pub returns-in-Ok-clause-ends : goal.returns-in-Ok-clause-ends
+returns-in-Ok-clause-ends g c =
+    let s : JournaledState = c.args.self.now in
+    let e : Entry = c.args.entry in
+    let k = known c.self.inside.day c.self.inside.digest c.self.inside.journal c.self.inside.faults c.self.inside.open s c.self.invariant c.self.view_is in
+    let journal : c.self.inside.journal ≡ s.desk.journal = ap (λ (t : JournaledState). t.desk.journal) c.self.view_is in (
+      fits_with s.desk e c.requires.follows k.room (subst (λ (n : ℕ). n ≤ greatest_size) (sizes _ _ _ _ _ _ journal c.requires.payload c.held_beside-held.ensures) c.in-Ok.ensures.ends.0),
+      record { disk = c.in-Ok.ensures.ends.1; desk = ap (λ (t : JournaledState). t.desk.faults) c.self.view_is },
+    )
+
+pub returns-in-Err-DiskFault-clause-serves : goal.returns-in-Err-DiskFault-clause-serves
+returns-in-Err-DiskFault-clause-serves g c =
+    let D = g.D.Disk in
+    let s : JournaledState = c.args.self.now in
+    let e : Entry = c.args.entry in
+    let k = known c.self.inside.day c.self.inside.digest c.self.inside.journal c.self.inside.faults c.self.inside.open s c.self.invariant c.self.view_is in
+    let journal : c.self.inside.journal ≡ s.desk.journal = ap (λ (t : JournaledState). t.desk.journal) c.self.view_is in
+    let ends = rw c.in-Err-DiskFault.field-0-is at c.in-Err-DiskFault.ensures.ends in
+    let room : size_with s.desk e ≤ greatest_size =
+    fits_with s.desk e c.requires.follows k.room (subst (λ (n : ℕ). n ≤ greatest_size) (sizes _ _ _ _ _ _ journal c.requires.payload c.held_beside-held.ensures) ends.0) in
+    let next : DeskState = record {
+      terms = record { day = c.self.inside.day.terms; digest = c.self.inside.digest };
+      history = c.self.inside.day.history;
+      journal = c.append.new.self;
+      faults = c.saturating_add-self-inside.result;
+    } in
+    failed D.may_leave D.moment D.left_since _ s.desk next c.self.inside.journal c.args.frame.now.payload c.args.disk.now c.append.new.disk e
+    journal c.requires.payload (ap (λ (t : JournaledState). t.desk.terms) c.self.view_is) (ap (λ (t : JournaledState). t.desk.history) c.self.view_is)
+    c.requires.follows c.requires.fits room c.in-Err-DiskFault.ensures.any_moment c.in-Err-DiskFault.ensures.doubted
+
+pub returns-in-Err-DiskFault-clause-ends : goal.returns-in-Err-DiskFault-clause-ends
+returns-in-Err-DiskFault-clause-ends g c =
+    let s : JournaledState = c.args.self.now in
+    let e : Entry = c.args.entry in
+    let k = known c.self.inside.day c.self.inside.digest c.self.inside.journal c.self.inside.faults c.self.inside.open s c.self.invariant c.self.view_is in
+    let journal : c.self.inside.journal ≡ s.desk.journal = ap (λ (t : JournaledState). t.desk.journal) c.self.view_is in
+    let ends = rw c.in-Err-DiskFault.field-0-is at c.in-Err-DiskFault.ensures.ends in (
+      fits_with s.desk e c.requires.follows k.room (subst (λ (n : ℕ). n ≤ greatest_size) (sizes _ _ _ _ _ _ journal c.requires.payload c.held_beside-held.ensures) ends.0),
+      record {
+        later = ends.1;
+        risen = ends.2;
+        counted = omega (arith, c.saturating_add-self-inside.ensures, ap (λ (t : JournaledState). t.desk.faults) c.self.view_is);
+      },
+    )
+
+pub returns-in-Err-Full-clause-ends : goal.returns-in-Err-Full-clause-ends
+returns-in-Err-Full-clause-ends g c =
+    let s : JournaledState = c.args.self.now in
+    let e : Entry = c.args.entry in
+    let k = known c.self.inside.day c.self.inside.digest c.self.inside.journal c.self.inside.faults c.self.inside.open s c.self.invariant c.self.view_is in
+    let journal : c.self.inside.journal ≡ s.desk.journal = ap (λ (t : JournaledState). t.desk.journal) c.self.view_is in
+    let ends = rw c.in-Err-Full.field-0-is at c.in-Err-Full.ensures.ends in
+    let told : size_after c.self.inside.journal c.args.frame.now.payload c.held_beside-held.result ≡ size_after s.desk.journal (entry_bytes e) (beside s.desk.history e) =
+    sizes _ _ _ _ _ _ journal c.requires.payload c.held_beside-held.ensures in
+    let total = told ∙ passes_with s.desk e c.requires.follows k.room (subst (λ (n : ℕ). greatest_size < n) told ends.0) in (
+      (subst (λ (n : ℕ). greatest_size < n) total ends.0, ends.1 ∙ ap (λ (n : ℕ). min n last_count) total),
+      record { disk = ends.2; desk = ap (λ (t : JournaledState). t.desk.faults) c.self.view_is },
+    )
+
+pub returns-in-Err-Full-clause-serves : goal.returns-in-Err-Full-clause-serves
+returns-in-Err-Full-clause-serves g c =
+    let D = g.D.Disk in
+    let s : JournaledState = c.args.self.now in
+    let both = c.in-Err-Full.ensures.refused _ (ap (λ (x : JournalFault). Err x) c.in-Err-Full.field-0-is) in
+    let next : DeskState = record {
+      terms = record { day = c.self.inside.day.terms; digest = c.self.inside.digest };
+      history = c.self.inside.day.history;
+      journal = c.append.new.self;
+      faults = c.self.inside.faults;
+    } in
+    let before : DeskState = record next { journal = c.self.inside.journal } in
+    let first : next ≡ before = ap (λ (j : JournalState). record next { journal = j }) both.0 in
+    let same : next ≡ s.desk = first ∙ ap (λ (t : JournaledState). t.desk) c.self.view_is in
+    refused D.may_leave D.moment D.left_since _ (on_disk s c.args.disk.now) (record { desk = next; disk = c.append.new.disk }) (Some c.args.entry)
+    (λ i. record { desk = same i; disk = both.1 i }) (g.met.D.Disk.only_now c.args.disk.now)
+
+pub returns-in-Ok-clause-always : goal.returns-in-Ok-clause-always
+returns-in-Ok-clause-always g c = λ none.
+    notice_fits c.args.self.now.desk c.args.entry c.requires.follows none (known c.self.inside.day c.self.inside.digest c.self.inside.journal c.self.inside.faults c.self.inside.open c.args.self.now c.self.invariant c.self.view_is).room
+
+pub returns-in-Err-DiskFault-clause-always : goal.returns-in-Err-DiskFault-clause-always
+returns-in-Err-DiskFault-clause-always g c = λ none.
+    notice_fits c.args.self.now.desk c.args.entry c.requires.follows none (known c.self.inside.day c.self.inside.digest c.self.inside.journal c.self.inside.faults c.self.inside.open c.args.self.now c.self.invariant c.self.view_is).room
+
+pub returns-in-Err-Full-clause-always : goal.returns-in-Err-Full-clause-always
+returns-in-Err-Full-clause-always g c = λ none.
+    notice_fits c.args.self.now.desk c.args.entry c.requires.follows none (known c.self.inside.day c.self.inside.digest c.self.inside.journal c.self.inside.faults c.self.inside.open c.args.self.now c.self.invariant c.self.view_is).room

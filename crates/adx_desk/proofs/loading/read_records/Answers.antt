@@ -1,0 +1,82 @@
+use Rattle.std.proofs.Common.{List, ℕ, ◌∷◌, [], Ok, Err, refl, sym, ◌∙◌, ap, subst}
+use Rattle.day_rules.specs.DayState.{IsDay}
+use Rattle.day_rules.specs.Legal.{IsLegal}
+use Rattle.day_rules.specs.Terms.{Terms}
+use Rattle.adx_desk.specs.Loading.{RefusesRecord, TakesFront}
+use Rattle.adx_desk.specs.Histories.{DeskTerms}
+use Rattle.adx_desk.specs.Openings.{RefusesDesk}
+use Rattle.adx_desk.proofs.ReadRecords.{later_refused, no_reads, read_all, reads_on, record_read, record_refused, still_shorter}
+use Rattle.adx_desk.proofs.loading.read_records.Goals as goal
+
+pub records-init : goal.records-init
+records-init g c =
+    let D = g.D.Disk in
+    record {
+      terms = refl;
+      legal = c.requires;
+      read = λ digest file told read. read;
+      only = no_reads D.reads D.may_leave D.moment D.left_since c.args.disk.now (g.met.D.Disk.only_now c.args.disk.now);
+      count = refl;
+      lasts = g.met.D.Disk.lasts_same c.args.disk.now;
+    }
+
+pub records-preserved : goal.records-preserved
+records-preserved g c =
+    let D = g.D.Disk in
+    let day = c.args.day.now in
+    let mid = c.records.day in
+    let new = c.take_record.new.day in
+    let bytes = c.next_into.new.payload.items in
+    let inv = c.records.invariant in
+    let taken = subst (λ (t : Terms). TakesFront t mid.history new.history bytes []) inv.terms (subst (λ (l : List ℕ). TakesFront mid.terms mid.history new.history l []) c.as_slice.ensures.value c.in-Ok.ensures.taken) in
+    let found = rw c.in-Ok-true.field-0-test at c.in-Ok-true.ensures.found in
+    record {
+      terms = c.take_record.ensures.terms ∙ inv.terms;
+      legal = record { terms_ok = c.requires.terms_ok; legal = taken.legal };
+      read = λ digest file told read.
+          let had = inv.read digest file told read in
+          record_read digest file day.terms c.next_into.new.self had.rest mid.history new.history bytes had.records (found file (digest ∷ had.rest) (inv.only.same ∙ told) had.behind) taken;
+      only = reads_on D.reads D.may_leave D.moment D.left_since c.args.disk.now c.records.disk c.next_into.new.disk inv.only c.next_into.ensures.only_reads;
+      count = c.in-Ok-true.ensures.ends ∙ inv.count;
+      lasts = g.met.D.Disk.lasts_on c.args.disk.now c.records.disk c.next_into.new.disk inv.lasts c.next_into.ensures.lasts;
+    }
+
+pub records-smaller : goal.records-smaller
+records-smaller g c =
+    let taken = c.in-Ok.ensures.taken in
+    let legal : IsLegal c.args.day.now.terms c.take_record.new.day.history = subst (λ (t : Terms). IsLegal t c.take_record.new.day.history) c.records.invariant.terms taken.legal in
+    still_shorter c.args.day.now.terms c.records.day.history c.take_record.new.day.history taken.front (record { terms_ok = c.requires.terms_ok; legal = legal }) taken.some taken.added
+
+pub returns-in-Ok-false-clause-legal : goal.returns-in-Ok-false-clause-legal
+returns-in-Ok-false-clause-legal g c = subst (λ (t : Terms). IsDay t c.records.day.history) (sym c.records.invariant.terms) c.records.invariant.legal
+
+pub returns-in-Ok-false-clause-read : goal.returns-in-Ok-false-clause-read
+returns-in-Ok-false-clause-read g c digest file told read =
+    let inv = c.records.invariant in
+    let had = inv.read digest file told read in
+    let found = rw c.in-Ok-false.field-0-test at c.in-Ok-false.ensures.found in
+    read_all digest file c.records.opening c.next_into.new.self c.records.day.history had (found file (digest ∷ had.rest) (inv.only.same ∙ told) had.behind)
+
+pub returns-in-Ok-false-clause-closed : goal.returns-in-Ok-false-clause-closed
+returns-in-Ok-false-clause-closed g c = c.in-Ok-false.ensures.closed (ap Ok c.in-Ok-false.field-0-test)
+
+pub returns-in-Err-take_record-clause-refused : goal.returns-in-Err-take_record-clause-refused
+returns-in-Err-take_record-clause-refused g c digest file told read =
+    let terms : DeskTerms = record { day = c.args.day.now.terms; digest = digest } in
+    let inv = c.records.invariant in
+    let mid = c.records.day in
+    let bytes = c.next_into.new.payload.items in
+    let had = inv.read digest file told read in
+    let found = rw c.in-Ok-true.field-0-test at c.in-Ok-true.ensures.found in
+    let refused = subst (λ (l : List ℕ). RefusesRecord mid.terms mid.history l c.in-Err-take_record.fault) c.as_slice.ensures.value c.in-Err-take_record.ensures.refused in
+    record_refused terms file c.next_into.new.self had.rest mid.history bytes c.in-Err-take_record.fault had.records (found file (digest ∷ had.rest) (inv.only.same ∙ told) had.behind)
+    (subst (λ (t : Terms). RefusesRecord t mid.history bytes c.in-Err-take_record.fault) inv.terms refused)
+
+pub returns-in-Err-clause-refused : goal.returns-in-Err-clause-refused
+returns-in-Err-clause-refused g c digest file told read =
+    let terms : DeskTerms = record { day = c.args.day.now.terms; digest = digest } in
+    let inv = c.records.invariant in
+    let had = inv.read digest file told read in
+    subst (RefusesDesk terms file) (sym c.from.ensures)
+    (later_refused terms file c.records.opening c.records.day.history c.in-Err.fault inv.legal.legal had (λ at is. c.in-Err.ensures.place at (ap Err is))
+    (c.in-Err.ensures.refused file (digest ∷ had.rest) (inv.only.same ∙ told) had.behind))

@@ -1,0 +1,61 @@
+-- What a file stands for: the history whose entries its payloads spell. This project's own.
+use Rattle.std.specs.Prelude.{◌≡◌, ◌⊎◌, ℕ, ◌+◌, ◌≤◌, ◌<◌, List, [], ◌∷◌, ◌++◌, map, length, All}
+use Rattle.std.specs.List.{flat_map}
+use Rattle.day_journal.specs.Faults.{greatest_size}
+use Rattle.day_journal.specs.Places.{StandsFor, opened}
+use Rattle.day_rules.specs.declared.entry.Entry.{Entry}
+use Rattle.day_rules.specs.Legal.{IsLegal}
+use Rattle.day_rules.specs.Terms.{Terms}
+use Rattle.day_entries.specs.Spelling.{Fits, entry_bytes}
+use Rattle.adx_desk.specs.Held.{held}
+
+-- what a desk was opened with: the terms of its day, and the digest of its roster
+pub record DeskTerms : Type 0 where
+  pub day : Terms
+  pub digest : List ℕ
+
+-- the entries of one record: at least one, each with a spelling
+pub record IsRecord (entries : List Entry) : Type 0 where
+  pub some : 0 < length entries
+  pub spelled : All Fits entries
+
+-- the payload of a record: its entries, back to back
+abbrev pub entries_bytes : List Entry → List ℕ
+entries_bytes entries = flat_map entry_bytes entries
+
+-- the payloads are those of the history, record by record
+pub record AreRecords (payloads : List (List ℕ)) (history : List Entry) : Type 0 where
+  pub records : List (List Entry)
+  pub each : All IsRecord records
+  pub entries : history ≡ flat_map (λ (es : List Entry). es) records
+  pub spelled : payloads ≡ map entries_bytes records
+
+-- the payloads of a history: none and no entry, or the roster's digest and then the records
+abbrev pub Spells : List ℕ → List (List ℕ) → List Entry → Type 0
+Spells digest payloads history =
+    ((payloads ≡ []) × (history ≡ [])) ⊎ ((rest : List (List ℕ)) × (payloads ≡ digest ∷ rest) × AreRecords rest history)
+
+-- a journal of these payloads has room for what is held
+abbrev pub HasRoom : List (List ℕ) → List Entry → Type 0
+HasRoom payloads history = length (opened payloads) + 1 + held history ≤ greatest_size
+
+-- the file stands for this history
+pub record IsHistoryOf (terms : DeskTerms) (file : List ℕ) (history : List Entry) : Type 0 where
+  pub payloads : List (List ℕ)
+  pub stands : StandsFor file payloads
+  pub spells : Spells terms.digest payloads history
+  pub legal : IsLegal terms.day history
+  pub room : HasRoom payloads history
+
+-- the history alone, or with the entries of one record that is in doubt
+abbrev pub WithOrWithout : DeskTerms → List Entry → List Entry → List ℕ → Type 0
+WithOrWithout terms history tail file = IsHistoryOf terms file history ⊎ IsHistoryOf terms file (history ++ tail)
+
+-- the history alone, with the record that was in doubt, or with the new one; these two never together
+abbrev pub WithAtMostOne : DeskTerms → List Entry → List Entry → List Entry → List ℕ → Type 0
+WithAtMostOne terms history tail new file =
+    IsHistoryOf terms file history ⊎ IsHistoryOf terms file (history ++ tail) ⊎ IsHistoryOf terms file (history ++ new)
+
+-- every history that one file stood for, the other stands for
+abbrev pub SameHistories : DeskTerms → List ℕ → List ℕ → Type 0
+SameHistories terms before after = (history : List Entry) → IsHistoryOf terms before history → IsHistoryOf terms after history

@@ -1,0 +1,58 @@
+-- Private, cited by the day with its journal alone: its value, and what its fields keep.
+use Rattle.std.specs.Prelude.{◌≡◌, ℕ, ◌+◌, ◌≤◌, List, [], ◌∷◌, ◌++◌, Option, Some, None, Result, Ok, Err, if◌then◌else◌}
+use Rattle.notice_book.specs.declared.award.Award.{Award}
+use Rattle.notice_book.specs.Rules.{may_end}
+use Rattle.day_journal.specs.Faults.{greatest_size}
+use Rattle.day_journal.specs.Tails.{JournalState, size_of}
+use Rattle.day_rules.specs.declared.entry.Entry.{Entry}
+use Rattle.day_rules.specs.Books.{awards_of}
+use Rattle.day_rules.specs.DayState.{DayState, Room}
+use Rattle.day_rules.specs.Legal.{IsLegal}
+use Rattle.adx_desk.specs.Desks.{DeskState, OnDisk}
+use Rattle.adx_desk.specs.declared.fault.DeskFault.{DeskFault}
+use Rattle.adx_desk.specs.Endings.{FailsDisk, NoFault, PassesJournal, size_with}
+use Rattle.adx_desk.specs.Held.{held, open_count}
+
+-- a desk but for its disk, and what there is memory for
+pub record JournaledState : Type 0 where
+  pub desk : DeskState
+  pub room : Room
+
+-- the day of it
+abbrev pub day_in : JournaledState → DayState
+day_in s = record { terms = s.desk.terms.day; history = s.desk.history; room = s.room }
+
+-- it with a disk
+abbrev pub on_disk : {D : Type 0} → JournaledState → D → OnDisk D
+on_disk s disk = record { desk = s.desk; disk = disk }
+
+-- the history is legal, its open awards are counted, and the journal has room for what is held
+pub record AreJournaled (day : DayState) (journal : JournalState) (open_awards : ℕ) : Type 0 where
+  pub legal : IsLegal day.terms day.history
+  pub open_are : open_awards ≡ open_count (awards_of day.history)
+  pub room : size_of journal + held day.history ≤ greatest_size
+
+-- what is held beside the record of an entry: for an ask what is held behind it; the record of another entry takes of
+-- what is held already
+abbrev pub beside : List Entry → Entry → ℕ
+beside history (Entry.Ask a) = held (history ++ Entry.Ask a ∷ [])
+beside history (Entry.Win n) = 0
+beside history (Entry.Bill n) = 0
+beside history (Entry.Loss n) = 0
+beside history (Entry.Expire now) = 0
+
+-- How the record of an entry ends: full exactly where it passes the journal, and else done or a fault of the disk.
+abbrev pub EndsRecord : {T : Type 0} → (before now : ℕ) (old new : DeskState) (e : Entry) → Result T DeskFault → Type 0
+EndsRecord before now old new e (Ok done) = (size_with old e ≤ greatest_size) × NoFault before now old new
+EndsRecord before now old new e (Err DeskFault.DiskFault) = (size_with old e ≤ greatest_size) × FailsDisk before now old new
+EndsRecord before now old new e (Err (DeskFault.JournalFull size)) = PassesJournal old size (Some e) × NoFault before now old new
+EndsRecord before now old new e (Err (DeskFault.BadEntry at)) = ⊥
+EndsRecord before now old new e (Err (DeskFault.OtherRoster kept)) = ⊥
+EndsRecord before now old new e (Err (DeskFault.NotAJournal at)) = ⊥
+EndsRecord before now old new e (Err (DeskFault.BadLength at)) = ⊥
+EndsRecord before now old new e (Err DeskFault.OutOfMemory) = ⊥
+
+-- whether an award that there may be has no end, as a number
+abbrev pub open_one : Option Award → ℕ
+open_one None = 0
+open_one (Some w) = if may_end w then 1 else 0

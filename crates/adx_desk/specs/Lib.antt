@@ -1,0 +1,11 @@
+pub mod Held
+pub mod Histories
+pub mod Desks
+pub mod Asked
+pub mod Endings
+pub mod Serving
+pub mod Journaled
+pub mod Openings
+pub mod Loading
+pub mod Opened
+pub mod Rosters

@@ -1,0 +1,60 @@
+//! Copies of the asks that a history keeps.
+ghost use Rattle.std.specs.Prelude.{◌≡◌, IfOk};
+ghost use Rattle.day_rules.specs.Entries.{asked};
+ghost use Rattle.day_rules.specs.Books.{ask_at};
+ghost use Rattle.adx_desk.specs.Asked.{ask_for};
+
+use adx_units::OutOfMemory;
+use day_entries::copy_of;
+use day_rules::{Answer, Ask, Entry};
+use std::alloc::Global;
+
+/// A copy of the ask that an entry records; none for another entry.
+pub(crate) fn copy_in(alloc: Global, entry: &Entry) -> Result<Option<Ask>, OutOfMemory>
+    ensures { IfOk result (λ copy. copy ≡ asked entry.entry.now) }
+{
+    match entry {
+        Entry::Ask(ask) => {
+            let copy = copy_of(alloc, ask)?;
+            Ok(Some(copy))
+        }
+        Entry::Win { .. } => Ok(None),
+        Entry::Bill { .. } => Ok(None),
+        Entry::Loss { .. } => Ok(None),
+        Entry::Expire { .. } => Ok(None),
+    }
+}
+
+/// A copy of the ask at a place of the history; none where no ask stands there.
+fn copy_at(alloc: Global, entries: &[Entry], place: u64) -> Result<Option<Ask>, OutOfMemory>
+    ensures { IfOk result (λ copy. copy ≡ ask_at entries.now place) }
+{
+    match entries.get(place as usize) {
+        Some(entry) => copy_in(alloc, entry),
+        None => Ok(None),
+    }
+}
+
+/// A copy of the ask that an answer speaks of.
+pub(crate) fn copy_for(
+    alloc: Global,
+    entries: &[Entry],
+    answer: Answer,
+) -> Result<Option<Ask>, OutOfMemory>
+    ensures { IfOk result (λ copy. copy ≡ ask_for entries.now answer) }
+{
+    match answer {
+        Answer::Awarded { entry } => copy_at(alloc, entries, entry),
+        Answer::NoSale { entry } => copy_at(alloc, entries, entry),
+        Answer::Repeat { entry } => copy_at(alloc, entries, entry),
+        Answer::Counted => Ok(None),
+        Answer::Conflict { kept: _ } => Ok(None),
+        Answer::Unknown => Ok(None),
+        Answer::Ticked { ended: _ } => Ok(None),
+        Answer::Reused {
+            kept_digest: _,
+            given: _,
+        } => Ok(None),
+        Answer::DayFull { which: _, count: _ } => Ok(None),
+    }
+}

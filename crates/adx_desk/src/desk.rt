@@ -1,0 +1,190 @@
+//! The desk: a serving day whose history a journal keeps on a disk.
+ghost use Rattle.std.specs.Prelude.{◌≡◌, ◌≤◌, ◌<◌, ◌^◌, length, drop, IfOk, IfErr, OnOk, None};
+ghost use Rattle.day_rules.specs.Asks.{IsUndecided, IsWellFormed};
+ghost use Rattle.day_rules.specs.Books.{accounts_in, awards_of};
+ghost use Rattle.day_rules.specs.Replies.{ask_reply, notice_reply, seen_in, tick_reply};
+ghost use Rattle.day_rules.specs.Terms.{budgets_after};
+ghost use Rattle.adx_desk.specs.Asked.{ask_for};
+ghost use Rattle.adx_desk.specs.Endings.{EndsAsk, EndsNotice};
+ghost use Rattle.adx_desk.specs.Opened.{GivesUp, Opens};
+ghost use Rattle.adx_desk.specs.Openings.{HasDiskCause};
+ghost use Rattle.adx_desk.specs.Rosters.{desk_terms};
+ghost use Rattle.adx_desk.specs.Serving.{Serves};
+ghost use Rattle.adx_desk.specs.declared.fault.DeskFault.{DeskFault as Fault};
+
+use crate::done::Done;
+use crate::fault::DeskFault;
+use crate::journaled_day::JournaledDay;
+use crate::parts::{Parts, parts_of};
+use adx_io::{Disk, Frame};
+use campaign_book::Book;
+use day_rules::{Answer, Ask, Entry, Seen};
+use deal_floor::Roster;
+use notice_book::NoticeKind;
+use std::alloc::Global;
+use std::marker::Model;
+
+/// A serving day, the journal of its history, and the disk that it is kept on. A contract sees a `DeskState` and the
+/// disk: what the desk was opened with, what happened, the open journal, and how many calls answered a fault of the
+/// disk.
+#[derive(Drop)]
+pub struct Desk<D> {
+    alloc: Global,
+    kept: JournaledDay,
+    asks: Frame,
+    notices: Frame,
+    disk: D,
+}
+
+impl<D> Model for Desk<D> {
+    ghost use Rattle.std.specs.Prelude.{◌+◌, ◌≤◌, length};
+    ghost use Rattle.adx_desk.specs.Desks.{OnDisk};
+    ghost use Rattle.adx_desk.specs.declared.held.TheConstants.{NOTICE_ROOM};
+
+    ghost Value = { OnDisk D };
+
+    ghost view = { λ d. record { desk = d.kept.desk; disk = d.disk } };
+
+    ghost invariant = { λ d. NOTICE_ROOM ≤ d.notices.spare + length d.notices.payload };
+}
+
+impl<D: Disk> Desk<D> {
+    /// Opens the desk of a roster's day on a disk: by the history that its file stands for, or with a journal that it
+    /// begins where there is none. Where it gives up it gives the disk back, which after a refusal of the file reads as
+    /// it did before. The refusals are `NotAJournal`, `OtherRoster`, `BadLength` and `BadEntry`, the first of them in the
+    /// order of the file's bytes, and then `JournalFull`.
+    pub fn open(alloc: Global, disk: D, roster: &Roster) -> Result<Desk<D>, (DeskFault, D)>
+        ensures opens { IfOk result (λ d. Opens D.reads D.may_leave D.moment D.left_since (desk_terms roster.entry.now) disk d.disk d.desk) }
+        ensures gives_up { IfErr result (λ e. GivesUp D.reads D.may_leave D.moment D.left_since (desk_terms roster.entry.now) disk e.1 e.0) }
+        ensures same_count { IfOk result (λ d. D.faults d.disk ≡ D.faults disk) }
+        ensures cause { IfErr result (λ e. HasDiskCause (D.faults disk) (D.faults e.1) e.0) }
+        ensures lasts { IfOk result (λ d. D.lasts disk d.disk) }
+        ensures lasts_back { IfErr result (λ e. D.lasts disk e.1) }
+    {
+        let mut disk = disk;
+        match parts_of(alloc, &mut disk, roster) {
+            Ok(
+                Parts {
+                    kept,
+                    asks,
+                    notices,
+                },
+            ) => Ok(Desk {
+                alloc,
+                kept,
+                asks,
+                notices,
+                disk,
+            }),
+            Err(fault) => Err((fault, disk)),
+        }
+    }
+
+    /// Answers an ask. Where the reply has an entry, it is in the journal, and then in the history; all memory is taken
+    /// before the disk is written. The ask is given up on a refusal. After a fault the history and the books are as
+    /// before.
+    pub fn ask(&mut self, ask: Ask) -> Result<Done, DeskFault>
+        requires formed { IsWellFormed (length self.old.desk.terms.day.budgets) ask }
+        requires undecided { IsUndecided ask }
+        ensures answer { IfOk result (λ d. d.answer ≡ (ask_reply self.old.desk.terms.day self.old.desk.history ask).answer) }
+        ensures copy { IfOk result (λ d. d.ask ≡ ask_for self.new.desk.history d.answer) }
+        ensures serves { Serves D.may_leave D.moment D.left_since self.old self.new (ask_reply self.old.desk.terms.day self.old.desk.history ask).entry result }
+        ensures ends { EndsAsk (D.faults self.old.disk) (D.faults self.new.disk) self.old.desk self.new.desk (ask_reply self.old.desk.terms.day self.old.desk.history ask).entry result }
+        ensures unmoved { (ask_reply self.old.desk.terms.day self.old.desk.history ask).entry ≡ None → self.new ≡ self.old }
+        ensures refused { IfErr result (λ e. (e ≡ Fault.DiskFault → ⊥) → self.new ≡ self.old) }
+        ensures lasts { D.lasts self.old.disk self.new.disk }
+    {
+        self.kept
+            .ask(self.alloc, &mut self.disk, &mut self.asks, ask)
+    }
+
+    /// Answers a notice of an award of an auction. Takes no memory; its only fault is the disk's.
+    pub fn notice(
+        &mut self,
+        kind: NoticeKind,
+        auction: &str,
+        award: u32,
+    ) -> Result<Answer, DeskFault>
+        ensures answer { IfOk result (λ a. a ≡ (notice_reply self.old.desk.history kind auction.now award).answer) }
+        ensures serves { Serves D.may_leave D.moment D.left_since self.old self.new (notice_reply self.old.desk.history kind auction.now award).entry result }
+        ensures ends { EndsNotice (D.faults self.old.disk) (D.faults self.new.disk) self.old.desk self.new.desk result }
+        ensures unmoved { (notice_reply self.old.desk.history kind auction.now award).entry ≡ None → self.new ≡ self.old }
+        ensures lasts { D.lasts self.old.disk self.new.disk }
+    {
+        self.kept
+            .notice(&mut self.disk, &mut self.notices, kind, auction, award)
+    }
+
+    /// Answers a tick at a moment in seconds. Takes no memory; its only fault is the disk's.
+    pub fn tick(&mut self, now: u64) -> Result<Answer, DeskFault>
+        requires { now < 2 ^ 63 }
+        ensures answer { IfOk result (λ a. a ≡ (tick_reply self.old.desk.history now).answer) }
+        ensures serves { Serves D.may_leave D.moment D.left_since self.old self.new (tick_reply self.old.desk.history now).entry result }
+        ensures ends { EndsNotice (D.faults self.old.disk) (D.faults self.new.disk) self.old.desk self.new.desk result }
+        ensures unmoved { (tick_reply self.old.desk.history now).entry ≡ None → self.new ≡ self.old }
+        ensures lasts { D.lasts self.old.disk self.new.disk }
+    {
+        self.kept.tick(&mut self.disk, &mut self.notices, now)
+    }
+
+    /// Whether a request stands in the history, by its auction and its digest, or its auction with another request.
+    pub fn seen(&self, auction: &str, digest: &[u8; 32]) -> Seen
+        ensures { result ≡ seen_in self.now.desk.history auction.now digest.now }
+    {
+        self.kept.day().seen(auction, digest)
+    }
+
+    /// What happened so far.
+    pub fn entries(&self) -> &[Entry]
+        ensures { result.now ≡ self.now.desk.history }
+    {
+        self.kept.day().entries()
+    }
+
+    /// What happened from the entry with this place on, from 0; `n` is at most the number of entries.
+    pub fn entries_since(&self, n: u64) -> &[Entry]
+        requires { n ≤ length self.now.desk.history }
+        ensures { result.now ≡ drop n self.now.desk.history }
+    {
+        since(self.kept.day().entries(), n as usize)
+    }
+
+    /// The money of each campaign.
+    pub fn book(&self) -> &Book
+        ensures { result.now ≡ accounts_in (budgets_after self.now.desk.terms.day self.now.desk.history) (awards_of self.now.desk.history) }
+    {
+        self.kept.day().book()
+    }
+
+    /// The number of entries.
+    pub fn count(&self) -> u64
+        ensures { result ≡ length self.now.desk.history }
+    {
+        self.kept.day().entries().len() as u64
+    }
+
+    /// How many calls since opening answered a fault of the disk; it stands still at 2^64 - 1. Each of them raised the
+    /// disk's own count.
+    pub fn faults(&self) -> u64
+        ensures { result ≡ self.now.desk.faults }
+    {
+        self.kept.faults()
+    }
+}
+
+impl<D: Disk + Drop> Desk<D> {
+    /// Gives back the disk.
+    pub fn close(self) -> D
+        ensures { result ≡ self.disk }
+    {
+        self.disk
+    }
+}
+
+/// The entries from a place on.
+fn since(entries: &[Entry], n: usize) -> &[Entry]
+    requires { n ≤ length entries.now }
+    ensures { result.now ≡ drop n entries.now }
+{
+    &entries[n..]
+}

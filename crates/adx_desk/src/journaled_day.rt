@@ -1,0 +1,356 @@
+//! A day with the journal of its history; it owns no disk.
+ghost use Rattle.std.specs.Prelude.{◌≡◌, ◌+◌, ◌≤◌, ◌<◌, ◌^◌, ◌++◌, [], ◌∷◌, length, min, IfOk, IfErr, OnOk, OnErr, Some, None, Err};
+ghost use Rattle.std.specs.Option.{ForSome};
+ghost use Rattle.adx_io.specs.Streams.{last_count};
+ghost use Rattle.day_journal.specs.Faults.{greatest_size};
+ghost use Rattle.day_journal.specs.Tails.{size_of};
+ghost use Rattle.day_entries.specs.Spelling.{Fits, IsNoAsk, entry_bytes};
+ghost use Rattle.day_rules.specs.Asks.{IsUndecided, IsWellFormed};
+ghost use Rattle.day_rules.specs.Books.{awards_of};
+ghost use Rattle.day_rules.specs.Entries.{asked};
+ghost use Rattle.day_rules.specs.DayState.{HasRoomFor, IsDay};
+ghost use Rattle.day_rules.specs.Legal.{MayFollow};
+ghost use Rattle.day_rules.specs.Replies.{ask_reply, notice_reply, tick_reply};
+ghost use Rattle.adx_desk.specs.Asked.{ask_for};
+ghost use Rattle.adx_desk.specs.Endings.{EndsAsk, EndsNotice, size_with};
+ghost use Rattle.adx_desk.specs.Held.{held, open_count};
+ghost use Rattle.adx_desk.specs.Journaled.{EndsRecord, beside, day_in, on_disk};
+ghost use Rattle.adx_desk.specs.Serving.{Serves};
+ghost use Rattle.adx_desk.specs.declared.fault.DeskFault.{DeskFault as Fault};
+ghost use Rattle.adx_desk.specs.declared.held.TheConstants.{NOTICE_ROOM};
+
+use crate::copying::{copy_for, copy_in};
+use crate::done::Done;
+use crate::fault::DeskFault;
+use crate::framing::{put_ask, put_notice};
+use crate::held::{EXPIRY_RECORD, GREATEST_SIZE, NOTICE_RECORD, held_by, open_awards};
+use adx_io::{Disk, Frame};
+use adx_units::OutOfMemory;
+use day_journal::{Journal, JournalFault};
+use day_machine::{Day, sale_count};
+use day_rules::{Answer, Ask, Entry};
+use notice_book::NoticeKind;
+use std::alloc::Global;
+use std::marker::Model;
+
+/// A day, the journal of its history, and the digest of the roster that it was opened with. A contract sees its
+/// terms, its history, the open journal, how many calls answered a fault of the disk, and what there is memory for.
+#[derive(Drop)]
+pub(crate) struct JournaledDay {
+    day: Day,
+    digest: [u8; 32],
+    journal: Journal,
+    open: u64,
+    faults: u64,
+}
+
+impl Model for JournaledDay {
+    ghost use Rattle.adx_desk.specs.Journaled.{AreJournaled, JournaledState};
+
+    ghost Value = { JournaledState };
+
+    ghost view = { λ d. record {
+      desk = record {
+        terms = record { day = d.day.terms; digest = d.digest };
+        history = d.day.history;
+        journal = d.journal;
+        faults = d.faults;
+      };
+      room = d.day.room;
+    } };
+
+    ghost invariant = { λ d. AreJournaled d.day d.journal d.open };
+}
+
+impl JournaledDay {
+    /// A day whose history its journal keeps; full where the journal has no room for what is held.
+    pub(crate) fn of(
+        day: Day,
+        digest: [u8; 32],
+        journal: Journal,
+    ) -> Result<JournaledDay, DeskFault>
+        requires { IsDay day.terms day.history }
+        ensures desk { IfOk result (λ d. d.desk ≡ record { terms = record { day = day.terms; digest = digest }; history = day.history; journal = journal; faults = 0 }) }
+        ensures room { OnOk result (size_of journal + held day.history ≤ greatest_size) }
+        ensures full { IfErr result (λ e. (greatest_size < size_of journal + held day.history)
+            × (e ≡ Fault.JournalFull (min (size_of journal + held day.history) last_count))) }
+    {
+        let open = open_awards(day.awards());
+        let size = journal.size().saturating_add(held_by(&day, open));
+        if size > GREATEST_SIZE {
+            return Err(DeskFault::JournalFull { size });
+        }
+        Ok(JournaledDay {
+            day,
+            digest,
+            journal,
+            open,
+            faults: 0,
+        })
+    }
+
+    /// The day.
+    pub(crate) fn day(&self) -> &Day
+        ensures { result.now ≡ day_in self.now }
+    {
+        &self.day
+    }
+
+    /// How many calls answered a fault of the disk.
+    pub(crate) fn faults(&self) -> u64
+        ensures { result ≡ self.now.desk.faults }
+    {
+        self.faults
+    }
+
+    /// Makes the memory for an entry.
+    pub(crate) fn prepare(&mut self, entry: &Entry) -> Result<(), OutOfMemory>
+        requires { MayFollow self.old.desk.terms.day self.old.desk.history entry.now }
+        ensures desk { self.new.desk ≡ self.old.desk }
+        ensures room { OnOk result (HasRoomFor (day_in self.new) entry.now) }
+    {
+        self.day.prepare(entry)?;
+        Ok(())
+    }
+
+    /// The bytes that are held for notices and expiries.
+    fn held(&self) -> u64
+        ensures { result ≡ held self.now.desk.history }
+    {
+        NOTICE_RECORD * self.day.to_come() + (EXPIRY_RECORD - NOTICE_RECORD) * self.open
+    }
+
+    /// The bytes that are held beside the record of an entry. The record of an entry that is no ask takes of those
+    /// that are held.
+    fn held_beside(&self, entry: &Entry) -> u64
+        requires { MayFollow self.now.desk.terms.day self.now.desk.history entry.now }
+        ensures { result ≡ beside self.now.desk.history entry.entry.now }
+    {
+        // What is held is small, as a field shows.
+        let _ = &self.day;
+        match entry {
+            Entry::Ask(ask) => self.held()
+                + (EXPIRY_RECORD + NOTICE_RECORD) * sale_count(ask) as u64,
+            Entry::Win { .. } | Entry::Bill { .. } | Entry::Loss { .. } | Entry::Expire { .. } => 0,
+        }
+    }
+
+    /// How many awards have no end behind an entry.
+    fn open_behind(&self, entry: &Entry) -> u64
+        requires { MayFollow self.now.desk.terms.day self.now.desk.history entry.now }
+        ensures { result ≡ open_count (awards_of (self.now.desk.history ++ entry.entry.now ∷ [])) }
+    {
+        match entry {
+            Entry::Ask(ask) => self.open + sale_count(ask) as u64,
+            Entry::Win { .. } => self.open,
+            Entry::Bill { .. } => self.open - 1,
+            Entry::Loss { .. } => self.open - 1,
+            Entry::Expire { now } => self.open - u64::from(self.day.awards().due(*now)),
+        }
+    }
+
+    /// Writes a planned entry, which the frame holds, into the journal, and adds it to the history.
+    fn append<D: Disk>(
+        &mut self,
+        disk: &mut D,
+        frame: &Frame,
+        entry: Entry,
+    ) -> Result<(), DeskFault>
+        requires follows { MayFollow self.old.desk.terms.day self.old.desk.history entry }
+        requires room { HasRoomFor (day_in self.old) entry }
+        requires payload { frame.now.payload ≡ entry_bytes entry }
+        requires fits { Fits entry }
+        ensures serves { Serves D.may_leave D.moment D.left_since (on_disk self.old disk.old) (on_disk self.new disk.new) (Some entry) result }
+        ensures ends { EndsRecord (D.faults disk.old) (D.faults disk.new) self.old.desk self.new.desk entry result }
+        ensures always { IsNoAsk entry → size_with self.old.desk entry ≤ greatest_size }
+        ensures refused { IfErr result (λ e. (e ≡ Fault.DiskFault → ⊥) → on_disk self.new disk.new ≡ on_disk self.old disk.old) }
+        ensures lasts { D.lasts disk.old disk.new }
+    {
+        let held = self.held_beside(&entry);
+        let open = self.open_behind(&entry);
+        match self.journal.append(disk, frame, held) {
+            Ok(()) => {
+                self.day.commit(entry);
+                self.open = open;
+                Ok(())
+            }
+            Err(JournalFault::DiskFault) => {
+                self.faults = self.faults.saturating_add(1);
+                Err(DeskFault::DiskFault)
+            }
+            Err(JournalFault::Full { size }) => Err(DeskFault::JournalFull { size }),
+            Err(JournalFault::NotAJournal { .. }) => unreachable!(),
+            Err(JournalFault::BadLength { .. }) => unreachable!(),
+            Err(JournalFault::OutOfMemory) => unreachable!(),
+        }
+    }
+
+    /// Gives the answer to a notice or a tick, and adds its entry, if it has one, without memory.
+    fn add_notice<D: Disk>(
+        &mut self,
+        disk: &mut D,
+        frame: &mut Frame,
+        answer: Answer,
+        entry: Option<Entry>,
+    ) -> Result<Answer, DeskFault>
+        requires follows { ForSome entry (MayFollow self.old.desk.terms.day self.old.desk.history) }
+        requires room { ForSome entry (HasRoomFor (day_in self.old)) }
+        requires no_ask { ForSome entry IsNoAsk }
+        requires frame { NOTICE_ROOM ≤ frame.old.spare + length frame.old.payload }
+        ensures answer { IfOk result (λ a. a ≡ answer) }
+        ensures serves { Serves D.may_leave D.moment D.left_since (on_disk self.old disk.old) (on_disk self.new disk.new) entry result }
+        ensures ends { EndsNotice (D.faults disk.old) (D.faults disk.new) self.old.desk self.new.desk result }
+        ensures unmoved { entry ≡ None → on_disk self.new disk.new ≡ on_disk self.old disk.old }
+        ensures frame { NOTICE_ROOM ≤ frame.new.spare + length frame.new.payload }
+        ensures lasts { D.lasts disk.old disk.new }
+    {
+        match entry {
+            None => Ok(answer),
+            Some(entry) => {
+                put_notice(frame, &entry);
+                match self.append(disk, frame, entry) {
+                    Ok(()) => Ok(answer),
+                    Err(fault) => Err(fault),
+                }
+            }
+        }
+    }
+
+    /// Answers a notice of an award of an auction.
+    pub(crate) fn notice<D: Disk>(
+        &mut self,
+        disk: &mut D,
+        frame: &mut Frame,
+        kind: NoticeKind,
+        auction: &str,
+        award: u32,
+    ) -> Result<Answer, DeskFault>
+        requires { NOTICE_ROOM ≤ frame.old.spare + length frame.old.payload }
+        ensures answer { IfOk result (λ a. a ≡ (notice_reply self.old.desk.history kind auction.now award).answer) }
+        ensures serves { Serves D.may_leave D.moment D.left_since (on_disk self.old disk.old) (on_disk self.new disk.new) (notice_reply self.old.desk.history kind auction.now award).entry result }
+        ensures ends { EndsNotice (D.faults disk.old) (D.faults disk.new) self.old.desk self.new.desk result }
+        ensures unmoved { (notice_reply self.old.desk.history kind auction.now award).entry ≡ None → on_disk self.new disk.new ≡ on_disk self.old disk.old }
+        ensures frame { NOTICE_ROOM ≤ frame.new.spare + length frame.new.payload }
+        ensures lasts { D.lasts disk.old disk.new }
+    {
+        let (answer, entry) = self.day.plan_notice(kind, auction, award);
+        self.add_notice(disk, frame, answer, entry)
+    }
+
+    /// Answers a tick at a moment in seconds.
+    pub(crate) fn tick<D: Disk>(
+        &mut self,
+        disk: &mut D,
+        frame: &mut Frame,
+        now: u64,
+    ) -> Result<Answer, DeskFault>
+        requires moment { now < 2 ^ 63 }
+        requires frame { NOTICE_ROOM ≤ frame.old.spare + length frame.old.payload }
+        ensures answer { IfOk result (λ a. a ≡ (tick_reply self.old.desk.history now).answer) }
+        ensures serves { Serves D.may_leave D.moment D.left_since (on_disk self.old disk.old) (on_disk self.new disk.new) (tick_reply self.old.desk.history now).entry result }
+        ensures ends { EndsNotice (D.faults disk.old) (D.faults disk.new) self.old.desk self.new.desk result }
+        ensures unmoved { (tick_reply self.old.desk.history now).entry ≡ None → on_disk self.new disk.new ≡ on_disk self.old disk.old }
+        ensures frame { NOTICE_ROOM ≤ frame.new.spare + length frame.new.payload }
+        ensures lasts { D.lasts disk.old disk.new }
+    {
+        let (answer, entry) = self.day.plan_tick(now);
+        self.add_notice(disk, frame, answer, entry)
+    }
+
+    /// Takes all memory that a planned ask needs: for its bytes, for its entry and those that may come of it, and for a
+    /// copy of it.
+    fn make_room(
+        &mut self,
+        alloc: Global,
+        frame: &mut Frame,
+        entry: &Entry,
+    ) -> Result<Option<Ask>, OutOfMemory>
+        requires { MayFollow self.old.desk.terms.day self.old.desk.history entry.now }
+        ensures copy { IfOk result (λ copy. copy ≡ asked entry.entry.now) }
+        ensures payload { OnOk result (frame.new.payload ≡ entry_bytes entry.now) }
+        ensures fits { OnOk result (Fits entry.now) }
+        ensures room { OnOk result (HasRoomFor (day_in self.new) entry.now) }
+        ensures desk { self.new.desk ≡ self.old.desk }
+    {
+        let copy = copy_in(alloc, entry)?;
+        put_ask(frame, entry)?;
+        self.prepare(entry)?;
+        Ok(copy)
+    }
+
+    /// Adds an ask for which all memory was taken, and gives what is then answered.
+    fn append_as<D: Disk>(
+        &mut self,
+        disk: &mut D,
+        frame: &Frame,
+        done: Done,
+        entry: Entry,
+    ) -> Result<Done, DeskFault>
+        requires follows { MayFollow self.old.desk.terms.day self.old.desk.history entry }
+        requires room { HasRoomFor (day_in self.old) entry }
+        requires payload { frame.now.payload ≡ entry_bytes entry }
+        requires fits { Fits entry }
+        ensures answer { IfOk result (λ d. d.answer ≡ done.answer) }
+        ensures copy { IfOk result (λ d. d.ask ≡ done.ask) }
+        ensures serves { Serves D.may_leave D.moment D.left_since (on_disk self.old disk.old) (on_disk self.new disk.new) (Some entry) result }
+        ensures ends { EndsAsk (D.faults disk.old) (D.faults disk.new) self.old.desk self.new.desk (Some entry) result }
+        ensures refused { IfErr result (λ e. (e ≡ Fault.DiskFault → ⊥) → on_disk self.new disk.new ≡ on_disk self.old disk.old) }
+        ensures lasts { D.lasts disk.old disk.new }
+    {
+        match self.append(disk, frame, entry) {
+            Ok(()) => Ok(done),
+            Err(fault) => Err(fault),
+        }
+    }
+
+    /// Adds the planned ask of a reply: all memory first, then the journal, then the history.
+    fn add_ask<D: Disk>(
+        &mut self,
+        alloc: Global,
+        disk: &mut D,
+        frame: &mut Frame,
+        answer: Answer,
+        entry: Entry,
+    ) -> Result<Done, DeskFault>
+        requires { MayFollow self.old.desk.terms.day self.old.desk.history entry }
+        ensures answer { IfOk result (λ d. d.answer ≡ answer) }
+        ensures copy { IfOk result (λ d. d.ask ≡ asked entry) }
+        ensures serves { Serves D.may_leave D.moment D.left_since (on_disk self.old disk.old) (on_disk self.new disk.new) (Some entry) result }
+        ensures ends { EndsAsk (D.faults disk.old) (D.faults disk.new) self.old.desk self.new.desk (Some entry) result }
+        ensures refused { IfErr result (λ e. (e ≡ Fault.DiskFault → ⊥) → on_disk self.new disk.new ≡ on_disk self.old disk.old) }
+        ensures lasts { D.lasts disk.old disk.new }
+    {
+        match self.make_room(alloc, frame, &entry) {
+            Ok(ask) => self.append_as(disk, frame, Done { answer, ask }, entry),
+            Err(_) => Err(DeskFault::OutOfMemory),
+        }
+    }
+
+    /// Answers an ask.
+    pub(crate) fn ask<D: Disk>(
+        &mut self,
+        alloc: Global,
+        disk: &mut D,
+        frame: &mut Frame,
+        ask: Ask,
+    ) -> Result<Done, DeskFault>
+        requires formed { IsWellFormed (length self.old.desk.terms.day.budgets) ask }
+        requires undecided { IsUndecided ask }
+        ensures answer { IfOk result (λ d. d.answer ≡ (ask_reply self.old.desk.terms.day self.old.desk.history ask).answer) }
+        ensures copy { IfOk result (λ d. d.ask ≡ ask_for self.new.desk.history d.answer) }
+        ensures serves { Serves D.may_leave D.moment D.left_since (on_disk self.old disk.old) (on_disk self.new disk.new) (ask_reply self.old.desk.terms.day self.old.desk.history ask).entry result }
+        ensures ends { EndsAsk (D.faults disk.old) (D.faults disk.new) self.old.desk self.new.desk (ask_reply self.old.desk.terms.day self.old.desk.history ask).entry result }
+        ensures unmoved { (ask_reply self.old.desk.terms.day self.old.desk.history ask).entry ≡ None → on_disk self.new disk.new ≡ on_disk self.old disk.old }
+        ensures refused { IfErr result (λ e. (e ≡ Fault.DiskFault → ⊥) → on_disk self.new disk.new ≡ on_disk self.old disk.old) }
+        ensures lasts { D.lasts disk.old disk.new }
+    {
+        let (answer, entry) = self.day.plan_ask(ask);
+        match entry {
+            None => match copy_for(alloc, self.day.entries(), answer) {
+                Ok(ask) => Ok(Done { answer, ask }),
+                Err(_) => Err(DeskFault::OutOfMemory),
+            },
+            Some(entry) => self.add_ask(alloc, disk, frame, answer, entry),
+        }
+    }
+}

@@ -1,0 +1,26 @@
+//! The desk of an exchange: a serving day whose history a journal keeps on a disk.
+//!
+//! A contract sees a `Desk` as its terms, its history and its disk. Each call answers what the plain day answers after
+//! that history; an entry is in the journal before it is in the history, and a crash at any moment leaves a file that
+//! stands for the history, or for it and the record that was being written.
+//! Opening reads a file that stands for a history, or names the first fault in the order of its bytes.
+//! Stands on `deal_floor` (a roster), `day_machine`, `day_entries`, `day_journal`, `adx_io` and `sha2`.
+#![tactic(auto)]
+
+mod copying;
+mod desk;
+mod done;
+mod fault;
+mod framing;
+mod held;
+mod journaled_day;
+mod loading;
+mod opening;
+mod parts;
+mod record_reading;
+mod roster_day;
+
+pub use desk::Desk;
+pub use done::Done;
+pub use fault::DeskFault;
+pub use held::{EXPIRY_RECORD, NOTICE_RECORD, RECORD_OVERHEAD};

@@ -1,0 +1,138 @@
+//! How the day of a roster is opened on a disk.
+ghost use Rattle.std.specs.Prelude.{◌≡◌, ◌⊎◌, ◌<◌, ◌≤◌, ℕ, List, [], ◌∷◌, length, true, Some, IfOk, IfErr, OnOk};
+ghost use Rattle.adx_io.specs.Disks.{AsRead, LeavesOnly};
+ghost use Rattle.day_journal.specs.Openings.{StandsBehind};
+ghost use Rattle.day_journal.specs.Places.{StandsFor};
+ghost use Rattle.day_journal.specs.Tails.{Keeps};
+ghost use Rattle.day_rules.specs.DayState.{IsDay};
+ghost use Rattle.day_rules.specs.declared.entry.Entry.{Entry};
+ghost use Rattle.adx_desk.specs.Desks.{DeskKeeps};
+ghost use Rattle.adx_desk.specs.Histories.{IsHistoryOf, SameHistories};
+ghost use Rattle.adx_desk.specs.Loading.{HasOpened};
+ghost use Rattle.adx_desk.specs.Openings.{EndsByDisk, IsRefusal, RefusesDesk};
+ghost use Rattle.adx_desk.specs.Opened.{GivesUp, Opens};
+
+use crate::fault::DeskFault;
+use crate::journaled_day::JournaledDay;
+use crate::loading::load;
+use adx_io::{Disk, Frame};
+use day_journal::{Journal, Opening};
+use day_machine::Day;
+use std::alloc::Global;
+
+/// Makes the frame's payload the first one of a journal that has none.
+fn begin<D: Disk>(disk: &mut D, opening: Opening, first: &Frame) -> Result<Journal, DeskFault>
+    requires closed { opening.closed ≡ true }
+    requires some { 0 < length first.now.payload }
+    ensures kept { IfOk result (λ journal. (file : List ℕ) → D.reads disk.old ≡ Some file → StandsBehind file opening [] → AsRead (D.reads disk.old) (D.may_leave disk.old)
+        → (tail : List ℕ) → Keeps (D.may_leave disk.new) journal (first.now.payload ∷ []) tail) }
+    ensures any_moment { (file : List ℕ) → D.reads disk.old ≡ Some file → StandsBehind file opening [] → AsRead (D.reads disk.old) (D.may_leave disk.old)
+        → LeavesOnly D.moment D.left_since disk.old disk.new (λ c. StandsFor c [] ⊎ StandsFor c (first.now.payload ∷ [])) }
+    ensures refused { IfErr result (λ e. (file : List ℕ) → D.reads disk.old ≡ Some file → StandsBehind file opening [] → length first.now.payload ≤ 32 → IsRefusal e → ⊥) }
+    ensures ends { EndsByDisk (D.faults disk.old) (D.faults disk.new) result }
+    ensures lasts { D.lasts disk.old disk.new }
+{
+    let mut journal = opening.done(disk);
+    match journal.append(disk, first, 0) {
+        Ok(()) => Ok(journal),
+        Err(fault) => Err(DeskFault::from(fault)),
+    }
+}
+
+/// Reads the day's entries behind the digest, or begins a journal that has no payload with it.
+fn journal_of<D: Disk>(
+    alloc: Global,
+    disk: &mut D,
+    opening: Opening,
+    day: &mut Day,
+    digest: &[u8; 32],
+    first: &Frame,
+) -> Result<Journal, DeskFault>
+    requires legal { IsDay day.old.terms day.old.history }
+    requires empty { day.old.history ≡ [] }
+    requires first { first.now.payload ≡ digest.now }
+    ensures terms { day.new.terms ≡ day.old.terms }
+    ensures legal { OnOk result (IsDay day.new.terms day.new.history) }
+    ensures opened { IfOk result (λ journal. (file : List ℕ) → D.reads disk.old ≡ Some file → StandsBehind file opening [] → AsRead (D.reads disk.old) (D.may_leave disk.old)
+        → HasOpened digest.now file (D.reads disk.new) (D.may_leave disk.new) journal day.new.history) }
+    ensures any_moment { (file : List ℕ) → D.reads disk.old ≡ Some file → StandsBehind file opening [] → AsRead (D.reads disk.old) (D.may_leave disk.old)
+        → LeavesOnly D.moment D.left_since disk.old disk.new (SameHistories (record { day = day.old.terms; digest = digest.now }) file) }
+    ensures refused { IfErr result (λ e. (file : List ℕ) → D.reads disk.old ≡ Some file → StandsBehind file opening []
+        → RefusesDesk (record { day = day.old.terms; digest = digest.now }) file e) }
+    ensures untouched { IfErr result (λ e. (file : List ℕ) → D.reads disk.old ≡ Some file → StandsBehind file opening [] → IsRefusal e → D.reads disk.new ≡ Some file) }
+    ensures ends { EndsByDisk (D.faults disk.old) (D.faults disk.new) result }
+    ensures lasts { D.lasts disk.old disk.new }
+{
+    let mut opening = opening;
+    match load(alloc, disk, &mut opening, day, digest) {
+        Ok(true) => Ok(opening.done(disk)),
+        Ok(false) => match begin(disk, opening, first) {
+            Ok(journal) => Ok(journal),
+            Err(fault) => Err(fault),
+        },
+        Err(fault) => Err(fault),
+    }
+}
+
+/// The day of the history that the journal has, or of none.
+fn day_behind<D: Disk>(
+    alloc: Global,
+    disk: &mut D,
+    opening: Opening,
+    day: Day,
+    digest: &[u8; 32],
+    first: &Frame,
+) -> Result<JournaledDay, DeskFault>
+    requires legal { IsDay day.terms day.history }
+    requires empty { day.history ≡ [] }
+    requires first { first.now.payload ≡ digest.now }
+    ensures terms { IfOk result (λ d. d.desk.terms ≡ record { day = day.terms; digest = digest.now }) }
+    ensures faults { IfOk result (λ d. d.desk.faults ≡ 0) }
+    ensures history { IfOk result (λ d. (file : List ℕ) → D.reads disk.old ≡ Some file → StandsBehind file opening [] → AsRead (D.reads disk.old) (D.may_leave disk.old)
+        → IsHistoryOf (record { day = day.terms; digest = digest.now }) file d.desk.history) }
+    ensures keeps { IfOk result (λ d. (file : List ℕ) → D.reads disk.old ≡ Some file → StandsBehind file opening [] → AsRead (D.reads disk.old) (D.may_leave disk.old)
+        → (tail : List Entry) → DeskKeeps (D.may_leave disk.new) d.desk tail) }
+    ensures any_moment { (file : List ℕ) → D.reads disk.old ≡ Some file → StandsBehind file opening [] → AsRead (D.reads disk.old) (D.may_leave disk.old)
+        → LeavesOnly D.moment D.left_since disk.old disk.new (SameHistories (record { day = day.terms; digest = digest.now }) file) }
+    ensures refused { IfErr result (λ e. (file : List ℕ) → D.reads disk.old ≡ Some file → StandsBehind file opening [] → AsRead (D.reads disk.old) (D.may_leave disk.old)
+        → RefusesDesk (record { day = day.terms; digest = digest.now }) file e) }
+    ensures untouched { IfErr result (λ e. (file : List ℕ) → D.reads disk.old ≡ Some file → StandsBehind file opening [] → AsRead (D.reads disk.old) (D.may_leave disk.old)
+        → IsRefusal e → D.reads disk.new ≡ Some file) }
+    ensures ends { EndsByDisk (D.faults disk.old) (D.faults disk.new) result }
+    ensures lasts { D.lasts disk.old disk.new }
+{
+    let mut day = day;
+    match journal_of(alloc, disk, opening, &mut day, digest, first) {
+        Ok(journal) => match JournaledDay::of(day, *digest, journal) {
+            Ok(kept) => Ok(kept),
+            Err(fault) => Err(fault),
+        },
+        Err(fault) => Err(fault),
+    }
+}
+
+/// Opens the day of a roster with this digest, which the frame has: by the journal of a disk, or by one that it
+/// begins.
+pub(crate) fn open_on<D: Disk>(
+    alloc: Global,
+    disk: &mut D,
+    day: Day,
+    digest: &[u8; 32],
+    first: &Frame,
+) -> Result<JournaledDay, DeskFault>
+    requires legal { IsDay day.terms day.history }
+    requires empty { day.history ≡ [] }
+    requires first { first.now.payload ≡ digest.now }
+    ensures opens { IfOk result (λ d. Opens D.reads D.may_leave D.moment D.left_since (record { day = day.terms; digest = digest.now }) disk.old disk.new d.desk) }
+    ensures gives_up { IfErr result (GivesUp D.reads D.may_leave D.moment D.left_since (record { day = day.terms; digest = digest.now }) disk.old disk.new) }
+    ensures ends { EndsByDisk (D.faults disk.old) (D.faults disk.new) result }
+    ensures lasts { D.lasts disk.old disk.new }
+{
+    match Journal::open(alloc, disk) {
+        Ok(opening) => match day_behind(alloc, disk, opening, day, digest, first) {
+            Ok(kept) => Ok(kept),
+            Err(fault) => Err(fault),
+        },
+        Err(fault) => Err(DeskFault::from(fault)),
+    }
+}
