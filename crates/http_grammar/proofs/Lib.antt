@@ -3,3 +3,5 @@ pub mod Digits
 pub mod Cuts
 pub mod Hosts
 pub mod Forms
+mod Marks
+pub mod FirstRequests

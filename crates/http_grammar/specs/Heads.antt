@@ -1,15 +1,10 @@
--- What a head that stands alone in its bytes is read as: this head, whose parts the spans cover, or no head with so
+-- What a response's head that stands alone in its bytes is read as: this head, whose parts the spans cover, or no head with so
 -- few fields.
 use Rattle.std.specs.Prelude.{ℕ, ◌≤◌, List, [], length, map, All, Option, Some, None}
-use Rattle.httparse.specs.Grammar.{RequestHead, ReadsRequest, ResponseHead, ReadsResponse}
-use Rattle.httparse.specs.Spans.{IsRequestAt, IsResponseAt, IsHeaderWithin, header_bytes}
+use Rattle.httparse.specs.Grammar.{ResponseHead, ReadsResponse}
+use Rattle.httparse.specs.Spans.{IsResponseAt, IsHeaderWithin, header_bytes}
 use Rattle.httparse.specs.declared.spans.HeaderSpan.{HeaderSpan}
-use Rattle.httparse.specs.declared.spans.RequestSpans.{RequestSpans}
 use Rattle.httparse.specs.declared.spans.ResponseSpans.{ResponseSpans}
-
-abbrev pub ReadsRequestAlone : ℕ → List ℕ → List HeaderSpan → Option RequestSpans → Type 0
-ReadsRequestAlone room head spans None = (h : RequestHead) → ReadsRequest head h [] → length h.fields ≤ room → ⊥
-ReadsRequestAlone room head spans (Some r) = (h : RequestHead) × ReadsRequest head h [] × IsRequestAt head spans r h
 
 abbrev pub ReadsResponseAlone : ℕ → List ℕ → List HeaderSpan → Option ResponseSpans → Type 0
 ReadsResponseAlone room head spans None = (h : ResponseHead) → ReadsResponse head h [] → length h.fields ≤ room → ⊥

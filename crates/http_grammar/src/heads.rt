@@ -1,22 +1,10 @@
-//! Heads as the spans of their parts: a whole slice is a head of the grammar, or none.
+//! A response's head as the spans of its parts: a whole slice is a head of the grammar, or none.
 ghost use Rattle.std.specs.Prelude.{length, IfSome};
-ghost use Rattle.httparse.specs.Spans.{IsRequestWithin, IsResponseWithin};
-ghost use Rattle.http_grammar.specs.Heads.{ReadsRequestAlone, ReadsResponseAlone};
+ghost use Rattle.httparse.specs.Spans.{IsResponseWithin};
+ghost use Rattle.http_grammar.specs.Heads.{ReadsResponseAlone};
 
 use httparse::Status;
-use httparse::spans::{HeaderSpan, RequestSpans, ResponseSpans, parse_request, parse_response};
-
-/// The parts of a request's head that the bytes are; None where they are no head of the grammar
-/// with so many fields as there are spans.
-pub(crate) fn request_head(head: &[u8], spans: &mut [HeaderSpan]) -> Option<RequestSpans>
-    ensures reads { ReadsRequestAlone (length spans.old) head.now spans.new result }
-    ensures within { IfSome result (IsRequestWithin head.now spans.new) }
-{
-    match parse_request(head, spans) {
-        Ok(Status::Complete(found)) if found.len == head.len() => Some(found),
-        _ => None,
-    }
-}
+use httparse::spans::{HeaderSpan, ResponseSpans, parse_response};
 
 /// The parts of a response's head that the bytes are; None where they are no head of the grammar
 /// with so many fields as there are spans.

@@ -1,5 +1,5 @@
 //! The values of a Host field.
-ghost use Rattle.std.specs.Prelude.{◌≡◌, ◌⊎◌, ◌↔◌, ◌<◌, ◌+◌, ℕ, List, [], ◌∷◌, ◌++◌, ◌≤◌, ◌≢◌, All, length, take, drop, IsTrue, MatchBool};
+ghost use Rattle.std.specs.Prelude.{◌≡◌, slice_index, ◌⊎◌, ◌↔◌, ◌<◌, ◌+◌, ℕ, List, [], ◌∷◌, ◌++◌, ◌≤◌, ◌≢◌, All, length, take, drop, IsTrue, MatchBool};
 ghost use Rattle.std.specs.Char.{is_ascii_digit};
 ghost use Rattle.httparse.specs.Ascii.{colon};
 ghost use Rattle.httparse.specs.Grammar.{AllPass};
@@ -8,11 +8,60 @@ ghost use Rattle.http_grammar.specs.Fields.{is_mark, IsHostByte, IsHostName, IsA
 use crate::lengths::are_digits;
 use memchr::memchr;
 
+/// Which bytes are letters, digits or marks.
+#[rattlefmt::skip]
+static MARKS: [bool; 256] = [
+    false, false, false, false, false, false, false, false,
+    false, false, false, false, false, false, false, false,
+    false, false, false, false, false, false, false, false,
+    false, false, false, false, false, false, false, false,
+    false, true, false, false, true, false, true, true,
+    true, true, true, true, true, true, true, false,
+    true, true, true, true, true, true, true, true,
+    true, true, false, true, false, true, false, false,
+    false, true, true, true, true, true, true, true,
+    true, true, true, true, true, true, true, true,
+    true, true, true, true, true, true, true, true,
+    true, true, true, false, false, false, false, true,
+    false, true, true, true, true, true, true, true,
+    true, true, true, true, true, true, true, true,
+    true, true, true, true, true, true, true, true,
+    true, true, true, false, false, false, true, false,
+    false, false, false, false, false, false, false, false,
+    false, false, false, false, false, false, false, false,
+    false, false, false, false, false, false, false, false,
+    false, false, false, false, false, false, false, false,
+    false, false, false, false, false, false, false, false,
+    false, false, false, false, false, false, false, false,
+    false, false, false, false, false, false, false, false,
+    false, false, false, false, false, false, false, false,
+    false, false, false, false, false, false, false, false,
+    false, false, false, false, false, false, false, false,
+    false, false, false, false, false, false, false, false,
+    false, false, false, false, false, false, false, false,
+    false, false, false, false, false, false, false, false,
+    false, false, false, false, false, false, false, false,
+    false, false, false, false, false, false, false, false,
+    false, false, false, false, false, false, false, false,
+];
+
 /// Whether the byte is a letter, a digit or a mark.
 fn is_name_byte(b: u8) -> bool
     ensures { result ≡ is_mark b }
 {
-    b.is_ascii_alphanumeric() || b"-._~!$&'()*+,;=".contains(&b)
+    MARKS[b as usize]
+}
+
+/// How many letters, digits and marks stand in front.
+fn marks_in(value: &[u8]) -> usize
+    ensures within { result ≤ length value.now }
+    ensures marks { (k : ℕ) → k < result → IsTrue (is_mark (slice_index value.now k)) }
+{
+    let mut end = 0;
+    while end < value.len() && is_name_byte(value[end]) {
+        end += 1;
+    }
+    end
 }
 
 /// Whether a character of a host's name stands at this place.
@@ -78,12 +127,24 @@ fn place_of(bytes: &[u8], stop: u8) -> usize
     }
 }
 
-/// Whether the bytes are a name and then nothing or a port.
-fn is_name_and_port(value: &[u8]) -> bool
+/// Whether the bytes are a name, which may have escapes, and then nothing or a port.
+fn is_escaped_name_and_port(value: &[u8]) -> bool
     ensures { IsTrue result ↔ ((name port : List ℕ) × IsHostName name × IsPort port × (value.now ≡ name ++ port)) }
 {
     let (name, port) = value.split_at(place_of(value, b':'));
     is_host_name(name) && is_port(port)
+}
+
+/// Whether the bytes are a name and then nothing or a port. Most names have no escape: they are
+/// walked once.
+fn is_name_and_port(value: &[u8]) -> bool
+    ensures { IsTrue result ↔ ((name port : List ℕ) × IsHostName name × IsPort port × (value.now ≡ name ++ port)) }
+{
+    let (_, port) = value.split_at(marks_in(value));
+    if is_port(port) {
+        return true;
+    }
+    is_escaped_name_and_port(value)
 }
 
 /// Whether the bytes behind a left bracket are an address, a right one, and then nothing or a port.

@@ -22,5 +22,7 @@ mod words;
 pub use fault::HttpFault;
 pub use framing::Framing;
 pub use host::is_host_value;
-pub use parts::{RequestParts, ResponseParts, request_parts, response_parts};
+pub use parts::{
+    FirstRequest, RequestParts, ResponseParts, first_request, request_parts, response_parts,
+};
 pub use verb::Verb;

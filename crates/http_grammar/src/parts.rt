@@ -1,14 +1,19 @@
 //! What the head of a request or a response says to its reader.
-ghost use Rattle.std.specs.Prelude.{◌≡◌, ◌≤◌, length, MatchResult, IfOk};
-ghost use Rattle.http_grammar.specs.Requests.{SaysRequest, RefusesRequest, SaysResponse, RefusesResponse};
+ghost use Rattle.std.specs.Prelude.{◌≡◌, ◌≤◌, ◌==◌, ◌&&◌, not, length, MatchOption, MatchResult, IfOk, IfSome};
+ghost use Rattle.httparse.specs.Grammar.{RequestHead};
+ghost use Rattle.httparse.specs.Spans.{IsRequestWithin, IsRequestAt};
+ghost use Rattle.http_grammar.specs.Fields.{says_close};
+ghost use Rattle.http_grammar.specs.Heads.{pairs_at, AreWithin};
+ghost use Rattle.http_grammar.specs.Requests.{Judges, BeginsWithRequest, BeginsWithNoRequest, SaysRequest, RefusesRequest, SaysResponse, RefusesResponse};
 
 use crate::fault::HttpFault;
 use crate::fields::has_close;
 use crate::framing::Framing;
-use crate::heads::{request_head, response_head};
+use crate::heads::response_head;
 use crate::judge::{request_framing, response_framing};
 use crate::verb::{Verb, verb_of};
-use httparse::spans::{HeaderSpan, Span};
+use httparse::Status;
+use httparse::spans::{HeaderSpan, RequestSpans, Span, parse_request};
 
 /// What the head of a request says.
 #[derive(Clone, Copy, Debug, PartialEq, Eq)]
@@ -33,6 +38,64 @@ pub struct ResponseParts {
     pub framing: Option<Framing>,
 }
 
+/// The request's head that bytes begin with.
+#[derive(Clone, Copy, Debug, PartialEq, Eq)]
+pub struct FirstRequest {
+    /// Its length in bytes.
+    pub len: usize,
+    /// What it says, or the first test that it fails.
+    pub parts: Result<RequestParts, HttpFault>,
+}
+
+/// Whether a connection stays behind a request.
+fn stays(minor: u8, bytes: &[u8], fields: &[HeaderSpan]) -> bool
+    requires { AreWithin bytes.now fields.now }
+    ensures { result ≡ ((minor == 1) && not (says_close (pairs_at bytes.now fields.now))) }
+{
+    minor == 1 && !has_close(bytes, fields)
+}
+
+/// What a head says whose parts stand there in the bytes.
+fn parts_at(
+    found: RequestSpans,
+    bytes: &[u8],
+    spans: &[HeaderSpan],
+    limit: u32,
+) -> Result<RequestParts, HttpFault>
+    requires { IsRequestWithin bytes.now spans.now found }
+    ensures judges { (h : RequestHead) → IsRequestAt bytes.now spans.now found h → Judges limit bytes.now h result }
+    ensures target { IfOk result (λ p. p.target ≡ found.path) }
+{
+    let fields = &spans[..found.headers];
+    let method = found.method.of(bytes);
+    let is_post = method == b"POST".as_slice();
+    match request_framing(found.version, is_post, bytes, fields, limit) {
+        Ok(framing) => Ok(RequestParts {
+            verb: verb_of(method),
+            target: found.path,
+            keep: stays(found.version, bytes, fields),
+            framing,
+        }),
+        Err(fault) => Err(fault),
+    }
+}
+
+/// The request's head that the bytes begin with, for bodies of at most `limit` bytes; None where
+/// they begin with no head of the grammar that has at most as many fields as there are `spans`.
+pub fn first_request(bytes: &[u8], spans: &mut [HeaderSpan], limit: u32) -> Option<FirstRequest>
+    ensures exact { MatchOption result (BeginsWithNoRequest (length spans.old) bytes.now) (BeginsWithRequest (length spans.old) limit bytes.now) }
+    ensures within { IfSome result (λ f. f.len ≤ length bytes.now) }
+    ensures target { IfSome result (λ f. IfOk f.parts (λ p. (p.target.start ≤ p.target.end) × (p.target.end ≤ f.len))) }
+{
+    match parse_request(bytes, spans) {
+        Ok(Status::Complete(found)) => Some(FirstRequest {
+            len: found.len,
+            parts: parts_at(found, bytes, spans, limit),
+        }),
+        _ => None,
+    }
+}
+
 /// What the bytes say as the head of a request whose body is at most `limit` bytes. The bytes are
 /// the whole head with its empty line, and at most as many fields are read as there are `spans`.
 pub fn request_parts(
@@ -43,20 +106,15 @@ pub fn request_parts(
     ensures exact { MatchResult result (SaysRequest limit head.now) (RefusesRequest (length spans.old) limit head.now) }
     ensures within { IfOk result (λ p. (p.target.start ≤ p.target.end) × (p.target.end ≤ length head.now)) }
 {
-    let Some(found) = request_head(head, spans) else {
-        return Err(HttpFault::BadHead);
-    };
-    let fields = &spans[..found.headers];
-    let method = found.method.of(head);
-    let is_post = method == b"POST".as_slice();
-    match request_framing(found.version, is_post, head, fields, limit) {
-        Ok(framing) => Ok(RequestParts {
-            verb: verb_of(method),
-            target: found.path,
-            keep: found.version == 1 && !has_close(head, fields),
-            framing,
-        }),
-        Err(fault) => Err(fault),
+    match first_request(head, spans, limit) {
+        Some(first) => {
+            if first.len == head.len() {
+                first.parts
+            } else {
+                Err(HttpFault::BadHead)
+            }
+        }
+        None => Err(HttpFault::BadHead),
     }
 }
 
