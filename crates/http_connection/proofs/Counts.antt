@@ -95,7 +95,7 @@ skip_before [] rest all = refl
 skip_before (x ∷ before) rest all =
     ap skip (append_assoc (ended x) (flat_map ended before) rest) ∙ skip_empty x (flat_map ended before ++ rest) (All-head IsEmpty x before all) ∙ skip_before before rest (All-tail IsEmpty x before all)
 
-flat_both : (a b : List (List ℕ)) → flat_map ended (a ++ b) ≡ flat_map ended a ++ flat_map ended b
+pub flat_both : (a b : List (List ℕ)) → flat_map ended (a ++ b) ≡ flat_map ended a ++ flat_map ended b
 flat_both [] b = refl
 flat_both (x ∷ a) b = ap (λ l. ended x ++ l) (flat_both a b) ∙ sym (append_assoc (ended x) (flat_map ended a) (flat_map ended b))
 

@@ -9,3 +9,5 @@ pub mod OneFraming
 pub mod OneAnswer
 pub mod Fronts
 pub mod Readies
+pub mod Printed
+pub mod First

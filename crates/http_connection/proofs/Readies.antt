@@ -59,13 +59,13 @@ body_decides limit bytes end lines parts true h few says b =
         begins = h.begins;
         few = l;
         reads = says.reads;
-        sound = says.sound;
+        sound = says.has.sound;
         body = b.2;
       },
     ) in
     ((λ e. has), (λ x. refl))
 body_decides limit bytes end lines parts false h few says b =
-    lacks limit bytes (refused limit bytes b.0 (inr (take end bytes, drop end bytes, h.begins, inr (inr (inr (few_lines bytes end lines h few, says.h, says.reads, parts.framing, says.sound, b.1))))))
+    lacks limit bytes (refused limit bytes b.0 (inr (take end bytes, drop end bytes, h.begins, inr (inr (inr (few_lines bytes end lines h few, says.h, says.reads, parts.framing, says.has.sound, b.1))))))
 
 -- behind a fault nothing is ready
 pub not_ready : (s : ConnState) → s.failed ≡ true → Decides false (IsReady s)

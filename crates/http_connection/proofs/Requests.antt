@@ -47,14 +47,14 @@ request_found limit end start kept now old new parts f none h is body verb targe
               begins = begins p o.left end has;
               few = few_lines p o.left end has;
               reads = says.reads;
-              sound = says.sound;
+              sound = says.has.sound;
               body = subst (λ (s : BufferState). IsBodyThen limit (body_of_request parts.framing) (coming s o) body.0 (coming now n)) is b;
             },
             record {
-              verb = verb ∙ says.verb;
-              target = ap (λ e. span_bytes (take e now.kept) f.target) head ∙ ap (λ l. span_bytes l f.target) shape.0 ∙ ap (span_bytes (take end p)) target ∙ says.target;
+              verb = verb ∙ says.has.verb;
+              target = ap (λ e. span_bytes (take e now.kept) f.target) head ∙ ap (λ l. span_bytes l f.target) shape.0 ∙ ap (span_bytes (take end p)) target ∙ says.has.target;
               body = ap (λ e. drop e now.kept) head ∙ shape.1;
-              keep = keep ∙ says.keep;
+              keep = keep ∙ says.has.keep;
             },
           ))
           body.2,
@@ -105,7 +105,7 @@ body_fault limit end start kept old new fault parts h is w =
       take end p,
       drop end p ++ o.left,
       begins p o.left end h.has,
-      inr (inr (inr (few_lines p o.left end h.has, says.h, says.reads, parts.framing, says.sound, subst (λ (s : BufferState). FailsBody limit (body_of_request parts.framing) (coming s o) fault) is f))),
+      inr (inr (inr (few_lines p o.left end h.has, says.h, says.reads, parts.framing, says.has.sound, subst (λ (s : BufferState). FailsBody limit (body_of_request parts.framing) (coming s o) fault) is f))),
     ))
     w
 

@@ -4,22 +4,23 @@ ghost use Rattle.std.specs.Borrow.{sem};
 ghost use Rattle.std.specs.Io.BufRead.{Rests};
 ghost use Rattle.http_bodies.specs.Steps.{Advances, ReadsBy};
 ghost use Rattle.http_grammar.specs.declared.fault.HttpFault.{HttpFault};
-ghost use Rattle.http_connection.specs.Found.{HeadGives, HasHead, HasRequestHead, IsWithin, RequestGives, ResponseGives};
+ghost use Rattle.http_connection.specs.Found.{HeadGives, HasHead, IsWithin, ResponseGives};
 ghost use Rattle.http_buffer.specs.State.{Takes, IsAtEnd};
 ghost use Rattle.httparse.specs.Spans.{span_bytes};
 
 use crate::ready::has_request;
+use crate::request::advance;
 use adx_io::Source;
 use adx_units::OutOfMemory;
-use http_bodies::{LINE_COUNT_LIMIT, body_of_request, body_of_response, read_body};
+use http_bodies::{LINE_COUNT_LIMIT, body_of_response, read_body};
 use http_buffer::{Buffer, HEAD_LIMIT, HeadEnd, head_end};
-use http_grammar::{HttpFault, RequestParts, Verb, request_parts, response_parts};
+use http_grammar::{HttpFault, Verb, response_parts};
 use httparse::spans::{EMPTY_HEADER_SPAN, HeaderSpan, Span};
 use std::alloc::Global;
 use std::marker::Model;
 
 /// How many bytes are asked of a source beyond the longest message.
-const PIECE: usize = 65_536;
+pub(crate) const PIECE: usize = 65_536;
 
 /// A request that was read.
 #[derive(Clone, Copy, Debug)]
@@ -64,12 +65,12 @@ pub enum ConnEnd {
 
 /// What of a message in progress stands where.
 #[derive(Clone, Copy)]
-struct Found {
-    verb: Verb,
-    target: Span,
-    keep: bool,
+pub(crate) struct Found {
+    pub verb: Verb,
+    pub target: Span,
+    pub keep: bool,
     /// The length of its head.
-    head: usize,
+    pub head: usize,
 }
 
 /// A connection.
@@ -207,7 +208,10 @@ fn lend(buffer: &Buffer, found: Found) -> Message<'_>
 }
 
 /// Takes a head, and says how long it is; None where no byte comes.
-fn read_head<S: Source>(buffer: &mut Buffer, source: &mut S) -> Result<Option<usize>, HttpFault>
+pub(crate) fn read_head<S: Source>(
+    buffer: &mut Buffer,
+    source: &mut S,
+) -> Result<Option<usize>, HttpFault>
     requires { length buffer.old.kept + HEAD_LIMIT ≤ buffer.old.room }
     ensures takes { Takes buffer.old buffer.new (S.tape source.old) (S.tape source.new) }
     ensures gives { HeadGives buffer.new.pending result }
@@ -237,89 +241,12 @@ fn read_head<S: Source>(buffer: &mut Buffer, source: &mut S) -> Result<Option<us
 }
 
 /// The first bytes.
-fn front(bytes: &[u8], end: usize) -> &[u8]
+pub(crate) fn front(bytes: &[u8], end: usize) -> &[u8]
     requires { end ≤ length bytes.now }
     ensures { result.now ≡ take end bytes.now }
 {
     let (front, _) = bytes.split_at(end);
     front
-}
-
-/// Joins the body to the request's head that the pending bytes begin with.
-fn request_behind<S: Source>(
-    buffer: &mut Buffer,
-    source: &mut S,
-    head: usize,
-    parts: RequestParts,
-    limit: u32,
-) -> Result<Option<Found>, HttpFault>
-    requires room { buffer.old.room ≡ 2 * HEAD_LIMIT + limit + PIECE }
-    requires alone { buffer.old.kept ≡ [] }
-    requires head { HasRequestHead limit buffer.old.pending head parts }
-    requires target { (parts.target.start ≤ parts.target.end) × (parts.target.end ≤ head) }
-    ensures gives { RequestGives limit buffer.old buffer.new (S.tape source.old) (S.tape source.new) result }
-    ensures room { buffer.new.room ≡ buffer.old.room }
-    ensures advances { Advances (S.tape source.old) (S.tape source.new) }
-    ensures cause { ReadsBy (S.faults source.old) (S.faults source.new) result }
-    ensures same { S.place source.new ≡ S.place source.old }
-{
-    buffer.keep(head);
-    match read_body(buffer, source, body_of_request(parts.framing), limit) {
-        Ok(_) => Ok(Some(Found {
-            verb: parts.verb,
-            target: parts.target,
-            keep: parts.keep,
-            head,
-        })),
-        Err(wrong) => Err(wrong),
-    }
-}
-
-/// Reads the request whose head ends there.
-fn request_at<S: Source>(
-    buffer: &mut Buffer,
-    spans: &mut [HeaderSpan],
-    source: &mut S,
-    head: usize,
-    limit: u32,
-) -> Result<Option<Found>, HttpFault>
-    requires room { buffer.old.room ≡ 2 * HEAD_LIMIT + limit + PIECE }
-    requires spans { length spans.old ≡ LINE_COUNT_LIMIT }
-    requires alone { buffer.old.kept ≡ [] }
-    requires head { HasHead buffer.old.pending head }
-    ensures gives { RequestGives limit buffer.old buffer.new (S.tape source.old) (S.tape source.new) result }
-    ensures room { buffer.new.room ≡ buffer.old.room }
-    ensures advances { Advances (S.tape source.old) (S.tape source.new) }
-    ensures cause { ReadsBy (S.faults source.old) (S.faults source.new) result }
-    ensures same { S.place source.new ≡ S.place source.old }
-{
-    match request_parts(front(buffer.pending(), head), spans, limit) {
-        Ok(parts) => request_behind(buffer, source, head, parts, limit),
-        Err(refusal) => Err(refusal),
-    }
-}
-
-/// Reads a request.
-fn advance<S: Source>(
-    buffer: &mut Buffer,
-    spans: &mut [HeaderSpan],
-    source: &mut S,
-    limit: u32,
-) -> Result<Option<Found>, HttpFault>
-    requires room { buffer.old.room ≡ 2 * HEAD_LIMIT + limit + PIECE }
-    requires spans { length spans.old ≡ LINE_COUNT_LIMIT }
-    requires alone { buffer.old.kept ≡ [] }
-    ensures gives { RequestGives limit buffer.old buffer.new (S.tape source.old) (S.tape source.new) result }
-    ensures room { buffer.new.room ≡ buffer.old.room }
-    ensures advances { Advances (S.tape source.old) (S.tape source.new) }
-    ensures cause { ReadsBy (S.faults source.old) (S.faults source.new) result }
-    ensures same { S.place source.new ≡ S.place source.old }
-{
-    match read_head(buffer, source) {
-        Ok(Some(head)) => request_at(buffer, spans, source, head, limit),
-        Ok(None) => Ok(None),
-        Err(fault) => Err(fault),
-    }
 }
 
 /// Reads the response whose head ends there, and says its status and how long its head is.

@@ -9,6 +9,7 @@
 mod conn;
 mod laws;
 mod ready;
+mod request;
 #[cfg(test)]
 mod tests;
 

@@ -1,7 +1,7 @@
 -- The head is refused, or its body decides.
 use Rattle.std.proofs.Common.{ℕ, List, drop, MatchBool, subst}
 use Rattle.http_grammar.specs.Requests as grammar
-use Rattle.http_bodies.specs.BodyForms.{body_of_request, HasBody, LacksBody}
+use Rattle.http_bodies.specs.BodyForms.{HasBody, LacksBody}
 use Rattle.http_bodies.specs.declared.chunks.TheConstants.{LINE_COUNT_LIMIT}
 use Rattle.http_connection.proofs.Readies.{lacks, bad_head, body_decides}
 use Rattle.http_connection.proofs.ready.has_request_at.Goals as goal

@@ -1,5 +1,5 @@
 -- Behind a fault nothing is ready, and else what is held decides.
-use Rattle.std.proofs.Common.{true, false, sym, ap, ◌∙◌}
+use Rattle.std.proofs.Common.{sym, ap, ◌∙◌}
 use Rattle.http_connection.specs.State.{ConnState}
 use Rattle.http_connection.proofs.Readies.{not_ready, held_ready}
 use Rattle.http_connection.proofs.conn.Conn.ready.Goals as goal

@@ -4,14 +4,14 @@ use Rattle.http_grammar.specs.Judged.{IsSoundRequest}
 use Rattle.http_bodies.specs.Steps.{BodyGives, FitsBody}
 use Rattle.http_connection.proofs.Heads.{body_room}
 use Rattle.http_connection.proofs.Requests.{request_fits, request_found, body_refused}
-use Rattle.http_connection.proofs.conn.request_behind.Goals as goal
+use Rattle.http_connection.proofs.request.request_behind.Goals as goal
 
 pub read_body-requires-clause-room : goal.read_body-requires-clause-room
 read_body-requires-clause-room g c = body_room c.args.buffer.now c.keep.new.self c.args.head c.args.limit c.requires.alone c.requires.head.has c.keep.ensures c.requires.room
 
 pub read_body-requires-clause-fits : goal.read_body-requires-clause-fits
 read_body-requires-clause-fits g c =
-    subst (FitsBody c.args.limit) (sym c.body_of_request.ensures) (request_fits c.args.limit c.args.parts.framing (IsSoundRequest.fits c.requires.head.says.sound))
+    subst (FitsBody c.args.limit) (sym c.body_of_request.ensures) (request_fits c.args.limit c.args.parts.framing (IsSoundRequest.fits c.requires.head.says.has.sound))
 
 pub returns-in-Ok-clause-gives : goal.returns-in-Ok-clause-gives
 returns-in-Ok-clause-gives g c =

@@ -3,7 +3,7 @@ use Rattle.std.proofs.Common.{ℕ, List, length, take, ap, subst, ◌∙◌}
 use Rattle.http_grammar.specs.Requests as grammar
 use Rattle.http_connection.proofs.Heads.{within_head}
 use Rattle.http_connection.proofs.Requests.{head_refused}
-use Rattle.http_connection.proofs.conn.request_at.Goals as goal
+use Rattle.http_connection.proofs.request.request_at.Goals as goal
 
 pub request_behind-requires-clause-head : goal.request_behind-requires-clause-head
 request_behind-requires-clause-head g c = record {

@@ -2,7 +2,7 @@
 use Rattle.std.proofs.Common.{ap, Err}
 use Rattle.http_bodies.proofs.Told.{advances, advances_both}
 use Rattle.http_connection.proofs.Requests.{request_carried, no_head}
-use Rattle.http_connection.proofs.conn.advance.Goals as goal
+use Rattle.http_connection.proofs.request.advance_by_lines.Goals as goal
 
 pub returns-in-Ok-Some-clause-gives : goal.returns-in-Ok-Some-clause-gives
 returns-in-Ok-Some-clause-gives g c = request_carried c.args.limit c.args.buffer.now c.read_head.new.buffer c.request_at.new.buffer _ _ _ c.request_at.result c.in-Ok-Some.ensures.takes c.request_at.ensures.gives
