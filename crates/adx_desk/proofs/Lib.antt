@@ -13,3 +13,5 @@ pub mod OpenedDays
 pub mod OpenedOn
 pub mod Beginnings
 pub mod Rosters
+pub mod OneSpelling
+pub mod OneHistory

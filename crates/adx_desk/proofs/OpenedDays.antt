@@ -135,7 +135,7 @@ no_refusal terms file (DeskFault.NotAJournal at) deny = absurd (deny tt)
 no_refusal terms file (DeskFault.BadLength at) deny = absurd (deny tt)
 no_refusal terms file DeskFault.OutOfMemory deny = tt
 
-some_payload : (file p : List ℕ) (ps : List (List ℕ)) (rest : List ℕ) → length file ≤ 10 → file ≡ opened (p ∷ ps) ++ rest → ⊥
+pub some_payload : (file p : List ℕ) (ps : List (List ℕ)) (rest : List ℕ) → length file ≤ 10 → file ≡ opened (p ∷ ps) ++ rest → ⊥
 some_payload file p ps rest few split = omega (arith, few, ap length split, length-append (opened (p ∷ ps)) rest, length-append (open_place p) (flat_map open_place ps))
 
 -- a new journal isn't refused

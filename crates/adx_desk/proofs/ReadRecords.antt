@@ -79,7 +79,7 @@ record_refused terms file now rest history payload (DeskFault.BadEntry at) recor
       earlier = history;
       records = records;
       payload = payload;
-      is_payload = is_payload;
+      each = behind.each;
       rest = drop now.window.at file;
       split = behind.split;
       front = deny.front;

@@ -36,7 +36,7 @@ pub record HasBadEntry (terms : DeskTerms) (file : List ℕ) (at : ℕ) : Type 0
   pub earlier : List Entry
   pub records : AreRecords payloads earlier
   pub payload : List ℕ
-  pub is_payload : IsPayload payload
+  pub each : All IsPayload (terms.digest ∷ payloads ++ payload ∷ [])
   pub rest : List ℕ
   pub split : file ≡ opened (terms.digest ∷ payloads ++ payload ∷ []) ++ rest
   pub front : List Entry

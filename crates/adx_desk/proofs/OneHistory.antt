@@ -1,0 +1,95 @@
+-- A file stands for one history, and for none where it is refused.
+use Rattle.std.proofs.Common.{◌≡◌, ◌≢◌, ◌⊎◌, inl, inr, ℕ, ◌+◌, ◌<◌, ◌≤◌, List, [], ◌∷◌, ◌++◌, map, length, drop, get_or, All, refl, sym, ◌∙◌, ap, subst, arith, append_assoc, length-append}
+use Rattle.std.specs.List.{flat_map}
+use Rattle.std.proofs.lemmas.Grind.{flat_map-append}
+use Rattle.std.proofs.lemmas.List.Elements.{All-cons, All-head, All-nil, All-tail}
+use Rattle.adx_io.specs.Frames.{body}
+use Rattle.day_journal.specs.Faults.{greatest_size}
+use Rattle.day_journal.specs.Places.{HasBadLength, IsClosed, IsPayload, StandsFor, open_place, opened}
+use Rattle.day_journal.proofs.Apart.{stands_or_bad, stands_or_no_head}
+use Rattle.day_journal.proofs.Once.{same_payload, short, stands_once}
+use Rattle.day_entries.specs.Spelling.{Fits}
+use Rattle.day_rules.specs.declared.entry.Entry.{Entry}
+use Rattle.adx_desk.specs.declared.fault.DeskFault.{DeskFault}
+use Rattle.adx_desk.specs.Held.{held}
+use Rattle.adx_desk.specs.Histories.{AreRecords, DeskTerms, IsHistoryOf, IsRecord, Spells, entries_bytes}
+use Rattle.adx_desk.specs.Openings.{HasBadEntry, HasNoRoom, HasOtherRoster, IsRefusal, RefusesDesk}
+use Rattle.adx_desk.proofs.OneSpelling.{NextIn, RecordAt, next_in, record_at, same_records}
+use Rattle.adx_desk.proofs.OpenedDays.{none_spelled, some_payload}
+
+-- payloads spell one history
+spells_once : (digest : List ℕ) (ps qs : List (List ℕ)) (a b : List Entry) → ps ≡ qs → Spells digest ps a → Spells digest qs b → a ≡ b
+spells_once digest ps qs a b same (inl p) q = p.1 ∙ sym (none_spelled digest qs b (sym same ∙ p.0) q)
+spells_once digest ps qs a b same (inr p) (inl q) = absurd (cc (same, p.1, q.0))
+spells_once digest ps qs a b same (inr p) (inr q) =
+    let rests : p.0 ≡ q.0 = ap (drop 1) (sym p.1 ∙ (same ∙ q.1)) in
+    let records = same_records p.2.records q.2.records p.2.each q.2.each (sym p.2.spelled ∙ (rests ∙ q.2.spelled)) in
+    p.2.entries ∙ (ap (flat_map (λ (es : List Entry). es)) records ∙ sym q.2.entries)
+
+pub one_history : (terms : DeskTerms) (file : List ℕ) (a b : List Entry) → IsHistoryOf terms file a → IsHistoryOf terms file b → a ≡ b
+one_history terms file a b p q = spells_once terms.digest p.payloads q.payloads a b (stands_once file p.payloads q.payloads p.stands q.stands) p.spells q.spells
+
+-- the payloads of a file begin with those at its front
+places_front : (ps qs : List (List ℕ)) (x : List ℕ) (g : ℕ) (r : List ℕ) → All IsPayload ps → All IsPayload qs → g ≢ 1 → flat_map open_place ps ++ x ≡ flat_map open_place qs ++ g ∷ r → (more : List (List ℕ)) × (qs ≡ ps ++ more)
+places_front [] qs x g r each_p each_q shut same = (qs, refl)
+places_front (p ∷ ps) [] x g r each_p each_q shut same = absurd (shut (sym (ap (λ (l : List ℕ). get_or l 0 0) same)))
+places_front (p ∷ ps) (q ∷ qs) x g r each_p each_q shut same =
+    let tails : body p ++ (flat_map open_place ps ++ x) ≡ body q ++ (flat_map open_place qs ++ g ∷ r) =
+    sym (append_assoc (body p) (flat_map open_place ps) x) ∙ (ap (drop 1) same ∙ append_assoc (body q) (flat_map open_place qs) (g ∷ r)) in
+    let both = same_payload p q (flat_map open_place ps ++ x) (flat_map open_place qs ++ g ∷ r) (All-head IsPayload p ps each_p) (All-head IsPayload q qs each_q) tails in
+    let rest = places_front ps qs x g r (All-tail IsPayload p ps each_p) (All-tail IsPayload q qs each_q) shut both.1 in
+    (rest.0, λ i. sym both.0 i ∷ rest.1 i)
+
+file_front : (file p : List ℕ) (ps qs : List (List ℕ)) (rest : List ℕ) → All IsPayload (p ∷ ps) → file ≡ opened (p ∷ ps) ++ rest → StandsFor file qs → (more : List (List ℕ)) × (qs ≡ p ∷ ps ++ more)
+file_front file p ps qs rest each split (inl un) = absurd (some_payload file p ps rest (short file un.0) split)
+file_front file p ps qs rest each split (inr open_) =
+    places_front (p ∷ ps) qs rest open_.1.gate open_.1.rest each open_.0 open_.1.shut (ap (drop 9) (sym split ∙ open_.1.split))
+
+first_is : (digest : List ℕ) (first : List ℕ) (rest qs : List (List ℕ)) (history : List Entry) → qs ≡ first ∷ rest → Spells digest qs history → first ≡ digest
+first_is digest first rest qs history is (inl none) = absurd (cc (is, none.0))
+first_is digest first rest qs history is (inr some) = ap (λ (ps : List (List ℕ)). get_or ps 0 []) (sym is ∙ some.1)
+
+rest_are : (digest : List ℕ) (rest qs : List (List ℕ)) (history : List Entry) → qs ≡ digest ∷ rest → Spells digest qs history → AreRecords rest history
+rest_are digest rest qs history is (inl none) = absurd (cc (is, none.0))
+rest_are digest rest qs history is (inr some) = subst (λ (ps : List (List ℕ)). AreRecords ps history) (ap (drop 1) (sym some.1 ∙ is)) some.2
+
+-- a payload whose entries aren't all legal stands in no legal history
+not_entry : (terms : DeskTerms) (file : List ℕ) (at : ℕ) (history : List Entry) → HasBadEntry terms file at → IsHistoryOf terms file history → ⊥
+not_entry terms file at history bad is =
+    let before : List (List ℕ) = bad.payloads ++ bad.payload ∷ [] in
+    let front = file_front file terms.digest before is.payloads bad.rest bad.each bad.split is.stands in
+    let are : AreRecords (before ++ front.0) history = rest_are terms.digest (before ++ front.0) is.payloads history front.1 is.spells in
+    let at_ : RecordAt bad.records.records are.records bad.payload =
+    record_at bad.records.records are.records bad.payload front.0 bad.records.each are.each (sym are.spelled ∙ ap (λ (ps : List (List ℕ)). (ps ++ bad.payload ∷ []) ++ front.0) bad.records.spelled) in
+    let next : NextIn bad.front at_.entries bad.bytes = next_in bad.front at_.entries bad.bytes bad.fits at_.is_record.spelled bad.some (at_.bytes ∙ bad.behind) in
+    let id : List Entry → List Entry = λ es. es in
+    let behind : List Entry = flat_map id at_.behind in
+    let whole : history ≡ (bad.earlier ++ bad.front) ++ next.entry ∷ (next.behind ++ behind) =
+    are.entries
+    ∙ (ap (flat_map id) at_.parts
+    ∙ (flat_map-append id bad.records.records (at_.entries ∷ at_.behind)
+    ∙ (ap (λ (es : List Entry). es ++ (at_.entries ++ behind)) (sym bad.records.entries)
+    ∙ (ap (λ (es : List Entry). bad.earlier ++ (es ++ behind)) next.parts
+    ∙ (ap (λ (es : List Entry). bad.earlier ++ es) (append_assoc bad.front (next.entry ∷ next.behind) behind)
+    ∙ sym (append_assoc bad.earlier bad.front (next.entry ∷ (next.behind ++ behind)))))))) in
+    bad.none next.entry _ next.begins (is.legal (bad.earlier ++ bad.front) next.entry (next.behind ++ behind) whole)
+
+not_roster : (terms : DeskTerms) (file kept : List ℕ) (history : List Entry) → HasOtherRoster terms.digest file kept → IsHistoryOf terms file history → ⊥
+not_roster terms file kept history other is =
+    let front = file_front file other.first [] is.payloads other.rest (All-cons IsPayload other.first [] other.is_payload (All-nil IsPayload)) other.split is.stands in
+    other.other (first_is terms.digest other.first front.0 is.payloads history front.1 is.spells)
+
+not_room : (terms : DeskTerms) (file : List ℕ) (size : ℕ) (history : List Entry) → HasNoRoom terms file size → IsHistoryOf terms file history → ⊥
+not_room terms file size history full is =
+    let payloads = stands_once file full.payloads is.payloads full.stands is.stands in
+    let same = spells_once terms.digest full.payloads is.payloads full.history history payloads full.spells is.spells in
+    omega (arith, full.passes, is.room, ap (λ (ps : List (List ℕ)). length (opened ps)) payloads, ap held same)
+
+pub refused_or_stands : (terms : DeskTerms) (file : List ℕ) (why : DeskFault) (history : List Entry) → IsRefusal why → RefusesDesk terms file why → IsHistoryOf terms file history → ⊥
+refused_or_stands terms file DeskFault.DiskFault history refusal why is = refusal
+refused_or_stands terms file (DeskFault.JournalFull size) history refusal why is = not_room terms file size history why is
+refused_or_stands terms file (DeskFault.BadEntry at) history refusal why is = not_entry terms file at history why is
+refused_or_stands terms file (DeskFault.OtherRoster kept) history refusal why is = not_roster terms file kept history why is
+refused_or_stands terms file (DeskFault.NotAJournal at) history refusal why is = stands_or_no_head file is.payloads at is.stands why
+refused_or_stands terms file (DeskFault.BadLength at) history refusal why is = stands_or_bad file is.payloads at is.stands why.bad
+refused_or_stands terms file DeskFault.OutOfMemory history refusal why is = refusal
