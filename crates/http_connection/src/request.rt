@@ -1,10 +1,12 @@
 //! The steps of a request: its head, what the head says, its body.
-ghost use Rattle.std.specs.Prelude.{◌≡◌, ◌≤◌, ◌+◌, ◌*◌, [], length};
+ghost use Rattle.std.specs.Prelude.{◌≡◌, ◌≤◌, ◌<◌, ◌+◌, ◌*◌, [], length, Ok, false};
+ghost use Rattle.adx_io.specs.Streams.{HasCause};
+ghost use Rattle.http_buffer.specs.State.{Takes, IsAtEnd};
 ghost use Rattle.http_bodies.specs.Steps.{Advances, ReadsBy};
 ghost use Rattle.http_connection.specs.Found.{HasHead, HasRequestHead, RequestGives};
 
 use crate::conn::{Found, PIECE, front, read_head};
-use adx_io::Source;
+use adx_io::{Failed, Source};
 use http_bodies::{LINE_COUNT_LIMIT, body_of_request, read_body};
 use http_buffer::{Buffer, HEAD_LIMIT};
 use http_grammar::{HttpFault, RequestParts, first_request, request_parts};
@@ -118,6 +120,22 @@ fn advance_held<S: Source>(
     }
 }
 
+/// Takes bytes where none are pending; false where none come.
+fn some_pending<S: Source>(buffer: &mut Buffer, source: &mut S) -> Result<bool, Failed>
+    requires alone { buffer.old.kept ≡ [] }
+    requires room { 0 < buffer.old.room }
+    ensures takes { Takes buffer.old buffer.new (S.tape source.old) (S.tape source.new) }
+    ensures none { result ≡ Ok false → buffer.new.pending ≡ [] }
+    ensures ended { result ≡ Ok false → IsAtEnd (S.tape source.new) }
+    ensures cause { HasCause (S.faults source.old) (S.faults source.new) result }
+    ensures same { S.place source.new ≡ S.place source.old }
+{
+    if !buffer.pending().is_empty() {
+        return Ok(true);
+    }
+    buffer.fill(source)
+}
+
 /// Reads a request; where no byte is pending, the source gives some first.
 pub(crate) fn advance<S: Source>(
     buffer: &mut Buffer,
@@ -134,10 +152,7 @@ pub(crate) fn advance<S: Source>(
     ensures cause { ReadsBy (S.faults source.old) (S.faults source.new) result }
     ensures same { S.place source.new ≡ S.place source.old }
 {
-    if !buffer.pending().is_empty() {
-        return advance_held(buffer, spans, source, limit);
-    }
-    match buffer.fill(source) {
+    match some_pending(buffer, source) {
         Ok(true) => advance_held(buffer, spans, source, limit),
         Ok(false) => Ok(None),
         Err(_) => Err(HttpFault::ReadFault),

@@ -4,7 +4,7 @@ use Rattle.http_connection.proofs.Requests.{request_carried}
 use Rattle.http_connection.proofs.request.advance.Goals as goal
 
 pub returns-in-Ok-true-clause-gives : goal.returns-in-Ok-true-clause-gives
-returns-in-Ok-true-clause-gives g c = request_carried c.args.limit c.args.buffer.now c.fill.new.self c.advance_held-in-Ok-true.new.buffer _ _ _ c.advance_held-in-Ok-true.result c.in-Ok-true.ensures.takes c.advance_held-in-Ok-true.ensures.gives
+returns-in-Ok-true-clause-gives g c = request_carried c.args.limit c.args.buffer.now c.some_pending.new.buffer c.advance_held.new.buffer _ _ _ c.advance_held.result c.in-Ok-true.ensures.takes c.advance_held.ensures.gives
 
 pub returns-in-Ok-true-clause-advances : goal.returns-in-Ok-true-clause-advances
-returns-in-Ok-true-clause-advances g c = advances_both _ _ _ (advances c.args.buffer.now c.fill.new.self _ _ c.in-Ok-true.ensures.takes) c.advance_held-in-Ok-true.ensures.advances
+returns-in-Ok-true-clause-advances g c = advances_both _ _ _ (advances c.args.buffer.now c.some_pending.new.buffer _ _ c.in-Ok-true.ensures.takes) c.advance_held.ensures.advances
