@@ -35,3 +35,10 @@ field_lines r =
 
 abbrev pub reply_bytes : Reply → List ℕ
 reply_bytes r = status_line r.status ++ field_lines r ++ crlf_bytes ++ when (has_body r) r.body.now
+
+-- a reply with status 204 and no field
+abbrev pub is_bare : Reply → Bool
+is_bare r = ((r.status == 204 && not r.openrtb) && length r.allow.now == 0) && not r.close
+
+abbrev pub bare_bytes : List ℕ
+bare_bytes = codes "HTTP/1.1 204 No Content" ++ crlf_bytes ++ crlf_bytes

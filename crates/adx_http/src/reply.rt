@@ -1,11 +1,11 @@
 //! Replies, and their bytes as a sink takes them.
 ghost use Rattle.std.specs.Prelude.{◌≡◌, ℕ, List, [], ◌++◌, Option};
 ghost use Rattle.adx_http.specs.Written.{Writes, WritesBy};
-ghost use Rattle.adx_http.specs.Replies.{phrase, when, field_line, status_line, field_lines, has_body, reply_bytes};
+ghost use Rattle.adx_http.specs.Replies.{phrase, when, field_line, status_line, field_lines, has_body, reply_bytes, bare_bytes};
 ghost use Rattle.adx_http.specs.Gathering.{Holds};
 
 use crate::gathered::Gathered;
-use adx_io::Sink;
+use adx_io::{Sink, put_all};
 use http::StatusCode;
 use std::fmt;
 
@@ -54,7 +54,7 @@ fn phrase_of(status: u16) -> &'static [u8]
 }
 
 impl Reply<'_> {
-    ghost use Rattle.adx_http.specs.Replies.{has_type, has_body};
+    ghost use Rattle.adx_http.specs.Replies.{has_type, has_body, is_bare};
 
     /// Whether the reply says the type of its body.
     fn has_type(&self) -> bool
@@ -68,6 +68,13 @@ impl Reply<'_> {
         ensures { result ≡ has_body self.now }
     {
         !self.head && self.status != 204
+    }
+
+    /// Whether the reply is a 204 with no field.
+    fn is_bare(&self) -> bool
+        ensures { result ≡ is_bare self.now }
+    {
+        self.status == 204 && !self.openrtb && self.allow.is_empty() && !self.close
     }
 }
 
@@ -144,9 +151,8 @@ fn push_body<K: Sink>(gathered: &mut Gathered, sink: &mut K, reply: &Reply<'_>)
     }
 }
 
-/// Puts exactly the bytes of the reply. After a fault some front of them was taken; a fault is
-/// answered only where the sink's count rose.
-pub fn write_reply<K: Sink>(sink: &mut K, reply: &Reply<'_>) -> Result<(), WriteFault>
+/// Puts the parts of a reply, gathered.
+fn write_parts<K: Sink>(sink: &mut K, reply: &Reply<'_>) -> Result<(), WriteFault>
     ensures taken { Writes (K.held sink.old) (K.held sink.new) (reply_bytes reply.now) result }
     ensures cause { WritesBy (K.faults sink.old) (K.faults sink.new) result }
     ensures same { K.place sink.new ≡ K.place sink.old }
@@ -161,4 +167,29 @@ pub fn write_reply<K: Sink>(sink: &mut K, reply: &Reply<'_>) -> Result<(), Write
     } else {
         Ok(())
     }
+}
+
+/// Puts the bytes of a reply that is a 204 with no field.
+fn write_bare<K: Sink>(sink: &mut K) -> Result<(), WriteFault>
+    ensures taken { Writes (K.held sink.old) (K.held sink.new) bare_bytes result }
+    ensures cause { WritesBy (K.faults sink.old) (K.faults sink.new) result }
+    ensures same { K.place sink.new ≡ K.place sink.old }
+{
+    match put_all(sink, b"HTTP/1.1 204 No Content\r\n\r\n") {
+        Ok(_) => Ok(()),
+        Err(_) => Err(WriteFault),
+    }
+}
+
+/// Puts exactly the bytes of the reply. After a fault some front of them was taken; a fault is
+/// answered only where the sink's count rose.
+pub fn write_reply<K: Sink>(sink: &mut K, reply: &Reply<'_>) -> Result<(), WriteFault>
+    ensures taken { Writes (K.held sink.old) (K.held sink.new) (reply_bytes reply.now) result }
+    ensures cause { WritesBy (K.faults sink.old) (K.faults sink.new) result }
+    ensures same { K.place sink.new ≡ K.place sink.old }
+{
+    if reply.is_bare() {
+        return write_bare(sink);
+    }
+    write_parts(sink, reply)
 }
