@@ -9,4 +9,4 @@ pub close_day-requires : goal.close_day-requires
 close_day-requires c =
     history_of (campaign_rows c.args.roster.now.campaigns) c.args.day.now.terms c.entries.result.now
     (budgets_same c.args.roster.now.campaigns ∙ sym c.requires.budgets)
-    (subst (IsDay c.args.day.now.terms) (sym c.entries.ensures) c.requires.day)
+    (subst (IsDay c.args.day.now.terms) (sym c.entries.ensures.history) c.requires.day)
