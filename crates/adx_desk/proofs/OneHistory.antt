@@ -1,18 +1,16 @@
 -- A file stands for one history, and for none where it is refused.
-use Rattle.std.proofs.Common.{◌≡◌, ◌≢◌, ◌⊎◌, inl, inr, ℕ, ◌+◌, ◌<◌, ◌≤◌, List, [], ◌∷◌, ◌++◌, map, length, drop, get_or, All, refl, sym, ◌∙◌, ap, subst, arith, append_assoc, length-append}
+use Rattle.std.proofs.Common.{◌≡◌, ◌≢◌, inl, inr, ℕ, List, [], ◌∷◌, ◌++◌, length, drop, get_or, All, refl, sym, ◌∙◌, ap, subst, arith, append_assoc}
 use Rattle.std.specs.List.{flat_map}
 use Rattle.std.proofs.lemmas.Grind.{flat_map-append}
 use Rattle.std.proofs.lemmas.List.Elements.{All-cons, All-head, All-nil, All-tail}
 use Rattle.adx_io.specs.Frames.{body}
-use Rattle.day_journal.specs.Faults.{greatest_size}
-use Rattle.day_journal.specs.Places.{HasBadLength, IsClosed, IsPayload, StandsFor, open_place, opened}
+use Rattle.day_journal.specs.Places.{IsPayload, StandsFor, open_place, opened}
 use Rattle.day_journal.proofs.Apart.{stands_or_bad, stands_or_no_head}
 use Rattle.day_journal.proofs.Once.{same_payload, short, stands_once}
-use Rattle.day_entries.specs.Spelling.{Fits}
 use Rattle.day_rules.specs.declared.entry.Entry.{Entry}
 use Rattle.adx_desk.specs.declared.fault.DeskFault.{DeskFault}
 use Rattle.adx_desk.specs.Held.{held}
-use Rattle.adx_desk.specs.Histories.{AreRecords, DeskTerms, IsHistoryOf, IsRecord, Spells, entries_bytes}
+use Rattle.adx_desk.specs.Histories.{AreRecords, DeskTerms, IsHistoryOf, Spells}
 use Rattle.adx_desk.specs.Openings.{HasBadEntry, HasNoRoom, HasOtherRoster, IsRefusal, RefusesDesk}
 use Rattle.adx_desk.proofs.OneSpelling.{NextIn, RecordAt, next_in, record_at, same_records}
 use Rattle.adx_desk.proofs.OpenedDays.{none_spelled, some_payload}

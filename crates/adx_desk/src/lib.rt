@@ -26,3 +26,8 @@ pub use done::Done;
 pub use fault::DeskFault;
 pub use held::{EXPIRY_RECORD, NOTICE_RECORD, RECORD_OVERHEAD};
 pub use laws::{one_history, refusals_exclude};
+
+#[cfg(test)]
+mod file_tests;
+#[cfg(test)]
+mod tests;
