@@ -1,0 +1,9 @@
+pub mod BidIds
+pub mod Keys
+pub mod Counted
+pub mod SumsMore
+pub mod Kept
+pub mod Capped
+pub mod Offers
+pub mod PriceSteps
+pub mod Bases
