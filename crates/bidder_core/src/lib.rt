@@ -18,6 +18,8 @@ mod member;
 mod price_line;
 mod ruling;
 mod sums;
+#[cfg(test)]
+mod tests;
 
 pub use answer::MOST_BIDS;
 pub use bidder::Bidder;
