@@ -1,6 +1,5 @@
 -- Members whose names come again are left out one after another.
-use Rattle.std.proofs.Common.{◌≡◌, ℕ, zero, suc, ◌+◌, ◌<◌, ◌≤◌, List, [], ◌∷◌, ◌++◌, append_assoc, append-nil, reverse, length, take, drop, Bool, true, false, cond, ◌||◌, refl, sym, ap, ap₂, ◌∙◌, subst, arith, add-one, length-append}
-use Rattle.std.proofs.lemmas.List.{reverse-append}
+use Rattle.std.proofs.Common.{◌≡◌, ℕ, zero, suc, ◌+◌, ◌<◌, ◌≤◌, List, [], ◌∷◌, ◌++◌, length, take, drop, Bool, true, false, cond, ◌||◌, refl, sym, ap, ap₂, ◌∙◌, subst, arith, add-one, length-append}
 use Rattle.std.specs.List.{list_any}
 use Rattle.std.specs.Str.{bytes_eq}
 use Rattle.adx_json.specs.Tree.{Members, no_members, member, members_of}
@@ -35,11 +34,11 @@ take_next zero (x ∷ ms) m later e = let same : x ≡ m = cc in ap (λ y. y ∷
 take_next (suc at) [] m later e = cc
 take_next (suc at) (x ∷ ms) m later e = ap (λ y. x ∷ y) (take_next at ms m later e)
 
-before_view : (ms : List Member) (m : Member) (us : Members) → before_members (members_view (ms ++ m ∷ [])) us ≡ before_members (members_view ms) (member (member_of m).0 (member_of m).1 us)
+pub before_view : (ms : List Member) (m : Member) (us : Members) → before_members (members_view (ms ++ m ∷ [])) us ≡ before_members (members_view ms) (member (member_of m).0 (member_of m).1 us)
 before_view [] m us = refl
 before_view (x ∷ ms) m us = ap (member (member_of x).0 (member_of x).1) (before_view ms m us)
 
-last_at : (m : Member) (later : List Member) (b : Bool) → has_name (member_of m).0 (members_of (members_view later)) ≡ b
+pub last_at : (m : Member) (later : List Member) (b : Bool) → has_name (member_of m).0 (members_of (members_view later)) ≡ b
     → last_of_each (members_of (members_view (m ∷ later))) ≡ cond b (last_of_each (members_of (members_view later))) (member (member_of m).0 (member_of m).1 (last_of_each (members_of (members_view later))))
 last_at m later b e = ap (λ x. cond x (last_of_each (members_of (members_view later))) (member (member_of m).0 (member_of m).1 (last_of_each (members_of (members_view later))))) e
 
@@ -99,7 +98,7 @@ take_past zero (x ∷ ms) h = absurd (omega arith)
 take_past (suc at) [] h = refl
 take_past (suc at) (x ∷ ms) h = ap (λ y. x ∷ y) (take_past at ms (omega arith))
 
-before_none : (ms : List Member) → before_members (members_view ms) no_members ≡ members_of (members_view ms)
+pub before_none : (ms : List Member) → before_members (members_view ms) no_members ≡ members_of (members_view ms)
 before_none [] = refl
 before_none (m ∷ ms) = ap (member (member_of m).0 (member_of m).1) (before_none ms)
 
@@ -107,46 +106,3 @@ pub kept_end : (all kept : List Member) (at : ℕ) → KeptSoFar all kept at →
 kept_end all kept at s past =
     sym (ap₂ (λ (x y : List Member). before_members (members_view x) (last_of_each (members_of (members_view y)))) (take_past at kept past) (drop_past at kept past) ∙ before_none kept)
     ∙ s.same
-
--- those kept from the end on, and the names that were met
-pub record ManySoFar (all left kept : List Member) (seen : List ℕ → Bool) : Type 0 where
-  pub later : List Member
-  pub whole : all ≡ left ++ later
-  pub same : members_of (members_view (reverse kept)) ≡ last_of_each (members_of (members_view later))
-  pub names : (q : List ℕ) → seen q ≡ has_name q (members_of (members_view later))
-
-pub many_start : (all : List Member) (seen : List ℕ → Bool) → ((q : List ℕ) → seen q ≡ false) → ManySoFar all all [] seen
-many_start all seen none = record { later = []; whole = sym (append-nil all); same = refl; names = none }
-
-either_cond : (b x : Bool) → cond b true x ≡ b || x
-either_cond true x = refl
-either_cond false x = refl
-
-names_more : (m : Member) (later : List Member) (name : List ℕ) (seen now : List ℕ → Bool) → name ≡ (member_of m).0 → ((q : List ℕ) → seen q ≡ has_name q (members_of (members_view later))) → ((q : List ℕ) → now q ≡ cond (bytes_eq name q) true (seen q)) → (q : List ℕ) → now q ≡ has_name q (members_of (members_view (m ∷ later)))
-names_more m later name seen now e h update q = update q ∙ ap₂ (λ (n : List ℕ) (x : Bool). cond (bytes_eq n q) true x) e (h q) ∙ either_cond (bytes_eq (member_of m).0 q) (has_name q (members_of (members_view later)))
-
-whole_more : (all left now later : List Member) (m : Member) → all ≡ left ++ later → left ≡ now ++ m ∷ [] → all ≡ now ++ m ∷ later
-whole_more all left now later m e f = e ∙ ap (λ x. x ++ later) f ∙ append_assoc now (m ∷ []) later
-
--- a new name, and one that was met
-pub many_kept : (all left now kept : List Member) (m : Member) (name : List ℕ) (seen after : List ℕ → Bool) → ManySoFar all left kept seen → left ≡ now ++ m ∷ [] → name ≡ (member_of m).0 → seen name ≡ false → ((q : List ℕ) → after q ≡ cond (bytes_eq name q) true (seen q)) → ManySoFar all now (kept ++ m ∷ []) after
-many_kept all left now kept m name seen after s cut e new update = record {
-  later = m ∷ s.later;
-  whole = whole_more all left now s.later m s.whole cut;
-  same =
-      ap (λ x. members_of (members_view x)) (reverse-append kept (m ∷ []))
-      ∙ ap (member (member_of m).0 (member_of m).1) s.same
-      ∙ sym (last_at m s.later false (sym (s.names (member_of m).0) ∙ ap seen (sym e) ∙ new));
-  names = names_more m s.later name seen after e s.names update;
-}
-
-pub many_dropped : (all left now kept : List Member) (m : Member) (name : List ℕ) (seen after : List ℕ → Bool) → ManySoFar all left kept seen → left ≡ now ++ m ∷ [] → name ≡ (member_of m).0 → seen name ≡ true → ((q : List ℕ) → after q ≡ cond (bytes_eq name q) true (seen q)) → ManySoFar all now kept after
-many_dropped all left now kept m name seen after s cut e met update = record {
-  later = m ∷ s.later;
-  whole = whole_more all left now s.later m s.whole cut;
-  same = s.same ∙ sym (last_at m s.later true (sym (s.names (member_of m).0) ∙ ap seen (sym e) ∙ met));
-  names = names_more m s.later name seen after e s.names update;
-}
-
-pub many_end : (all left kept : List Member) (seen : List ℕ → Bool) → ManySoFar all left kept seen → left ≡ [] → members_of (members_view (reverse kept)) ≡ last_of_each (members_of (members_view all))
-many_end all left kept seen s none = s.same ∙ ap (λ x. last_of_each (members_of (members_view x))) (sym (s.whole ∙ ap (λ x. x ++ s.later) none))

@@ -24,6 +24,7 @@ pub mod ReadItems
 pub mod ReadMembers
 pub mod PendingParts
 pub mod KeptMembers
+pub mod Stays
 pub mod WellFormedTrees
 pub mod NamedMembers
 pub mod Spelled

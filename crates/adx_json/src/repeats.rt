@@ -1,11 +1,11 @@
 //! Repeated names of an object's members.
-ghost use Rattle.std.specs.Prelude.{◌≡◌, ◌<◌, length, IfOk};
+ghost use Rattle.std.specs.Prelude.{◌≡◌, ◌<◌, ◌∷◌, not, length, IfOk};
 ghost use Rattle.std.specs.List.{list_any};
 ghost use Rattle.std.specs.Str.{bytes_eq};
 ghost use Rattle.adx_json.specs.Tree.{members_of};
 ghost use Rattle.adx_json.specs.Grammar.{last_of_each};
 ghost use Rattle.adx_json.specs.View.{members_view};
-ghost use Rattle.adx_json.specs.Repeats.{ComesAgain};
+ghost use Rattle.adx_json.specs.Repeats.{ComesAgain, stays, mark_behind, mark_from};
 ghost use Rattle.adx_json.specs.declared.tree.Member.{out-Member};
 
 use crate::tree::Member;
@@ -15,6 +15,9 @@ use std::collections::BTreeSet;
 
 /// Up to so many members a name is looked up among those behind it.
 const FEW: usize = 16;
+
+/// What the mark of a name is multiplied by at each byte: the prime of FNV-1a for 64 bits.
+const MARK_FACTOR: u64 = 0x0100_0000_01b3;
 
 /// The members without those whose names come again later: of members with one name the last stays, in its place.
 pub(crate) fn without_repeats(
@@ -29,24 +32,90 @@ pub(crate) fn without_repeats(
     last_of_many(alloc, members)
 }
 
-/// The same from the end on, with the set of the names that were met.
+/// The same by what is told of each member.
 fn last_of_many(alloc: Global, members: Vec<Member>) -> Result<Vec<Member>, OutOfMemory>
     ensures { IfOk result (λ ms. members_of (members_view ms.items) ≡ last_of_each (members_of (members_view members.items))) }
 {
+    let told = which_stay(alloc, members.as_slice())?;
+    if !has_repeats(told.as_slice()) {
+        return Ok(members);
+    }
+    kept_of(alloc, members, told.as_slice())
+}
+
+/// Of each member whether no one behind it has its name: from the end on, with the set of the names that were met.
+fn which_stay(alloc: Global, members: &[Member]) -> Result<Vec<bool>, OutOfMemory>
+    ensures { IfOk result (λ told. told.items ≡ stays members.now) }
+{
     let mut left = members;
-    let mut kept = Vec::new(alloc);
+    let mut told = Vec::with_capacity(alloc, members.len())?;
     let mut seen = BTreeSet::new(alloc);
+    'members: while let Some((member, before)) = left.split_last() {
+        let name = member.name.as_str();
+        let is_new = seen.insert((mark_of(name.as_bytes()), name))?;
+        told.push(is_new)?;
+        left = before;
+    }
+    told.reverse();
+    Ok(told)
+}
+
+/// A number of a name, by which most names are told apart without a look at their bytes.
+fn mark_of(name: &[u8]) -> u64
+    ensures { result ≡ mark_from 0 name.now }
+{
+    let mut left = name;
+    let mut mark = 0;
+    'bytes: while let Some((byte, behind)) = left.split_first() {
+        mark = mark_behind(mark, *byte);
+        left = behind;
+    }
+    mark
+}
+
+fn mark_behind(mark: u64, byte: u8) -> u64
+    ensures { result ≡ mark_behind mark byte }
+{
+    mark.wrapping_add(byte as u64).wrapping_mul(MARK_FACTOR)
+}
+
+/// Whether a member is told not to stay.
+fn has_repeats(told: &[bool]) -> bool
+    ensures { result ≡ list_any not told.now }
+{
+    told.iter().any(|stays| !*stays)
+}
+
+/// The members that stay.
+fn kept_of(alloc: Global, members: Vec<Member>, told: &[bool]) -> Result<Vec<Member>, OutOfMemory>
+    requires { told.now ≡ stays members.items }
+    ensures { IfOk result (λ ms. members_of (members_view ms.items) ≡ last_of_each (members_of (members_view members.items))) }
+{
+    let mut left = members;
+    left.reverse();
+    let mut flags = told;
+    let mut kept = Vec::new(alloc);
     'members: while let Some(member) = left.pop() {
-        let name = String::from_str(alloc, member.name.as_str())?;
-        let is_new = seen.insert(name)?;
-        if is_new {
+        let (stays, behind) = first_flag(flags);
+        flags = behind;
+        if stays {
             kept.push(member)?;
         } else {
             leave_out(member);
         }
     }
-    kept.reverse();
     Ok(kept)
+}
+
+/// The first of what is told, and what is told behind it.
+fn first_flag(told: &[bool]) -> (bool, &[bool])
+    requires { 0 < length told.now }
+    ensures { told.now ≡ result.0 ∷ result.1.now }
+{
+    match told.split_first() {
+        Some((stays, behind)) => (*stays, behind),
+        None => (true, told),
+    }
 }
 
 // In a function of its own, so that the loop's proof has no case for each kind of value that is dropped.
