@@ -16,6 +16,7 @@ mod tree;
 pub use award::{Award, End};
 pub use awards::Awards;
 pub use kind::NoticeKind;
+pub use rules::rule;
 pub use ruling::Ruling;
 
 #[cfg(test)]
