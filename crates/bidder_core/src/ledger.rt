@@ -5,11 +5,11 @@ ghost use Rattle.bidder_core.specs.Ledger.{AreOnce, bill_count as bill_count_of,
 ghost use Rattle.bidder_core.specs.LedgerState.{key_of as key_by, noticed_at as noticed_by_key, noticed_in};
 ghost use Rattle.notice_book.specs.declared.ruling.Ruling.TheVariants.{Counted};
 
-use crate::award::{Noticed, rule, with_notice};
+use crate::award::{Noticed, with_notice};
 use crate::sums::{BillSum, no_bills, sum_at, summed};
 use adx_units::{Id, OutOfMemory, Text, Units};
 use indexmap::IndexMap;
-use notice_book::{NoticeKind, Ruling};
+use notice_book::{NoticeKind, Ruling, rule};
 use std::alloc::Global;
 use std::marker::Model;
 
@@ -136,7 +136,7 @@ impl Ledger {
         ensures prices { self.new.prices ≡ self.old.prices }
     {
         let found = self.award_of(alloc, auction.as_str(), bid)?;
-        match rule(kind, found.award) {
+        match rule(kind, found.award.won, found.award.end) {
             Ruling::Counted => {
                 let row = LedgerRow {
                     auction: auction.copy(alloc)?,
