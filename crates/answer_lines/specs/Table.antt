@@ -21,11 +21,14 @@ account_line c a =
 abbrev pub campaign_line : List Account → ℕ × Campaign → List ℕ
 campaign_line accounts c = account_line c.1 (account_at accounts c.0)
 
+-- so many asks, awards and entries
+abbrev pub counts_text : ℕ → ℕ → ℕ → List ℕ
+counts_text asks awards entries =
+    codes "{\"asks\":" ++ decimal asks ++ codes ",\"awards\":" ++ decimal awards ++ codes ",\"entries\":" ++ decimal entries ++ codes "}\n"
+
 -- how many asks, awards and entries there are
 abbrev pub counts_line : List Entry → List ℕ
-counts_line history =
-    codes "{\"asks\":" ++ decimal (ask_count history) ++ codes ",\"awards\":" ++ decimal (length (awards_of history)) ++ codes ",\"entries\":"
-    ++ decimal (length history) ++ codes "}\n"
+counts_line history = counts_text (ask_count history) (length (awards_of history)) (length history)
 
 -- the closing table: a row for each campaign of the roster, and the counts
 abbrev pub closing_table : List Campaign → Terms → List Entry → List ℕ

@@ -13,6 +13,8 @@ mod awards;
 mod faults;
 mod pieces;
 mod table;
+#[cfg(test)]
+mod tests;
 
 pub use answers::push_answer;
 pub use at_hand::ask_at_hand;

@@ -1,19 +1,21 @@
 //! The closing table.
-ghost use Rattle.std.specs.Prelude.{◌≡◌, ◌<◌, ◌++◌, length, OnOk, string_bytes};
+ghost use Rattle.std.specs.Prelude.{◌≡◌, ◌+◌, ◌==◌, ◌<◌, ◌++◌, count_by, length, OnOk, string_bytes};
+ghost use Rattle.allocator_core.specs.declared.reason.TheConstants.{AWARDED as AWARDED_MARK};
 ghost use Rattle.campaign_book.specs.Accounts.{account_at, IsAccount};
 ghost use Rattle.day_rules.specs.Books.{accounts_in, ask_count as ask_count_of, awards_of};
+ghost use Rattle.day_rules.specs.Legal.{IsLegal};
 ghost use Rattle.day_rules.specs.Terms.{Terms, budgets_after};
 ghost use Rattle.std.specs.List.{flat_map, enumerate_from};
-ghost use Rattle.answer_lines.specs.Table.{account_line, campaign_line, closing_table, counts_line};
+ghost use Rattle.answer_lines.specs.Table.{account_line, campaign_line, closing_table, counts_text};
 
 use crate::pieces::push;
 use adx_json::{push_number, push_text};
-use adx_units::OutOfMemory;
+use adx_units::{Offer, OutOfMemory};
+use allocator_core::AWARDED;
 use campaign_book::Book;
-use day_rules::Entry;
+use day_rules::{Ask, Entry};
 use deal_floor::Campaign;
 use discount_table::slab_of;
-use notice_book::Awards;
 
 /// Writes a campaign's row of the closing table.
 fn push_campaign(
@@ -67,35 +69,63 @@ fn ask_count(entries: &[Entry]) -> u64
     count
 }
 
+/// How many of the offers were awarded.
+fn awarded_count(offers: &[Offer]) -> usize
+    ensures { result ≡ count_by (λ o. o.reason == AWARDED_MARK) offers.now }
+{
+    offers
+        .iter()
+        .filter(|offer| offer.reason == AWARDED)
+        .count()
+}
+
+/// How many awards there are with those of a settled ask: so many before it as its first award's number, and its own.
+fn count_with(ask: &Ask) -> u64
+    ensures { result ≡ ask.entry.now.first + count_by (λ o. o.reason == AWARDED_MARK) ask.entry.now.offers }
+{
+    u64::from(ask.first) + awarded_count(ask.offers.as_slice()) as u64
+}
+
+/// The number of awards of a legal history, which its last ask tells.
+fn award_count(entries: &[Entry]) -> u64
+    ensures { (terms : Terms) → IsLegal terms entries.now → result ≡ length (awards_of entries.now) }
+{
+    let mut left = entries;
+    'entries: while let Some((entry, before)) = left.split_last() {
+        if let Entry::Ask(ask) = entry {
+            return count_with(ask);
+        }
+        left = before;
+    }
+    0
+}
+
 /// Writes the row of counts of the closing table.
-fn push_counts(out: &mut String, awards: &Awards, entries: &[Entry]) -> Result<(), OutOfMemory>
-    requires { awards.now.awards ≡ awards_of entries.now }
-    ensures { OnOk result (string_bytes out.new ≡ string_bytes out.old ++ counts_line entries.now) }
+fn push_counts(out: &mut String, awards: u64, entries: &[Entry]) -> Result<(), OutOfMemory>
+    ensures { OnOk result (string_bytes out.new ≡ string_bytes out.old ++ counts_text (ask_count_of entries.now) awards (length entries.now)) }
 {
     push(out, "{\"asks\":")?;
     push_number(out, ask_count(entries))?;
     push(out, ",\"awards\":")?;
-    push_number(out, u64::from(awards.len()))?;
+    push_number(out, awards)?;
     push(out, ",\"entries\":")?;
     push_number(out, entries.len() as u64)?;
     push(out, "}\n")
 }
 
-/// Writes the closing table: a row for each campaign of the roster, and the counts. The book and the
-/// awards are those of the history.
+/// Writes the closing table: a row for each campaign of the roster, and the counts. The entries are a legal
+/// history, and the book is the history's.
 pub fn push_table(
     out: &mut String,
     campaigns: &[Campaign],
     book: &Book,
-    awards: &Awards,
     entries: &[Entry],
 ) -> Result<(), OutOfMemory>
-    requires campaigns { length book.now ≡ length campaigns.now }
-    requires awards { awards.now.awards ≡ awards_of entries.now }
-    ensures { OnOk result ((terms : Terms) → book.now ≡ accounts_in (budgets_after terms entries.now) (awards_of entries.now)
+    requires { length book.now ≡ length campaigns.now }
+    ensures { OnOk result ((terms : Terms) → IsLegal terms entries.now → book.now ≡ accounts_in (budgets_after terms entries.now) (awards_of entries.now)
         → string_bytes out.new ≡ string_bytes out.old ++ closing_table campaigns.now terms entries.now) }
 {
     push_rows(out, campaigns, book)?;
-    push_counts(out, awards, entries)?;
+    push_counts(out, award_count(entries), entries)?;
     Ok(())
 }

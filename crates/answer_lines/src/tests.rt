@@ -1,0 +1,142 @@
+//! The closing table of histories: no ask, an ask without a sale, and notices behind the last ask.
+use crate::push_table;
+use adx_units::{Id, Offer, OutOfMemory, Sequence, Units};
+use campaign_book::Book;
+use day_rules::{Ask, Entry};
+use deal_floor::Campaign;
+use std::alloc::Global;
+use std::process::Abort;
+use std::test::Fail;
+
+/// A bid of a table: its impression and its reason.
+type Bid = (u32, u16);
+
+/// An entry of a table: an ask of two impressions by the number of its first award and its bids, a notice by its
+/// award, or an expiry by its moment.
+#[derive(Clone, Copy)]
+enum Given {
+    Ask(u32, &'static [Bid]),
+    Win(u32),
+    Bill(u32),
+    Loss(u32),
+    Expire(u64),
+}
+
+/// Histories with the counts of their asks, awards and entries.
+const ROWS: [(&[Given], &str); 6] = [
+    (&[], "\"asks\":0,\"awards\":0,\"entries\":0"),
+    (
+        &[Given::Ask(0, &[(0, 3), (1, 100)])],
+        "\"asks\":1,\"awards\":0,\"entries\":1",
+    ),
+    (
+        &[Given::Ask(0, &[(0, 0), (0, 102), (1, 0)])],
+        "\"asks\":1,\"awards\":2,\"entries\":1",
+    ),
+    (
+        &[Given::Ask(0, &[(0, 0), (1, 0)]), Given::Ask(2, &[])],
+        "\"asks\":2,\"awards\":2,\"entries\":2",
+    ),
+    (
+        &[
+            Given::Ask(0, &[(1, 0)]),
+            Given::Win(0),
+            Given::Ask(1, &[(0, 102), (0, 0)]),
+            Given::Bill(0),
+            Given::Loss(1),
+        ],
+        "\"asks\":2,\"awards\":2,\"entries\":5",
+    ),
+    (
+        &[
+            Given::Ask(0, &[(0, 0)]),
+            Given::Ask(1, &[(0, 3)]),
+            Given::Expire(61),
+        ],
+        "\"asks\":2,\"awards\":1,\"entries\":3",
+    ),
+];
+
+/// A name of a table.
+fn name(alloc: Global, text: &str) -> Result<Id, OutOfMemory> {
+    Id::of(alloc, text)?.ok_or(OutOfMemory)
+}
+
+/// The offers of bids.
+fn offers(alloc: Global, bids: &[Bid]) -> Result<Vec<Offer>, OutOfMemory> {
+    let mut offers = Vec::new(alloc);
+    for (imp, reason) in bids.iter().copied() {
+        offers.push(Offer {
+            imp,
+            campaign: 0,
+            charge: Units(10),
+            life: 60,
+            reason,
+        })?;
+    }
+    Ok(offers)
+}
+
+/// An ask of two impressions.
+fn ask(alloc: Global, first: u32, bids: &[Bid]) -> Result<Ask, OutOfMemory> {
+    let mut imps = Vec::new(alloc);
+    imps.push(name(alloc, "1")?)?;
+    imps.push(name(alloc, "2")?)?;
+    Ok(Ask {
+        auction: name(alloc, "a")?,
+        digest: [0; 32],
+        now: 0,
+        first,
+        imps: Sequence::from(imps),
+        offers: Sequence::from(offers(alloc, bids)?),
+        kept: Sequence::from(Vec::new(alloc)),
+    })
+}
+
+/// The entry of a row.
+fn entry(alloc: Global, given: Given) -> Result<Entry, OutOfMemory> {
+    match given {
+        Given::Ask(first, bids) => Ok(Entry::Ask(ask(alloc, first, bids)?)),
+        Given::Win(award) => Ok(Entry::Win { award }),
+        Given::Bill(award) => Ok(Entry::Bill { award }),
+        Given::Loss(award) => Ok(Entry::Loss { award }),
+        Given::Expire(now) => Ok(Entry::Expire { now }),
+    }
+}
+
+/// The entries of a row.
+fn entries(alloc: Global, given: &[Given]) -> Result<Vec<Entry>, OutOfMemory> {
+    let mut entries = Vec::new(alloc);
+    for row in given {
+        entries.push(entry(alloc, *row)?)?;
+    }
+    Ok(entries)
+}
+
+/// The closing table of entries, with one campaign.
+fn table(alloc: Global, entries: &[Entry]) -> Result<String, OutOfMemory> {
+    let campaign = Campaign {
+        bidder: 0,
+        seat: name(alloc, "s")?,
+        cid: name(alloc, "c")?,
+        budget: Units(100),
+    };
+    let book = Book::new(alloc, &[Units(100)])?;
+    let mut out = String::new(alloc);
+    push_table(&mut out, &[campaign], &book, entries)?;
+    Ok(out)
+}
+
+#[test]
+fn tells_the_counts(rt: HostRuntime) -> Result<(), Fail> {
+    let alloc = rt.alloc();
+    for (given, counts) in ROWS {
+        let entries = entries(alloc, given)?;
+        let told = table(alloc, entries.as_slice())?;
+        let row =
+            "{\"seat\":\"s\",\"cid\":\"c\",\"budget\":100,\"reserved\":0,\"billed\":0,\"slab\":0}\n";
+        let want = format!(in alloc; "{row}{{{counts}}}\n")?;
+        assert_eq!(rt; told, want);
+    }
+    Ok(())
+}
