@@ -3,3 +3,4 @@ pub mod Chains
 pub mod Counts
 pub mod Joined
 pub mod Sold
+pub mod OfNoAsk
