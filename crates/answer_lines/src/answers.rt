@@ -33,8 +33,8 @@ fn push_day_full(out: &mut String, which: Which, count: u64) -> Result<(), OutOf
     push(out, "}")
 }
 
-/// Writes a digest in lower-case hexadecimal digits.
-fn push_digest(out: &mut String, digest: &[u8; 32]) -> Result<(), OutOfMemory>
+/// Writes a digest in lower-case hexadecimal digits, two for each byte (base 16 of RFC 4648, in lower case).
+pub fn push_digest(out: &mut String, digest: &[u8; 32]) -> Result<(), OutOfMemory>
     ensures { OnOk result (string_bytes out.new ≡ string_bytes out.old ++ encode_lower digest.now) }
 {
     let mut digits = [0; 64];

@@ -16,7 +16,7 @@ mod table;
 #[cfg(test)]
 mod tests;
 
-pub use answers::push_answer;
+pub use answers::{push_answer, push_digest};
 pub use at_hand::ask_at_hand;
 pub use faults::{Fault, push_fault};
 pub use table::push_table;
