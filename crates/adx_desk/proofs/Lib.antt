@@ -4,8 +4,10 @@ pub mod Keeping
 pub mod Serving
 pub mod Spelled
 pub mod Inside
+pub mod Sizes
 pub mod Asked
 pub mod Ending
+pub mod Rises
 pub mod OpenAwards
 pub mod Fronts
 pub mod ReadRecords

@@ -29,7 +29,7 @@ use Rattle.adx_desk.proofs.OpenAwards.{none_held}
 use Rattle.adx_desk.proofs.Records.{no_records}
 
 -- how many bytes a journal with these payloads has
-opened_one : (p : List ℕ) → length (opened (p ∷ [])) ≡ 9 + (length p + 5)
+pub opened_one : (p : List ℕ) → length (opened (p ∷ [])) ≡ 9 + (length p + 5)
 opened_one p = sym (place_after [] p 9 (length p + 5) refl refl)
 
 -- without payloads no entry is spelled

@@ -1,6 +1,6 @@
 -- What a call leaves, by its parts.
-use Rattle.std.proofs.Common.{◌≡◌, ◌⊎◌, inl, ℕ, ◌≤◌, List, [], ◌∷◌, ◌++◌, Option, Some, None, refl, sym, subst}
-use Rattle.std.specs.Prelude.{Result, Ok, Err}
+use Rattle.std.proofs.Common.{◌≡◌, ◌⊎◌, inl, ℕ, ◌≤◌, List, [], ◌∷◌, ◌++◌, Option, Some, None, refl, sym, ap, subst}
+use Rattle.std.specs.Prelude.{Result, Ok, Err, IfErr}
 use Rattle.adx_io.specs.Disks.{LeavesOnly}
 use Rattle.day_journal.specs.Faults.{greatest_size}
 use Rattle.day_journal.specs.Tails.{JournalState, Keeps}
@@ -23,9 +23,10 @@ module _ {D : Type 0} (may_leave : D → List ℕ → Type 0) (moment : D → �
       → MayFollow desk.terms.day desk.history e → Fits e → size_with desk e ≤ greatest_size
       → ((payloads : List (List ℕ)) (t : List ℕ) → Keeps (may_leave old) desk.journal payloads t → LeavesOnly moment left_since old new (WithOnePayload payloads t (entry_bytes e)))
       → ((payloads : List (List ℕ)) (t a : List ℕ) → Keeps (may_leave old) desk.journal payloads t → Keeps (may_leave new) journal (payloads ++ entry_bytes e ∷ []) a)
-      → Serves {T = T} may_leave moment left_since (record { desk = desk; disk = old }) (record { desk = record { terms = desk.terms; history = desk.history ++ e ∷ []; journal = journal; faults = faults }; disk = new }) (Some e) (Ok x)
+      → Serves {T = T} may_leave moment left_since (record { desk = desk; disk = old; since = 0 }) (record { desk = record { terms = desk.terms; history = desk.history ++ e ∷ []; journal = journal; faults = faults }; disk = new; since = 0 }) (Some e) (Ok x)
   serves_added {T} x desk old new journal faults e follows fits room run kept = record {
     terms = refl;
+    since = refl;
     history = refl;
     same = record {};
     any_moment = λ tail k. moments_pushed moment left_since old new (may_leave old) desk e tail follows fits room run k;
@@ -39,9 +40,10 @@ module _ {D : Type 0} (may_leave : D → List ℕ → Type 0) (moment : D → �
       → MayFollow desk.terms.day desk.history e → Fits e → size_with desk e ≤ greatest_size
       → ((payloads : List (List ℕ)) (t : List ℕ) → Keeps (may_leave old) desk.journal payloads t → LeavesOnly moment left_since old new (WithOnePayload payloads t (entry_bytes e)))
       → ((payloads : List (List ℕ)) (t : List ℕ) → Keeps (may_leave old) desk.journal payloads t → Keeps (may_leave new) journal payloads t ⊎ Keeps (may_leave new) journal payloads (entry_bytes e))
-      → Serves {T = T} may_leave moment left_since (record { desk = desk; disk = old }) (record { desk = after_fault desk journal faults; disk = new }) (Some e) (Err why)
+      → Serves {T = T} may_leave moment left_since (record { desk = desk; disk = old; since = 0 }) (record { desk = after_fault desk journal faults; disk = new; since = 0 }) (Some e) (Err why)
   serves_failed {T} why desk old new journal faults e follows fits room run kept = record {
     terms = refl;
+    since = refl;
     history = record {};
     same = refl;
     any_moment = λ tail k. moments_pushed moment left_since old new (may_leave old) desk e tail follows fits room run k;
@@ -55,6 +57,7 @@ module _ {D : Type 0} (may_leave : D → List ℕ → Type 0) (moment : D → �
       → Serves {T = T} may_leave moment left_since on on entry (Err why)
   serves_refused {T} why on entry now = record {
     terms = refl;
+    since = refl;
     history = record {};
     same = refl;
     any_moment = λ tail k. moments_same moment left_since on.disk (may_leave on.disk) on.desk tail (added_by entry) now k;
@@ -68,6 +71,7 @@ module _ {D : Type 0} (may_leave : D → List ℕ → Type 0) (moment : D → �
       → Serves {T = T} may_leave moment left_since on on None (Ok x)
   serves_nothing {T} x on now = record {
     terms = refl;
+    since = refl;
     history = refl;
     same = record {};
     any_moment = λ tail k. moments_same moment left_since on.disk (may_leave on.disk) on.desk tail [] now k;
@@ -82,11 +86,11 @@ module _ {D : Type 0} (may_leave : D → List ℕ → Type 0) (moment : D → �
       → MayFollow desk.terms.day desk.history e → Fits e → size_with desk e ≤ greatest_size
       → ((payloads : List (List ℕ)) (t : List ℕ) → Keeps (may_leave old) was payloads t → LeavesOnly moment left_since old new (WithOnePayload payloads t payload))
       → ((payloads : List (List ℕ)) (t a : List ℕ) → Keeps (may_leave old) was payloads t → Keeps (may_leave new) next.journal (payloads ++ payload ∷ []) a)
-      → Serves {T = T} may_leave moment left_since (record { desk = desk; disk = old }) (record { desk = next; disk = new }) (Some e) (Ok x)
+      → Serves {T = T} may_leave moment left_since (record { desk = desk; disk = old; since = 0 }) (record { desk = next; disk = new; since = 0 }) (Some e) (Ok x)
   added {T} x desk next was payload old new e journal bytes terms history follows fits room run kept =
       let run_on = along (λ (j : JournalState) (p : List ℕ). (payloads : List (List ℕ)) (t : List ℕ) → Keeps (may_leave old) j payloads t → LeavesOnly moment left_since old new (WithOnePayload payloads t p)) journal bytes run in
       let kept_on = along (λ (j : JournalState) (p : List ℕ). (payloads : List (List ℕ)) (t a : List ℕ) → Keeps (may_leave old) j payloads t → Keeps (may_leave new) next.journal (payloads ++ p ∷ []) a) journal bytes kept in
-      subst (λ (d : DeskState). Serves {T = T} may_leave moment left_since (record { desk = desk; disk = old }) (record { desk = d; disk = new }) (Some e) (Ok x))
+      subst (λ (d : DeskState). Serves {T = T} may_leave moment left_since (record { desk = desk; disk = old; since = 0 }) (record { desk = d; disk = new; since = 0 }) (Some e) (Ok x))
       (λ i. record { terms = sym terms i; history = sym history i; journal = next.journal; faults = next.faults })
       (serves_added x desk old new next.journal next.faults e follows fits room run_on kept_on)
 
@@ -95,11 +99,11 @@ module _ {D : Type 0} (may_leave : D → List ℕ → Type 0) (moment : D → �
       → MayFollow desk.terms.day desk.history e → Fits e → size_with desk e ≤ greatest_size
       → ((payloads : List (List ℕ)) (t : List ℕ) → Keeps (may_leave old) was payloads t → LeavesOnly moment left_since old new (WithOnePayload payloads t payload))
       → ((payloads : List (List ℕ)) (t : List ℕ) → Keeps (may_leave old) was payloads t → Keeps (may_leave new) next.journal payloads t ⊎ Keeps (may_leave new) next.journal payloads payload)
-      → Serves {T = T} may_leave moment left_since (record { desk = desk; disk = old }) (record { desk = next; disk = new }) (Some e) (Err why)
+      → Serves {T = T} may_leave moment left_since (record { desk = desk; disk = old; since = 0 }) (record { desk = next; disk = new; since = 0 }) (Some e) (Err why)
   failed {T} why desk next was payload old new e journal bytes terms history follows fits room run kept =
       let run_on = along (λ (j : JournalState) (p : List ℕ). (payloads : List (List ℕ)) (t : List ℕ) → Keeps (may_leave old) j payloads t → LeavesOnly moment left_since old new (WithOnePayload payloads t p)) journal bytes run in
       let kept_on = along (λ (j : JournalState) (p : List ℕ). (payloads : List (List ℕ)) (t : List ℕ) → Keeps (may_leave old) j payloads t → Keeps (may_leave new) next.journal payloads t ⊎ Keeps (may_leave new) next.journal payloads p) journal bytes kept in
-      subst (λ (d : DeskState). Serves {T = T} may_leave moment left_since (record { desk = desk; disk = old }) (record { desk = d; disk = new }) (Some e) (Err why))
+      subst (λ (d : DeskState). Serves {T = T} may_leave moment left_since (record { desk = desk; disk = old; since = 0 }) (record { desk = d; disk = new; since = 0 }) (Some e) (Err why))
       (λ i. record { terms = sym terms i; history = sym history i; journal = next.journal; faults = next.faults })
       (serves_failed why desk old new next.journal next.faults e follows fits room run_on kept_on)
 
@@ -125,6 +129,7 @@ module _ {D : Type 0} (may_leave : D → List ℕ → Type 0) (moment : D → �
   pub told_ok : {T U : Type 0} (x : T) (y : U) (old next : OnDisk D) (entry : Option Entry) → Serves {T = T} may_leave moment left_since old next entry (Ok x) → Serves {T = U} may_leave moment left_since old next entry (Ok y)
   told_ok {T} {U} x y old next entry s = record {
     terms = s.terms;
+    since = s.since;
     history = s.history;
     same = record {};
     any_moment = s.any_moment;
@@ -136,6 +141,7 @@ module _ {D : Type 0} (may_leave : D → List ℕ → Type 0) (moment : D → �
   pub told_err : {T U : Type 0} (why : DeskFault) (old next : OnDisk D) (entry : Option Entry) → Serves {T = T} may_leave moment left_since old next entry (Err why) → Serves {T = U} may_leave moment left_since old next entry (Err why)
   told_err {T} {U} why old next entry s = record {
     terms = s.terms;
+    since = s.since;
     history = record {};
     same = s.same;
     any_moment = s.any_moment;
@@ -143,3 +149,25 @@ module _ {D : Type 0} (may_leave : D → List ℕ → Type 0) (moment : D → �
     acknowledged = record {};
     doubted = s.doubted;
   }
+
+  -- whatever the disk's count was when the desk was opened
+  pub serves_since : {T : Type 0} (since : ℕ) (a b : DeskState) (old new : D) (entry : Option Entry) (r : Result T DeskFault)
+      → Serves {T = T} may_leave moment left_since (record { desk = a; disk = old; since = 0 }) (record { desk = b; disk = new; since = 0 }) entry r
+      → Serves {T = T} may_leave moment left_since (record { desk = a; disk = old; since = since }) (record { desk = b; disk = new; since = since }) entry r
+  serves_since {T} since a b old new entry r s = record {
+    terms = s.terms;
+    since = refl;
+    history = s.history;
+    same = s.same;
+    any_moment = s.any_moment;
+    done = s.done;
+    acknowledged = s.acknowledged;
+    doubted = s.doubted;
+  }
+
+-- a refusal, whatever the disk's count was when the desk was opened
+pub refused_since : {D T : Type 0} (since : ℕ) (a b : DeskState) (old new : D) (r : Result T DeskFault)
+    → IfErr r (λ e. (e ≡ DeskFault.DiskFault → ⊥) → ◌≡◌ {A = OnDisk D} (record { desk = b; disk = new; since = 0 }) (record { desk = a; disk = old; since = 0 }))
+    → IfErr r (λ e. (e ≡ DeskFault.DiskFault → ⊥) → ◌≡◌ {A = OnDisk D} (record { desk = b; disk = new; since = since }) (record { desk = a; disk = old; since = since }))
+refused_since since a b old new (Ok x) same = record {}
+refused_since {D} since a b old new (Err e) same = λ other. ap (λ (o : OnDisk D). record o { since = since }) (same other)

@@ -13,10 +13,11 @@ pub record DeskState : Type 0 where
   pub journal : JournalState
   pub faults : ℕ
 
--- a desk and its disk
+-- a desk and its disk, and what the disk's count was after the opening
 pub record OnDisk (D : Type 0) : Type 0 where
   pub desk : DeskState
   pub disk : D
+  pub since : ℕ
 
 -- the entries that a reply adds
 abbrev pub added_by : Option Entry → List Entry

@@ -1,5 +1,5 @@
 -- How the calls of a desk end, and why. This project's own.
-use Rattle.std.specs.Prelude.{◌≡◌, ℕ, ◌+◌, ◌<◌, ◌≤◌, min, [], ◌∷◌, ◌++◌, Option, Some, None, Result, Ok, Err}
+use Rattle.std.specs.Prelude.{◌≡◌, ◌⊎◌, ℕ, ◌+◌, ◌<◌, ◌≤◌, min, [], ◌∷◌, ◌++◌, Option, Some, None, Result, Ok, Err}
 use Rattle.adx_io.specs.Fakes.{counted}
 use Rattle.adx_io.specs.Streams.{Rises, last_count}
 use Rattle.day_journal.specs.Faults.{greatest_size}
@@ -33,6 +33,10 @@ pub record FailsDisk (before now : ℕ) (old new : DeskState) : Type 0 where
 pub record NoFault (before now : ℕ) (old new : DeskState) : Type 0 where
   pub disk : now ≡ before
   pub desk : new.faults ≡ old.faults
+
+-- so many faults are at most what the disk's count rose by since it was this, unless it stands at its last value
+abbrev pub IsWithinRise : (since faults now : ℕ) → Type 0
+IsWithinRise since faults now = (since + faults ≤ now) ⊎ (last_count ≤ now)
 
 -- How a notice or a tick ends, by the disk's count before and now: its only fault is the disk's.
 abbrev pub EndsNotice : {T : Type 0} → (before now : ℕ) (old new : DeskState) → Result T DeskFault → Type 0

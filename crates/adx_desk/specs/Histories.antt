@@ -1,13 +1,13 @@
 -- What a file stands for: the history whose entries its payloads spell. This project's own.
 use Rattle.std.specs.Prelude.{◌≡◌, ◌⊎◌, ℕ, ◌+◌, ◌≤◌, ◌<◌, List, [], ◌∷◌, ◌++◌, map, length, All}
-use Rattle.std.specs.List.{flat_map}
+use Rattle.std.specs.List.{flat_map, sum_by}
 use Rattle.day_journal.specs.Faults.{greatest_size}
 use Rattle.day_journal.specs.Places.{StandsFor, opened}
 use Rattle.day_rules.specs.declared.entry.Entry.{Entry}
 use Rattle.day_rules.specs.Legal.{IsLegal}
 use Rattle.day_rules.specs.Terms.{Terms}
 use Rattle.day_entries.specs.Spelling.{Fits, entry_bytes}
-use Rattle.adx_desk.specs.Held.{held}
+use Rattle.adx_desk.specs.Held.{held, record_size}
 
 -- what a desk was opened with: the terms of its day, and the digest of its roster
 pub record DeskTerms : Type 0 where
@@ -38,6 +38,11 @@ Spells digest payloads history =
 -- a journal of these payloads has room for what is held
 abbrev pub HasRoom : List (List ℕ) → List Entry → Type 0
 HasRoom payloads history = length (opened payloads) + 1 + held history ≤ greatest_size
+
+-- the longest that a journal of this history may be: its head, the roster's digest, a record for each entry, and the
+-- closed gate
+abbrev pub longest_size : DeskTerms → List Entry → ℕ
+longest_size terms history = length (opened (terms.digest ∷ [])) + 1 + sum_by record_size history
 
 -- the file stands for this history
 pub record IsHistoryOf (terms : DeskTerms) (file : List ℕ) (history : List Entry) : Type 0 where

@@ -12,6 +12,7 @@ use Rattle.adx_desk.specs.Desks.{DeskState, OnDisk}
 use Rattle.adx_desk.specs.declared.fault.DeskFault.{DeskFault}
 use Rattle.adx_desk.specs.Endings.{FailsDisk, NoFault, PassesJournal, size_with}
 use Rattle.adx_desk.specs.Held.{held, open_count}
+use Rattle.adx_desk.specs.Histories.{longest_size}
 
 -- a desk but for its disk, and what there is memory for
 pub record JournaledState : Type 0 where
@@ -22,15 +23,17 @@ pub record JournaledState : Type 0 where
 abbrev pub day_in : JournaledState → DayState
 day_in s = record { terms = s.desk.terms.day; history = s.desk.history; room = s.room }
 
--- it with a disk
+-- It with a disk. What the disk's count was is known to the desk alone.
 abbrev pub on_disk : {D : Type 0} → JournaledState → D → OnDisk D
-on_disk s disk = record { desk = s.desk; disk = disk }
+on_disk s disk = record { desk = s.desk; disk = disk; since = 0 }
 
--- the history is legal, its open awards are counted, and the journal has room for what is held
-pub record AreJournaled (day : DayState) (journal : JournalState) (open_awards : ℕ) : Type 0 where
+-- The history is legal, its open awards are counted, and the journal has room for what is held. It is no longer than
+-- that of a record for each entry behind the digest.
+pub record AreJournaled (day : DayState) (digest : List ℕ) (journal : JournalState) (open_awards : ℕ) : Type 0 where
   pub legal : IsLegal day.terms day.history
   pub open_are : open_awards ≡ open_count (awards_of day.history)
   pub room : size_of journal + held day.history ≤ greatest_size
+  pub short : size_of journal ≤ longest_size (record { day = day.terms; digest = digest }) day.history
 
 -- what is held beside the record of an entry: for an ask what is held behind it; the record of another entry takes of
 -- what is held already

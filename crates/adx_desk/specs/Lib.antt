@@ -5,7 +5,10 @@ pub mod Asked
 pub mod Endings
 pub mod Serving
 pub mod Journaled
+pub mod Fields
 pub mod Openings
 pub mod Loading
 pub mod Opened
 pub mod Rosters
+pub mod Lines
+pub mod Shared

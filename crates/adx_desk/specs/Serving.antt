@@ -9,8 +9,10 @@ use Rattle.adx_desk.specs.Histories.{WithAtMostOne}
 
 -- A call whose reply has that entry, if any. The tail is whatever record was in doubt before it.
 pub record Serves {D T : Type 0} (may_leave : D → List ℕ → Type 0) (moment : D → ℕ) (left_since : D → ℕ → List ℕ → Type 0) (old new : OnDisk D) (entry : Option Entry) (result : Result T DeskFault) : Type 0 where
-  -- a call that was done adds its entry, and a fault none
+  -- what the desk was opened with stays
   pub terms : new.desk.terms ≡ old.desk.terms
+  pub since : new.since ≡ old.since
+  -- a call that was done adds its entry, and a fault none
   pub history : OnOk result (new.desk.history ≡ with_entry old.desk.history entry)
   pub same : OnErr result (new.desk.history ≡ old.desk.history)
   -- a crash at any moment of the call leaves the history, or it and one record: the tail, or the call's

@@ -1,11 +1,14 @@
 //! The desk: a serving day whose history a journal keeps on a disk.
 ghost use Rattle.std.specs.Prelude.{◌≡◌, ◌≤◌, ◌<◌, ◌^◌, length, drop, IfOk, IfErr, OnOk, None};
+ghost use Rattle.day_journal.specs.Tails.{size_of};
 ghost use Rattle.day_rules.specs.Asks.{IsUndecided, IsWellFormed};
 ghost use Rattle.day_rules.specs.Books.{accounts_in, awards_of};
+ghost use Rattle.day_rules.specs.DayState.{IsDay};
 ghost use Rattle.day_rules.specs.Replies.{ask_reply, notice_reply, seen_in, tick_reply};
 ghost use Rattle.day_rules.specs.Terms.{budgets_after};
 ghost use Rattle.adx_desk.specs.Asked.{ask_for};
-ghost use Rattle.adx_desk.specs.Endings.{EndsAsk, EndsNotice};
+ghost use Rattle.adx_desk.specs.Histories.{longest_size};
+ghost use Rattle.adx_desk.specs.Endings.{EndsAsk, EndsNotice, IsWithinRise};
 ghost use Rattle.adx_desk.specs.Opened.{GivesUp, Opens};
 ghost use Rattle.adx_desk.specs.Openings.{HasDiskCause};
 ghost use Rattle.adx_desk.specs.Rosters.{desk_terms};
@@ -23,29 +26,30 @@ use deal_floor::Roster;
 use notice_book::NoticeKind;
 use std::alloc::Global;
 use std::marker::Model;
+use std::snapshot::Snapshot;
 
-/// A serving day, the journal of its history, and the disk that it is kept on. A contract sees a `DeskState` and the
-/// disk: what the desk was opened with, what happened, the open journal, and how many calls answered a fault of the
-/// disk.
+/// A serving day, the journal of its history, and the disk that it is kept on. A contract sees a `DeskState`, the disk,
+/// and what the disk's count was after the opening: what the desk was opened with, what happened, the open journal, and
+/// how many calls answered a fault of the disk.
 #[derive(Drop)]
-pub struct Desk<D> {
+pub struct Desk<D: Disk> {
     alloc: Global,
     kept: JournaledDay,
     asks: Frame,
     notices: Frame,
     disk: D,
+    opened: Snapshot<D>,
 }
 
-impl<D> Model for Desk<D> {
-    ghost use Rattle.std.specs.Prelude.{◌+◌, ◌≤◌, length};
+impl<D: Disk> Model for Desk<D> {
     ghost use Rattle.adx_desk.specs.Desks.{OnDisk};
-    ghost use Rattle.adx_desk.specs.declared.held.TheConstants.{NOTICE_ROOM};
+    ghost use Rattle.adx_desk.specs.Fields.{AreFields};
 
     ghost Value = { OnDisk D };
 
-    ghost view = { λ d. record { desk = d.kept.desk; disk = d.disk } };
+    ghost view = { λ d. record { desk = d.kept.desk; disk = d.disk; since = D.faults d.opened.value } };
 
-    ghost invariant = { λ d. NOTICE_ROOM ≤ d.notices.spare + length d.notices.payload };
+    ghost invariant = { λ d. AreFields d.notices (D.faults d.opened.value) d.kept.desk.faults (D.faults d.disk) };
 }
 
 impl<D: Disk> Desk<D> {
@@ -56,7 +60,9 @@ impl<D: Disk> Desk<D> {
     pub fn open(alloc: Global, disk: D, roster: &Roster) -> Result<Desk<D>, (DeskFault, D)>
         ensures opens { IfOk result (λ d. Opens D.reads D.may_leave D.moment D.left_since (desk_terms roster.entry.now) disk d.disk d.desk) }
         ensures gives_up { IfErr result (λ e. GivesUp D.reads D.may_leave D.moment D.left_since (desk_terms roster.entry.now) disk e.1 e.0) }
+        ensures legal { IfOk result (λ d. IsDay d.desk.terms.day d.desk.history) }
         ensures same_count { IfOk result (λ d. D.faults d.disk ≡ D.faults disk) }
+        ensures since { IfOk result (λ d. d.since ≡ D.faults d.disk) }
         ensures cause { IfErr result (λ e. HasDiskCause (D.faults disk) (D.faults e.1) e.0) }
         ensures lasts { IfOk result (λ d. D.lasts disk d.disk) }
         ensures lasts_back { IfErr result (λ e. D.lasts disk e.1) }
@@ -69,13 +75,17 @@ impl<D: Disk> Desk<D> {
                     asks,
                     notices,
                 },
-            ) => Ok(Desk {
-                alloc,
-                kept,
-                asks,
-                notices,
-                disk,
-            }),
+            ) => {
+                let opened = Snapshot::of(&disk);
+                Ok(Desk {
+                    alloc,
+                    kept,
+                    asks,
+                    notices,
+                    disk,
+                    opened,
+                })
+            }
             Err(fault) => Err((fault, disk)),
         }
     }
@@ -92,6 +102,7 @@ impl<D: Disk> Desk<D> {
         ensures ends { EndsAsk (D.faults self.old.disk) (D.faults self.new.disk) self.old.desk self.new.desk (ask_reply self.old.desk.terms.day self.old.desk.history ask).entry result }
         ensures unmoved { (ask_reply self.old.desk.terms.day self.old.desk.history ask).entry ≡ None → self.new ≡ self.old }
         ensures refused { IfErr result (λ e. (e ≡ Fault.DiskFault → ⊥) → self.new ≡ self.old) }
+        ensures size { size_of self.old.desk.journal ≤ longest_size self.old.desk.terms self.old.desk.history }
         ensures lasts { D.lasts self.old.disk self.new.disk }
     {
         self.kept
@@ -134,9 +145,12 @@ impl<D: Disk> Desk<D> {
         self.kept.day().seen(auction, digest)
     }
 
-    /// What happened so far.
+    /// What happened so far: a legal history, whatever the disk reads and whatever was called, which the journal has
+    /// in no more bytes than a record for each entry takes.
     pub fn entries(&self) -> &[Entry]
-        ensures { result.now ≡ self.now.desk.history }
+        ensures history { result.now ≡ self.now.desk.history }
+        ensures legal { IsDay self.now.desk.terms.day self.now.desk.history }
+        ensures size { size_of self.now.desk.journal ≤ longest_size self.now.desk.terms self.now.desk.history }
     {
         self.kept.day().entries()
     }
@@ -166,7 +180,8 @@ impl<D: Disk> Desk<D> {
     /// How many calls since opening answered a fault of the disk; it stands still at 2^64 - 1. Each of them raised the
     /// disk's own count.
     pub fn faults(&self) -> u64
-        ensures { result ≡ self.now.desk.faults }
+        ensures faults { result ≡ self.now.desk.faults }
+        ensures within { IsWithinRise self.now.since result (D.faults self.now.disk) }
     {
         self.kept.faults()
     }

@@ -14,6 +14,7 @@ ghost use Rattle.day_rules.specs.Replies.{ask_reply, notice_reply, tick_reply};
 ghost use Rattle.adx_desk.specs.Asked.{ask_for};
 ghost use Rattle.adx_desk.specs.Endings.{EndsAsk, EndsNotice, size_with};
 ghost use Rattle.adx_desk.specs.Held.{held, open_count};
+ghost use Rattle.adx_desk.specs.Histories.{longest_size};
 ghost use Rattle.adx_desk.specs.Journaled.{EndsRecord, beside, day_in, on_disk};
 ghost use Rattle.adx_desk.specs.Serving.{Serves};
 ghost use Rattle.adx_desk.specs.declared.fault.DeskFault.{DeskFault as Fault};
@@ -40,7 +41,7 @@ pub(crate) struct JournaledDay {
     day: Day,
     digest: [u8; 32],
     journal: Journal,
-    open: u64,
+    without_end: u64,
     faults: u64,
 }
 
@@ -59,7 +60,7 @@ impl Model for JournaledDay {
       room = d.day.room;
     } };
 
-    ghost invariant = { λ d. AreJournaled d.day d.journal d.open };
+    ghost invariant = { λ d. AreJournaled d.day d.digest d.journal d.without_end };
 }
 
 impl JournaledDay {
@@ -69,14 +70,15 @@ impl JournaledDay {
         digest: [u8; 32],
         journal: Journal,
     ) -> Result<JournaledDay, DeskFault>
-        requires { IsDay day.terms day.history }
+        requires legal { IsDay day.terms day.history }
+        requires short { min (size_of journal) last_count ≤ longest_size (record { day = day.terms; digest = digest }) day.history }
         ensures desk { IfOk result (λ d. d.desk ≡ record { terms = record { day = day.terms; digest = digest }; history = day.history; journal = journal; faults = 0 }) }
         ensures room { OnOk result (size_of journal + held day.history ≤ greatest_size) }
         ensures full { IfErr result (λ e. (greatest_size < size_of journal + held day.history)
             × (e ≡ Fault.JournalFull (min (size_of journal + held day.history) last_count))) }
     {
-        let open = open_awards(day.awards());
-        let size = journal.size().saturating_add(held_by(&day, open));
+        let without_end = open_awards(day.awards());
+        let size = journal.size().saturating_add(held_by(&day, without_end));
         if size > GREATEST_SIZE {
             return Err(DeskFault::JournalFull { size });
         }
@@ -84,14 +86,15 @@ impl JournaledDay {
             day,
             digest,
             journal,
-            open,
+            without_end,
             faults: 0,
         })
     }
 
     /// The day.
     pub(crate) fn day(&self) -> &Day
-        ensures { result.now ≡ day_in self.now }
+        ensures day { result.now ≡ day_in self.now }
+        ensures size { size_of self.now.desk.journal ≤ longest_size self.now.desk.terms self.now.desk.history }
     {
         &self.day
     }
@@ -117,7 +120,7 @@ impl JournaledDay {
     fn held(&self) -> u64
         ensures { result ≡ held self.now.desk.history }
     {
-        NOTICE_RECORD * self.day.to_come() + (EXPIRY_RECORD - NOTICE_RECORD) * self.open
+        NOTICE_RECORD * self.day.to_come() + (EXPIRY_RECORD - NOTICE_RECORD) * self.without_end
     }
 
     /// The bytes that are held beside the record of an entry. The record of an entry that is no ask takes of those
@@ -141,11 +144,11 @@ impl JournaledDay {
         ensures { result ≡ open_count (awards_of (self.now.desk.history ++ entry.entry.now ∷ [])) }
     {
         match entry {
-            Entry::Ask(ask) => self.open + sale_count(ask) as u64,
-            Entry::Win { .. } => self.open,
-            Entry::Bill { .. } => self.open - 1,
-            Entry::Loss { .. } => self.open - 1,
-            Entry::Expire { now } => self.open - u64::from(self.day.awards().due(*now)),
+            Entry::Ask(ask) => self.without_end + sale_count(ask) as u64,
+            Entry::Win { .. } => self.without_end,
+            Entry::Bill { .. } => self.without_end - 1,
+            Entry::Loss { .. } => self.without_end - 1,
+            Entry::Expire { now } => self.without_end - u64::from(self.day.awards().due(*now)),
         }
     }
 
@@ -167,11 +170,11 @@ impl JournaledDay {
         ensures lasts { D.lasts disk.old disk.new }
     {
         let held = self.held_beside(&entry);
-        let open = self.open_behind(&entry);
+        let without_end = self.open_behind(&entry);
         match self.journal.append(disk, frame, held) {
             Ok(()) => {
                 self.day.commit(entry);
-                self.open = open;
+                self.without_end = without_end;
                 Ok(())
             }
             Err(JournalFault::DiskFault) => {
@@ -342,6 +345,7 @@ impl JournaledDay {
         ensures ends { EndsAsk (D.faults disk.old) (D.faults disk.new) self.old.desk self.new.desk (ask_reply self.old.desk.terms.day self.old.desk.history ask).entry result }
         ensures unmoved { (ask_reply self.old.desk.terms.day self.old.desk.history ask).entry ≡ None → on_disk self.new disk.new ≡ on_disk self.old disk.old }
         ensures refused { IfErr result (λ e. (e ≡ Fault.DiskFault → ⊥) → on_disk self.new disk.new ≡ on_disk self.old disk.old) }
+        ensures size { size_of self.old.desk.journal ≤ longest_size self.old.desk.terms self.old.desk.history }
         ensures lasts { D.lasts disk.old disk.new }
     {
         let (answer, entry) = self.day.plan_ask(ask);

@@ -15,17 +15,23 @@ mod framing;
 mod held;
 mod journaled_day;
 mod laws;
+mod lines;
 mod loading;
 mod opening;
 mod parts;
 mod record_reading;
 mod roster_day;
+mod shared;
+mod turn;
 
 pub use desk::Desk;
 pub use done::Done;
 pub use fault::DeskFault;
 pub use held::{EXPIRY_RECORD, NOTICE_RECORD, RECORD_OVERHEAD};
 pub use laws::{one_history, refusals_exclude};
+pub use lines::{answer_line, fault_line, table_of};
+pub use shared::OpenedWith;
+pub use turn::{Call, Turn};
 
 #[cfg(test)]
 mod file_tests;

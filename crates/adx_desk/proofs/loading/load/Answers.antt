@@ -1,7 +1,8 @@
-use Rattle.std.proofs.Common.{List, ℕ, ◌∷◌, [], Err, sym, ◌∙◌, ap, subst}
+use Rattle.std.proofs.Common.{rules, arith, ◌≡◌, List, ℕ, ◌∷◌, [], length, Err, sym, ◌∙◌, ap, subst}
 use Rattle.day_journal.specs.Openings.{StandsBehind}
 use Rattle.adx_desk.specs.Histories.{DeskTerms}
 use Rattle.adx_desk.specs.Openings.{RefusesDesk}
+use Rattle.adx_desk.proofs.OpenedDays.{opened_one}
 use Rattle.adx_desk.proofs.ReadRecords.{digest_read, first_refused, other_first}
 use Rattle.adx_desk.proofs.loading.load.Goals as goal
 
@@ -11,6 +12,26 @@ returns-in-Ok-read_records-clause-read g c file told behind =
     let digest = c.args.digest.now in
     c.in-Ok-read_records.ensures.read digest file (c.next_into.ensures.only_reads.same ∙ told)
     (digest_read digest c.next_into.new.payload.items file c.next_into.new.self c.args.day.now.history (sym c.as_slice.ensures.value ∙ c.in-Ok.ensures.same) c.requires.empty (found file [] told behind))
+
+pub returns-in-Ok-read_records-clause-bytes : goal.returns-in-Ok-read_records-clause-bytes
+returns-in-Ok-read_records-clause-bytes g c = omega (arith, c.in-Ok-read_records.ensures.bytes)
+
+pub returns-in-Ok-read_records-clause-counted : goal.returns-in-Ok-read_records-clause-counted
+returns-in-Ok-read_records-clause-counted g c file told behind =
+    let found = rw c.in-Ok-true.field-0-test at c.in-Ok-true.ensures.found in
+    let digest = c.args.digest.now in
+    let first = c.next_into.new.payload.items in
+    let same = sym c.as_slice.ensures.value ∙ c.in-Ok.ensures.same in
+    let short : length digest ≡ 32 = first_of (omega arith, search rules) in
+    let here = found file [] told behind in
+    omega (
+      arith,
+      short,
+      ap length same,
+      here.place,
+      opened_one first,
+      c.in-Ok-read_records.ensures.counted digest file (c.next_into.ensures.only_reads.same ∙ told) (digest_read digest first file c.next_into.new.self c.args.day.now.history same c.requires.empty here),
+    )
 
 pub returns-in-Ok-clause-refused : goal.returns-in-Ok-clause-refused
 returns-in-Ok-clause-refused g c file told behind =

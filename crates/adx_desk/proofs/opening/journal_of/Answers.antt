@@ -4,25 +4,36 @@ use Rattle.adx_io.specs.Disks.{LeavesOnly}
 use Rattle.day_journal.specs.Places.{StandsFor}
 use Rattle.day_journal.specs.Tails.{Keeps}
 use Rattle.adx_desk.specs.Histories.{DeskTerms}
-use Rattle.adx_desk.proofs.Beginnings.{begin_moments, has_begun, still_durable}
+use Rattle.adx_desk.proofs.Beginnings.{begin_moments, has_begun, has_opened, still_durable}
 use Rattle.adx_desk.proofs.opening.journal_of.Goals as goal
 
 pub returns-in-Ok-clause-opened : goal.returns-in-Ok-clause-opened
 returns-in-Ok-clause-opened g c file told behind durable =
     let D = g.D.Disk in
-    let read = rw c.in-Ok-false.field-0-test at c.in-Ok-false.ensures.read in
+    let read = rw c.in-Ok-Some.field-0-is at c.in-Ok-Some.ensures.read in
+    let all = read file told behind in
+    let mid = c.load.new.disk in
+    let only = c.load.ensures.only_reads in
+    let still = still_durable D.reads D.may_leave D.moment D.left_since c.args.disk.now mid only durable in
+    has_opened c.args.digest.now file (D.reads mid) (D.may_leave mid) c.load.new.opening c.in-Ok.journal c.load.new.day.history all (only.same ∙ told)
+    (λ tail. c.in-Ok.ensures.kept file (c.args.digest.now ∷ all.read.rest) tail (only.same ∙ told) all.read.behind still)
+
+pub returns-in-Ok-begin-clause-opened : goal.returns-in-Ok-begin-clause-opened
+returns-in-Ok-begin-clause-opened g c file told behind durable =
+    let D = g.D.Disk in
+    let read = rw c.in-Ok-None.field-0-is at c.in-Ok-None.ensures.read in
     let both = read file told behind in
     let new = c.begin.new.disk in
     let only = c.load.ensures.only_reads in
     let still = still_durable D.reads D.may_leave D.moment D.left_since c.args.disk.now c.load.new.disk only durable in
-    has_begun c.args.digest.now file (D.reads new) (D.may_leave new) c.in-Ok.journal c.load.new.day.history both.1 both.2
-    (λ tail. subst (λ (p : List ℕ). Keeps (D.may_leave new) c.in-Ok.journal (p ∷ []) tail) c.requires.first (c.in-Ok.ensures.kept file (only.same ∙ told) both.0 still tail))
+    has_begun c.args.digest.now file (D.reads new) (D.may_leave new) c.in-Ok-begin.journal c.load.new.day.history both.1 both.2
+    (λ tail. subst (λ (p : List ℕ). Keeps (D.may_leave new) c.in-Ok-begin.journal (p ∷ []) tail) c.requires.first (c.in-Ok-begin.ensures.kept file (only.same ∙ told) both.0 still tail))
 
-pub returns-in-Ok-clause-any_moment : goal.returns-in-Ok-clause-any_moment
-returns-in-Ok-clause-any_moment g c file told behind durable =
+pub returns-in-Ok-begin-clause-any_moment : goal.returns-in-Ok-begin-clause-any_moment
+returns-in-Ok-begin-clause-any_moment g c file told behind durable =
     let D = g.D.Disk in
     let terms : DeskTerms = record { day = c.args.day.now.terms; digest = c.args.digest.now } in
-    let read = rw c.in-Ok-false.field-0-test at c.in-Ok-false.ensures.read in
+    let read = rw c.in-Ok-None.field-0-is at c.in-Ok-None.ensures.read in
     let both = read file told behind in
     let mid = c.load.new.disk in
     let new = c.begin.new.disk in
@@ -35,7 +46,7 @@ pub returns-in-Err-begin-clause-any_moment : goal.returns-in-Err-begin-clause-an
 returns-in-Err-begin-clause-any_moment g c file told behind durable =
     let D = g.D.Disk in
     let terms : DeskTerms = record { day = c.args.day.now.terms; digest = c.args.digest.now } in
-    let read = rw c.in-Ok-false.field-0-test at c.in-Ok-false.ensures.read in
+    let read = rw c.in-Ok-None.field-0-is at c.in-Ok-None.ensures.read in
     let both = read file told behind in
     let mid = c.load.new.disk in
     let new = c.begin.new.disk in

@@ -20,7 +20,7 @@ returns-in-Ok-clause-copy g c = subst (λ (o : Option Ask). IfOk c.append_as.res
 pub returns-in-Ok-clause-serves : goal.returns-in-Ok-clause-serves
 returns-in-Ok-clause-serves g c =
     let D = g.D.Disk in
-    subst (λ (d : DeskState). Serves D.may_leave D.moment D.left_since (record { desk = d; disk = c.args.disk.now }) (on_disk c.append_as.new.self c.append_as.new.disk) (Some c.args.entry) c.append_as.result) c.make_room.ensures.desk c.append_as.ensures.serves
+    subst (λ (d : DeskState). Serves D.may_leave D.moment D.left_since (record { desk = d; disk = c.args.disk.now; since = 0 }) (on_disk c.append_as.new.self c.append_as.new.disk) (Some c.args.entry) c.append_as.result) c.make_room.ensures.desk c.append_as.ensures.serves
 
 pub returns-in-Ok-clause-ends : goal.returns-in-Ok-clause-ends
 returns-in-Ok-clause-ends g c =
@@ -29,16 +29,16 @@ returns-in-Ok-clause-ends g c =
 
 pub returns-in-Ok-clause-refused : goal.returns-in-Ok-clause-refused
 returns-in-Ok-clause-refused g c =
-    subst (λ (d : DeskState). IfErr c.append_as.result (λ e. (e ≡ DeskFault.DiskFault → ⊥) → on_disk c.append_as.new.self c.append_as.new.disk ≡ record { desk = d; disk = c.args.disk.now })) c.make_room.ensures.desk c.append_as.ensures.refused
+    subst (λ (d : DeskState). IfErr c.append_as.result (λ e. (e ≡ DeskFault.DiskFault → ⊥) → on_disk c.append_as.new.self c.append_as.new.disk ≡ record { desk = d; disk = c.args.disk.now; since = 0 })) c.make_room.ensures.desk c.append_as.ensures.refused
 
 pub returns-in-Err-clause-serves : goal.returns-in-Err-clause-serves
 returns-in-Err-clause-serves g c =
     let D = g.D.Disk in
     refused D.may_leave D.moment D.left_since DeskFault.OutOfMemory (on_disk c.args.self.now c.args.disk.now) (on_disk c.make_room.new.self c.args.disk.now) (Some c.args.entry)
-    (λ i. record { desk = c.make_room.ensures.desk i; disk = c.args.disk.now }) (g.met.D.Disk.only_now c.args.disk.now)
+    (λ i. record { desk = c.make_room.ensures.desk i; disk = c.args.disk.now; since = 0 }) (g.met.D.Disk.only_now c.args.disk.now)
 
 pub returns-in-Err-clause-ends : goal.returns-in-Err-clause-ends
 returns-in-Err-clause-ends g c = record { disk = λ i. g.D.Disk.faults c.args.disk.now; desk = ap (λ (d : DeskState). d.faults) c.make_room.ensures.desk }
 
 pub returns-in-Err-clause-refused : goal.returns-in-Err-clause-refused
-returns-in-Err-clause-refused g c = λ other i. record { desk = c.make_room.ensures.desk i; disk = c.args.disk.now }
+returns-in-Err-clause-refused g c = λ other i. record { desk = c.make_room.ensures.desk i; disk = c.args.disk.now; since = 0 }

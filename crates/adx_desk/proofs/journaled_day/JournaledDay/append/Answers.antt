@@ -34,21 +34,21 @@ pub invariant_of-self : goal.invariant_of-self
 invariant_of-self g c =
     let s : JournaledState = c.args.self.now in
     let e : Entry = c.args.entry in
-    let k = known c.self.inside.day c.self.inside.digest c.self.inside.journal c.self.inside.faults c.self.inside.open s c.self.invariant c.self.view_is in
+    let k = known c.self.inside.day c.self.inside.digest c.self.inside.journal c.self.inside.faults c.self.inside.without_end s c.self.invariant c.self.view_is in
     let journal : c.self.inside.journal ≡ s.desk.journal = ap (λ (t : JournaledState). t.desk.journal) c.self.view_is in
     let room : size_with s.desk e ≤ greatest_size =
     fits_with s.desk e c.requires.follows k.room (subst (λ (n : ℕ). n ≤ greatest_size) (sizes _ _ _ _ _ _ journal c.requires.payload c.held_beside-held.ensures) c.in-Ok.ensures.ends.0) in
-    journaled_pushed c.self.inside.day c.commit.new.self c.self.inside.journal c.append.new.self s.desk c.open_behind-open.result c.args.frame.now.payload e
-    c.commit.ensures.terms c.commit.ensures.history c.self.invariant.legal
+    journaled_pushed c.self.inside.day c.commit.new.self c.self.inside.digest c.self.inside.journal c.append.new.self s.desk c.self.inside.without_end c.open_behind-without_end.result c.args.frame.now.payload e
+    c.commit.ensures.terms c.commit.ensures.history c.self.invariant
     (subst (λ (t : JournaledState). MayFollow t.desk.terms.day t.desk.history e) (sym c.self.view_is) c.requires.follows)
-    journal (ap (λ (t : JournaledState). t.desk.history) c.self.view_is) c.requires.payload c.in-Ok.ensures.grown room c.open_behind-open.ensures
+    journal (ap (λ (t : JournaledState). t.desk.history) c.self.view_is) c.requires.payload c.in-Ok.ensures.grown room c.open_behind-without_end.ensures
 
 pub returns-in-Ok-clause-serves : goal.returns-in-Ok-clause-serves
 returns-in-Ok-clause-serves g c =
     let D = g.D.Disk in
     let s : JournaledState = c.args.self.now in
     let e : Entry = c.args.entry in
-    let k = known c.self.inside.day c.self.inside.digest c.self.inside.journal c.self.inside.faults c.self.inside.open s c.self.invariant c.self.view_is in
+    let k = known c.self.inside.day c.self.inside.digest c.self.inside.journal c.self.inside.faults c.self.inside.without_end s c.self.invariant c.self.view_is in
     let journal : c.self.inside.journal ≡ s.desk.journal = ap (λ (t : JournaledState). t.desk.journal) c.self.view_is in
     let room : size_with s.desk e ≤ greatest_size =
     fits_with s.desk e c.requires.follows k.room (subst (λ (n : ℕ). n ≤ greatest_size) (sizes _ _ _ _ _ _ journal c.requires.payload c.held_beside-held.ensures) c.in-Ok.ensures.ends.0) in
@@ -68,7 +68,7 @@ pub returns-in-Ok-clause-ends : goal.returns-in-Ok-clause-ends
 returns-in-Ok-clause-ends g c =
     let s : JournaledState = c.args.self.now in
     let e : Entry = c.args.entry in
-    let k = known c.self.inside.day c.self.inside.digest c.self.inside.journal c.self.inside.faults c.self.inside.open s c.self.invariant c.self.view_is in
+    let k = known c.self.inside.day c.self.inside.digest c.self.inside.journal c.self.inside.faults c.self.inside.without_end s c.self.invariant c.self.view_is in
     let journal : c.self.inside.journal ≡ s.desk.journal = ap (λ (t : JournaledState). t.desk.journal) c.self.view_is in (
       fits_with s.desk e c.requires.follows k.room (subst (λ (n : ℕ). n ≤ greatest_size) (sizes _ _ _ _ _ _ journal c.requires.payload c.held_beside-held.ensures) c.in-Ok.ensures.ends.0),
       record { disk = c.in-Ok.ensures.ends.1; desk = ap (λ (t : JournaledState). t.desk.faults) c.self.view_is },
@@ -79,7 +79,7 @@ returns-in-Err-DiskFault-clause-serves g c =
     let D = g.D.Disk in
     let s : JournaledState = c.args.self.now in
     let e : Entry = c.args.entry in
-    let k = known c.self.inside.day c.self.inside.digest c.self.inside.journal c.self.inside.faults c.self.inside.open s c.self.invariant c.self.view_is in
+    let k = known c.self.inside.day c.self.inside.digest c.self.inside.journal c.self.inside.faults c.self.inside.without_end s c.self.invariant c.self.view_is in
     let journal : c.self.inside.journal ≡ s.desk.journal = ap (λ (t : JournaledState). t.desk.journal) c.self.view_is in
     let ends = rw c.in-Err-DiskFault.field-0-is at c.in-Err-DiskFault.ensures.ends in
     let room : size_with s.desk e ≤ greatest_size =
@@ -98,7 +98,7 @@ pub returns-in-Err-DiskFault-clause-ends : goal.returns-in-Err-DiskFault-clause-
 returns-in-Err-DiskFault-clause-ends g c =
     let s : JournaledState = c.args.self.now in
     let e : Entry = c.args.entry in
-    let k = known c.self.inside.day c.self.inside.digest c.self.inside.journal c.self.inside.faults c.self.inside.open s c.self.invariant c.self.view_is in
+    let k = known c.self.inside.day c.self.inside.digest c.self.inside.journal c.self.inside.faults c.self.inside.without_end s c.self.invariant c.self.view_is in
     let journal : c.self.inside.journal ≡ s.desk.journal = ap (λ (t : JournaledState). t.desk.journal) c.self.view_is in
     let ends = rw c.in-Err-DiskFault.field-0-is at c.in-Err-DiskFault.ensures.ends in (
       fits_with s.desk e c.requires.follows k.room (subst (λ (n : ℕ). n ≤ greatest_size) (sizes _ _ _ _ _ _ journal c.requires.payload c.held_beside-held.ensures) ends.0),
@@ -113,7 +113,7 @@ pub returns-in-Err-Full-clause-ends : goal.returns-in-Err-Full-clause-ends
 returns-in-Err-Full-clause-ends g c =
     let s : JournaledState = c.args.self.now in
     let e : Entry = c.args.entry in
-    let k = known c.self.inside.day c.self.inside.digest c.self.inside.journal c.self.inside.faults c.self.inside.open s c.self.invariant c.self.view_is in
+    let k = known c.self.inside.day c.self.inside.digest c.self.inside.journal c.self.inside.faults c.self.inside.without_end s c.self.invariant c.self.view_is in
     let journal : c.self.inside.journal ≡ s.desk.journal = ap (λ (t : JournaledState). t.desk.journal) c.self.view_is in
     let ends = rw c.in-Err-Full.field-0-is at c.in-Err-Full.ensures.ends in
     let told : size_after c.self.inside.journal c.args.frame.now.payload c.held_beside-held.result ≡ size_after s.desk.journal (entry_bytes e) (beside s.desk.history e) =
@@ -137,17 +137,17 @@ returns-in-Err-Full-clause-serves g c =
     let before : DeskState = record next { journal = c.self.inside.journal } in
     let first : next ≡ before = ap (λ (j : JournalState). record next { journal = j }) both.0 in
     let same : next ≡ s.desk = first ∙ ap (λ (t : JournaledState). t.desk) c.self.view_is in
-    refused D.may_leave D.moment D.left_since _ (on_disk s c.args.disk.now) (record { desk = next; disk = c.append.new.disk }) (Some c.args.entry)
-    (λ i. record { desk = same i; disk = both.1 i }) (g.met.D.Disk.only_now c.args.disk.now)
+    refused D.may_leave D.moment D.left_since _ (on_disk s c.args.disk.now) (record { desk = next; disk = c.append.new.disk; since = 0 }) (Some c.args.entry)
+    (λ i. record { desk = same i; disk = both.1 i; since = 0 }) (g.met.D.Disk.only_now c.args.disk.now)
 
 pub returns-in-Ok-clause-always : goal.returns-in-Ok-clause-always
 returns-in-Ok-clause-always g c = λ none.
-    notice_fits c.args.self.now.desk c.args.entry c.requires.follows none (known c.self.inside.day c.self.inside.digest c.self.inside.journal c.self.inside.faults c.self.inside.open c.args.self.now c.self.invariant c.self.view_is).room
+    notice_fits c.args.self.now.desk c.args.entry c.requires.follows none (known c.self.inside.day c.self.inside.digest c.self.inside.journal c.self.inside.faults c.self.inside.without_end c.args.self.now c.self.invariant c.self.view_is).room
 
 pub returns-in-Err-DiskFault-clause-always : goal.returns-in-Err-DiskFault-clause-always
 returns-in-Err-DiskFault-clause-always g c = λ none.
-    notice_fits c.args.self.now.desk c.args.entry c.requires.follows none (known c.self.inside.day c.self.inside.digest c.self.inside.journal c.self.inside.faults c.self.inside.open c.args.self.now c.self.invariant c.self.view_is).room
+    notice_fits c.args.self.now.desk c.args.entry c.requires.follows none (known c.self.inside.day c.self.inside.digest c.self.inside.journal c.self.inside.faults c.self.inside.without_end c.args.self.now c.self.invariant c.self.view_is).room
 
 pub returns-in-Err-Full-clause-always : goal.returns-in-Err-Full-clause-always
 returns-in-Err-Full-clause-always g c = λ none.
-    notice_fits c.args.self.now.desk c.args.entry c.requires.follows none (known c.self.inside.day c.self.inside.digest c.self.inside.journal c.self.inside.faults c.self.inside.open c.args.self.now c.self.invariant c.self.view_is).room
+    notice_fits c.args.self.now.desk c.args.entry c.requires.follows none (known c.self.inside.day c.self.inside.digest c.self.inside.journal c.self.inside.faults c.self.inside.without_end c.args.self.now c.self.invariant c.self.view_is).room

@@ -13,6 +13,7 @@ use Rattle.adx_desk.specs.Asked.{ask_for}
 use Rattle.adx_desk.specs.Endings.{EndsAsk}
 use Rattle.adx_desk.specs.Journaled.{JournaledState, on_disk}
 use Rattle.adx_desk.specs.Serving.{Serves}
+use Rattle.adx_desk.proofs.Inside.{known}
 use Rattle.adx_desk.proofs.Asked.{for_some, reply_speaks}
 use Rattle.adx_desk.proofs.Serving.{untouched}
 use Rattle.adx_desk.proofs.journaled_day.JournaledDay.ask.Goals as goal
@@ -59,3 +60,9 @@ pub returns-after-copy_for-clause-serves : goal.returns-after-copy_for-clause-se
 returns-after-copy_for-clause-serves g c =
     let D = g.D.Disk in
     untouched D.may_leave D.moment D.left_since _ (on_disk c.args.self.now c.args.disk.now) _ (sym (c.plan_ask-answer.ensures.entry ∙ ap (λ (t : JournaledState). (ask_reply t.desk.terms.day t.desk.history c.args.ask).entry) c.self.view_is) ∙ c.in-None.is) (g.met.D.Disk.only_now c.args.disk.now)
+
+pub returns-in-Some-clause-size : goal.returns-in-Some-clause-size
+returns-in-Some-clause-size g c = (known c.self.inside.day c.self.inside.digest c.self.inside.journal c.self.inside.faults c.self.inside.without_end c.args.self.now c.self.invariant c.self.view_is).short
+
+pub returns-after-copy_for-clause-size : goal.returns-after-copy_for-clause-size
+returns-after-copy_for-clause-size g c = (known c.self.inside.day c.self.inside.digest c.self.inside.journal c.self.inside.faults c.self.inside.without_end c.args.self.now c.self.invariant c.self.view_is).short
