@@ -1,58 +1,62 @@
 -- How a line is answered, by what it means.
-use Rattle.std.proofs.Common.{◌≡◌, ◌<◌, ◌≤◌, inl, ℕ, List, [], ◌∷◌, ◌++◌, length, Bool, true, false, refl, sym, ap, ◌∙◌, subst, arith, append-nil, if◌then◌else◌}
+use Rattle.std.proofs.Common.{◌≡◌, ◌<◌, ◌≤◌, inl, inr, ℕ, List, [], ◌∷◌, ◌++◌, length, get_or, Bool, true, false, refl, sym, ap, ◌∙◌, subst, arith, append-nil, if◌then◌else◌}
 use Rattle.std.proofs.lemmas.Bool.{le-ltb, lt-ltb}
-use Rattle.std.proofs.lemmas.List.Elements.{All-nil, All-cons}
 use Rattle.std.proofs.lemmas.List.{length-map}
 use Rattle.adx_io.specs.Lines.{Keeps}
-use Rattle.day_rules.specs.declared.entry.Entry.{Entry}
-use Rattle.day_rules.specs.Replies.{Call, reply, with_entry}
-use Rattle.day_rules.specs.Runs.{Turn, IsCall, done, after_turn}
+use Rattle.adx_desk.specs.Desks.{OnDisk}
+use Rattle.day_rules.specs.Replies.{Call}
 use Rattle.day_rules.specs.Terms.{Terms}
 use Rattle.adx.specs.declared.limits.TheConstants.{LINE_LIMIT}
 use Rattle.deal_floor.specs.declared.roster.Roster.{Roster}
 use Rattle.deal_floor.specs.declared.campaign.Campaign.{Campaign}
 use Rattle.script_lines.specs.Meanings.{calls, refused}
 use Rattle.script_lines.specs.declared.refusal.Refusal.{Refusal}
-use Rattle.adx.specs.Output.{told_line, refusal_line}
-use Rattle.adx.specs.Running.{AnswersTo}
+use Rattle.adx.specs.Answering.{AnswersCall, AnswersTo, LeavesCall, LeavesUnwritten}
+use Rattle.adx.specs.Meanings.{Told, call_answer}
+use Rattle.adx.specs.Output.{refusal_line, writing}
 use Rattle.adx.specs.Script.{Means, terms_by, cut_line}
 
--- a call was done, and its answer written from the history that it left
-pub call_answered : (roster : Roster) (terms : Terms) (history : List Entry) (number : ℕ) (line : List ℕ) (c : Call) (old new : List ℕ) (next : List Entry)
-    → terms ≡ terms_by roster → Means roster line (calls c) → IsCall (length (terms_by roster).budgets) c → next ≡ with_entry history (reply terms history c).entry → new ≡ old ++ told_line roster.campaigns next (reply terms history c).answer
-    → AnswersTo roster history number line old new next
-call_answered roster terms history number line c old new next opened means taken entry answer =
-    let t : Turn = record { call = c; outcome = done } in
-    let left : next ≡ after_turn (terms_by roster) history t = entry ∙ ap (λ (x : Terms). with_entry history (reply x history c).entry) opened in record {
-      turns = t ∷ [];
-      out = told_line roster.campaigns next (reply terms history c).answer;
-      answered = record {
-        meaning = calls c;
-        means = means;
-        answered = (
-          t,
-          refl,
-          refl,
-          inl (refl, ap (λ (h : List Entry). told_line roster.campaigns h (reply terms history c).answer) left ∙ ap (λ (x : Terms). told_line roster.campaigns (after_turn (terms_by roster) history t) (reply x history c).answer) opened),
-        );
-      };
-      done = All-cons (λ (u : Turn). u.outcome ≡ done) t [] refl (All-nil (λ (u : Turn). u.outcome ≡ done));
-      taken = All-cons (λ (u : Turn). IsCall (length (terms_by roster).budgets) u.call) t [] taken (All-nil (λ (u : Turn). IsCall (length (terms_by roster).budgets) u.call));
-      written = answer;
-      left = left;
-    }
+-- the call of a line was answered, and its line written
+pub call_answered : {D : Type 0} (faults : D → ℕ) (may_leave : D → List ℕ → Type 0) (moment : D → ℕ) (left_since : D → ℕ → List ℕ → Type 0) (roster : Roster) (old new : OnDisk D) (number : ℕ) (IsKept : List ℕ → Type 0) (c : Call) (out_old out_new : List ℕ)
+    → old.desk.terms.day ≡ terms_by roster → ((line : List ℕ) → IsKept line → Means roster line (calls c))
+    → AnswersCall faults may_leave moment left_since roster.campaigns old new c out_old out_new
+    → AnswersTo faults may_leave moment left_since roster old new number IsKept out_old out_new
+call_answered faults may_leave moment left_since roster old new number IsKept c out_old out_new opened means a = record {
+  told = a.told ∷ [];
+  out = call_answer (writing roster.campaigns) old.desk.terms.day old.desk.history a.told;
+  serves = a.serves;
+  answered = λ line kept. record {
+    meaning = calls c;
+    means = means line kept;
+    answered = (a.told, a.same, refl, ap (λ (x : Terms). call_answer (writing roster.campaigns) x old.desk.history a.told) opened);
+  };
+  written = a.written;
+}
 
--- a line that is refused makes no turn
-pub line_refused : (roster : Roster) (history : List Entry) (number : ℕ) (line old new : List ℕ) (why : Refusal)
-    → Means roster line (refused why) → new ≡ old ++ refusal_line number why → AnswersTo roster history number line old new history
-line_refused roster history number line old new why means written = record {
-  turns = [];
+-- memory was refused for it
+pub call_unwritten : {D : Type 0} (faults : D → ℕ) (may_leave : D → List ℕ → Type 0) (moment : D → ℕ) (left_since : D → ℕ → List ℕ → Type 0) (roster : Roster) (old new : OnDisk D) (IsKept : List ℕ → Type 0) (c : Call)
+    → ((line : List ℕ) → IsKept line → Means roster line (calls c)) → LeavesCall faults may_leave moment left_since old new c → LeavesUnwritten faults may_leave moment left_since roster old new IsKept
+call_unwritten faults may_leave moment left_since roster old new IsKept c means (inl same) = record {
+  told = [];
+  serves = same;
+  means = λ t is line kept. absurd (cc is);
+}
+call_unwritten faults may_leave moment left_since roster old new IsKept c means (inr (told, is_call, serves)) = record {
+  told = told ∷ [];
+  serves = serves;
+  means = λ t is line kept. subst (λ k. Means roster line (calls k)) (sym is_call ∙ ap (λ (l : List Told). (get_or l 0 told).call) is) (means line kept);
+}
+
+-- a line that is refused is no call
+pub line_refused : {D : Type 0} (faults : D → ℕ) (may_leave : D → List ℕ → Type 0) (moment : D → ℕ) (left_since : D → ℕ → List ℕ → Type 0) (roster : Roster) (desk : OnDisk D) (number : ℕ) (IsKept : List ℕ → Type 0) (out_old out_new : List ℕ) (why : Refusal)
+    → ((line : List ℕ) → IsKept line → Means roster line (refused why)) → out_new ≡ out_old ++ refusal_line number why
+    → AnswersTo faults may_leave moment left_since roster desk desk number IsKept out_old out_new
+line_refused faults may_leave moment left_since roster desk number IsKept out_old out_new why means written = record {
+  told = [];
   out = refusal_line number why;
-  answered = record { meaning = refused why; means = means; answered = (refl, refl) };
-  done = All-nil (λ (u : Turn). u.outcome ≡ done);
-  taken = All-nil (λ (u : Turn). IsCall (length (terms_by roster).budgets) u.call);
+  serves = refl;
+  answered = λ line kept. record { meaning = refused why; means = means line kept; answered = (refl, refl) };
   written = written;
-  left = refl;
 }
 
 -- as many budgets as campaigns
@@ -75,6 +79,30 @@ kept_short limit false kept line short keeps = subst (λ l. length l ≤ limit) 
 pub line_short : (limit : ℕ) (overlong : Bool) (kept line : List ℕ) → overlong ≡ false → Keeps limit overlong kept line → length line ≤ limit
 line_short limit true kept line short keeps = absurd (cc short)
 line_short limit false kept line short keeps = keeps.1
+
+-- a line that was read and kept: what is answered to its bytes is answered to it
+kept_is : (overlong : Bool) (kept text line : List ℕ) → overlong ≡ false → text ≡ kept → Keeps LINE_LIMIT overlong kept line → (line ≡ text) × (length line ≤ LINE_LIMIT)
+kept_is overlong kept text line short same keeps = (sym (same ∙ kept_line LINE_LIMIT overlong kept line short keeps), line_short LINE_LIMIT overlong kept line short keeps)
+
+pub answered_kept : {D : Type 0} (faults : D → ℕ) (may_leave : D → List ℕ → Type 0) (moment : D → ℕ) (left_since : D → ℕ → List ℕ → Type 0) (roster : Roster) (old new : OnDisk D) (number : ℕ) (overlong : Bool) (kept text out_old out_new : List ℕ)
+    → overlong ≡ false → text ≡ kept → AnswersTo faults may_leave moment left_since roster old new number (λ l. (l ≡ text) × (length l ≤ LINE_LIMIT)) out_old out_new
+    → AnswersTo faults may_leave moment left_since roster old new number (Keeps LINE_LIMIT overlong kept) out_old out_new
+answered_kept faults may_leave moment left_since roster old new number overlong kept text out_old out_new short same a = record {
+  told = a.told;
+  out = a.out;
+  serves = a.serves;
+  answered = λ line keeps. a.answered line (kept_is overlong kept text line short same keeps);
+  written = a.written;
+}
+
+pub unwritten_kept : {D : Type 0} (faults : D → ℕ) (may_leave : D → List ℕ → Type 0) (moment : D → ℕ) (left_since : D → ℕ → List ℕ → Type 0) (roster : Roster) (old new : OnDisk D) (overlong : Bool) (kept text : List ℕ)
+    → overlong ≡ false → text ≡ kept → LeavesUnwritten faults may_leave moment left_since roster old new (λ l. (l ≡ text) × (length l ≤ LINE_LIMIT))
+    → LeavesUnwritten faults may_leave moment left_since roster old new (Keeps LINE_LIMIT overlong kept)
+unwritten_kept faults may_leave moment left_since roster old new overlong kept text short same left = record {
+  told = left.told;
+  serves = left.serves;
+  means = λ t is line keeps. left.means t is line (kept_is overlong kept text line short same keeps);
+}
 
 -- a last piece without bytes, a cut one, and a long one
 pub cut_none : (number : ℕ) (kept line : List ℕ) → kept ≡ line → length kept ≡ 0 → (old : List ℕ) → old ≡ old ++ cut_line number line

@@ -1,10 +1,8 @@
 -- The books of a run over the lines of a script.
-use Rattle.std.proofs.Common.{◌≡◌, inl, inr, ℕ, suc, List, [], ◌∷◌, ◌++◌, length, All, refl, sym, ap, ◌∙◌, append_assoc, subst}
-use Rattle.std.proofs.lemmas.List.{length-map}
-use Rattle.std.proofs.lemmas.List.Elements.{All-nil, All-cons, All-head, All-tail, All-append}
+use Rattle.std.proofs.Common.{◌≡◌, List, [], ◌∷◌, ◌++◌, length, All, refl, sym, ap, ◌∙◌, append_assoc, subst}
+use Rattle.std.proofs.lemmas.List.Elements.{All-nil, All-cons, All-head, All-tail}
 use Rattle.day_rules.specs.declared.entry.Entry.{Entry}
 use Rattle.day_rules.specs.Legal.{IsLegal}
-use Rattle.day_rules.specs.Replies.{Call, ask}
 use Rattle.day_rules.specs.Runs.{Turn, IsCall, AreTurns, after_turn, run}
 use Rattle.day_rules.specs.Terms.{Terms}
 use Rattle.day_rules.proofs.Choices.{stands_settled}

@@ -1,6 +1,11 @@
 pub mod FirstLine
 pub mod OneMeaning
 pub mod AnswerLaws
+pub mod ToldAnswers
+pub mod AnsweredCalls
+pub mod DeskCalls
+pub mod DeskRuns
+pub mod Lent
 pub mod Books
 pub mod Rosters
 pub mod Putting
@@ -9,3 +14,6 @@ pub mod Runs
 pub mod OneOutput
 pub mod Days
 pub mod Outputs
+pub mod Scripts
+pub mod DiskCounts
+pub mod Unopened

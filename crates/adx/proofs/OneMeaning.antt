@@ -1,5 +1,5 @@
 -- A line within the limit or above it has one meaning.
-use Rattle.std.proofs.Common.{◌≡◌, ◌<◌, inl, inr, List, ℕ, length, sym, ◌∙◌, arith}
+use Rattle.std.proofs.Common.{◌≡◌, inl, inr, List, ℕ, sym, ◌∙◌, arith}
 use Rattle.deal_floor.specs.declared.roster.Roster.{Roster}
 use Rattle.script_lines.specs.Meanings.{Meaning}
 use Rattle.script_lines.proofs.OneMeaning.{one_meaning as one_short_meaning}

@@ -1,24 +1,29 @@
--- An input has one output, and what is to be written at any point of a run is a front of it.
-use Rattle.std.proofs.Common.{◌≡◌, ◌≢◌, ◌⊎◌, inl, inr, ℕ, suc, ◌+◌, ◌<◌, ◌≤◌, List, [], ◌∷◌, ◌++◌, length, All, refl, sym, ap, ◌∙◌, append_assoc, append-nil, length-append, arith, subst}
+-- Days that are alike have one output for one input, and what is to be written at any point of a run is a front of
+-- each output that goes on from there.
+use Rattle.std.proofs.Common.{◌≡◌, ◌≢◌, ◌⊎◌, inl, inr, ℕ, suc, ◌+◌, ◌<◌, ◌≤◌, List, [], ◌∷◌, ◌++◌, map, length, All, Option, None, refl, sym, ap, ◌∙◌, append_assoc, append-nil, length-append, arith, subst}
 use Rattle.std.specs.List.{flat_map}
-use Rattle.std.proofs.lemmas.List.Elements.{All-nil, All-cons, All-head, All-tail}
-use Rattle.std.proofs.lemmas.Option.{same_Some}
+use Rattle.std.proofs.lemmas.List.{map-append}
+use Rattle.std.proofs.lemmas.List.Elements.{All-head, All-tail}
+use Rattle.adx_desk.specs.declared.fault.DeskFault.{DeskFault}
 use Rattle.adx_io.specs.Lines.{HasNoNewline}
 use Rattle.adx_io.specs.Talk.{ended}
+use Rattle.answer_lines.specs.declared.faults.Fault.{Fault}
 use Rattle.day_rules.specs.declared.entry.Entry.{Entry}
-use Rattle.day_rules.specs.Replies.{Call, reply}
-use Rattle.day_rules.specs.Runs.{Outcome, Turn, done, after_turn, run}
+use Rattle.day_rules.specs.Runs.{run}
 use Rattle.day_rules.specs.Terms.{Terms}
+use Rattle.adx.specs.declared.ending.Ending.{Ending}
 use Rattle.adx.specs.declared.limits.TheConstants.{INPUT_LIMIT, LINE_LIMIT}
 use Rattle.deal_floor.specs.declared.roster.Roster.{Roster}
+use Rattle.adx.specs.Commands.{HasOneOutput}
+use Rattle.adx.specs.Courses.{Course, unopened, given_up, served, AreAlike, GoesOn, GoesOnFrom}
 use Rattle.adx.specs.Endings.{IsWhole, IsWholeOf, IsDue}
 use Rattle.script_lines.specs.Meanings.{Meaning, calls, refused}
-use Rattle.script_lines.specs.Rosters.{IsRosterLine, RefusesRosterLine}
+use Rattle.script_lines.specs.Rosters.{IsRosterLine}
 use Rattle.script_lines.specs.declared.refusal.RosterRefusal.{RosterRefusal}
 use Rattle.adx.specs.Lines.{IsCut}
-use Rattle.adx.specs.Meanings.{Writing, Answers, AnswersLine, AreDone, IsLine}
+use Rattle.adx.specs.Meanings.{Writing, Answers, AnswersLine, IsLine, Told, call_answer, turns_of}
 use Rattle.adx.specs.Output.{writing, roster_refused_line}
-use Rattle.adx.specs.Script.{terms_by, WritesRun, nothing, closing, toolong, HasRosterLine, BehindRoster, RefusesRoster, FirstFails, IsFirstLine, IsFront, Means, day}
+use Rattle.adx.specs.Script.{terms_by, WritesRun, nothing, closing, toolong, HasRosterLine, BehindRoster, RefusesRoster, RefusesDay, FirstFails, IsFirstLine, Means, day}
 use Rattle.adx.proofs.FirstLine.{first_longer, first_same, rest_same, no_first}
 use Rattle.script_lines.proofs.OneMeaning.{one_roster, one_refusal, roster_not_refused}
 use Rattle.adx.proofs.OneMeaning.{one_meaning}
@@ -74,84 +79,103 @@ cut_same script lines others last other cut cut' =
     let none = no_more more.0 last other cut.piece more.2 in
     (sym (more.1 ∙ ap (λ m. lines ++ m) none.0 ∙ append-nil lines), none.1)
 
--- turns
-all_left : {X : Type 0} (P : X → Type 0) (xs ys : List X) → All P (xs ++ ys) → All P xs
-all_left P [] ys all = All-nil P
-all_left P (x ∷ xs) ys all = All-cons P x xs (All-head P x (xs ++ ys) all) (all_left P xs ys (All-tail P x (xs ++ ys) all))
+-- calls
+-- the fault that gave a call up, if one did
+abbrev fault_of : Told → Option Fault
+fault_of t = t.fault
 
-all_right : {X : Type 0} (P : X → Type 0) (xs ys : List X) → All P (xs ++ ys) → All P ys
-all_right P [] ys all = all
-all_right P (x ∷ xs) ys all = all_right P xs ys (All-tail P x (xs ++ ys) all)
+abbrev faults_of : List Told → List (Option Fault)
+faults_of told = map fault_of told
 
-abbrev IsDone : Turn → Type 0
-IsDone t = t.outcome ≡ done
+told_same : (t t' : Told) → t.call ≡ t'.call → t.fault ≡ t'.fault → t ≡ t'
+told_same t t' e f = λ i. record { call = e i; fault = f i }
 
-turn_same : (c c' : Call) (o o' : Outcome) → c ≡ c' → o ≡ o' → ◌≡◌ {A = Turn} (record { call = c; outcome = o }) (record { call = c'; outcome = o' })
-turn_same c c' o o' e f = λ i. record { call = e i; outcome = f i }
+-- the faults of two lists of calls agree as far as both go
+abbrev Agree : List Told → List Told → Type 0
+Agree told told' = (a b : List (Option Fault)) × (faults_of told ++ a ≡ faults_of told' ++ b)
+
+-- they do for one list of faults, and for a list that goes on
+agree_same : (told told' : List Told) → faults_of told ≡ faults_of told' → Agree told told'
+agree_same told told' same = ([], [], ap (λ (l : List (Option Fault)). l ++ []) same)
+
+agree_on : (told rest : List Told) → Agree told (told ++ rest)
+agree_on told rest = (faults_of rest, [], sym (append-nil (faults_of (told ++ rest)) ∙ map-append fault_of told rest))
+
+-- what stands behind a first part
+faults_behind : (first rest : List Told) (told : List Told) (a : List (Option Fault)) → told ≡ first ++ rest → faults_of told ++ a ≡ faults_of first ++ (faults_of rest ++ a)
+faults_behind first rest told a is =
+    ap (λ (l : List Told). faults_of l ++ a) is ∙ ap (λ (l : List (Option Fault)). l ++ a) (map-append fault_of first rest) ∙ append_assoc (faults_of first) (faults_of rest) a
+
+first_fault : (f g : Option Fault) (a b : List (Option Fault)) → f ∷ a ≡ g ∷ b → f ≡ g
+first_fault f g a b e = cc
+
+rest_faults : (f g : Option Fault) (a b : List (Option Fault)) → f ∷ a ≡ g ∷ b → a ≡ b
+rest_faults f g a b e = cc
+
+-- what one line makes, of two lists of calls whose faults agree: the same, and behind it they agree
+abbrev OneLine : List Told → List Told → List ℕ → List ℕ → List (Option Fault) → List (Option Fault) → Type 0
+OneLine told told' out out' a b = (told ≡ told') × (out ≡ out') × (a ≡ b)
 
 -- lines
--- a line that isn't given up is answered in one way
-call_same : (w : Writing) (terms : Terms) (number : ℕ) (history : List Entry) (m : Meaning) (turns turns' : List Turn) (out out' : List ℕ)
-    → AnswersLine w terms number history m turns out → AnswersLine w terms number history m turns' out' → AreDone turns → AreDone turns' → (turns ≡ turns') × (out ≡ out')
-call_same w terms number history (calls c) turns turns' out out' (t, is, only, inl (d, e)) (t', is', only', inl (d', e')) all all' =
-    let same : t ≡ t' = turn_same t.call t'.call t.outcome t'.outcome (is ∙ sym is') (d ∙ sym d') in (
-      only ∙ ap (λ u. u ∷ []) same ∙ sym only',
-      e ∙ ap (λ (u : Turn). w.answer (after_turn terms history u) (reply terms history u.call).answer) same ∙ sym e',
+-- a line is answered in one way
+call_same : (w : Writing) (terms : Terms) (number : ℕ) (history : List Entry) (m : Meaning) (told told' : List Told) (out out' : List ℕ) (a b : List (Option Fault))
+    → faults_of told ++ a ≡ faults_of told' ++ b → AnswersLine w terms number history m told out → AnswersLine w terms number history m told' out' → OneLine told told' out out' a b
+call_same w terms number history (calls c) told told' out out' a b agree (t, is, only, e) (t', is', only', e') =
+    let both : t.fault ∷ a ≡ t'.fault ∷ b = sym (ap (λ (l : List Told). faults_of l ++ a) only) ∙ agree ∙ ap (λ (l : List Told). faults_of l ++ b) only' in
+    let same : t ≡ t' = told_same t t' (is ∙ sym is') (first_fault t.fault t'.fault a b both) in (
+      only ∙ ap (λ (u : Told). u ∷ []) same ∙ sym only',
+      e ∙ ap (call_answer w terms history) same ∙ sym e',
+      rest_faults t.fault t'.fault a b both,
     )
-call_same w terms number history (calls c) turns turns' out out' (t, is, only, inr (d, f, e)) b all all' =
-    absurd (cc (sym (All-head IsDone t [] (subst AreDone only all)) ∙ d))
-call_same w terms number history (calls c) turns turns' out out' (t, is, only, inl a) (t', is', only', inr (d, f, e)) all all' =
-    absurd (cc (sym (All-head IsDone t' [] (subst AreDone only' all')) ∙ d))
-call_same w terms number history (refused why) turns turns' out out' (none, e) (none', e') all all' = (none ∙ sym none', e ∙ sym e')
+call_same w terms number history (refused why) told told' out out' a b agree (none, e) (none', e') =
+    (none ∙ sym none', e ∙ sym e', sym (ap (λ (l : List Told). faults_of l ++ a) none) ∙ agree ∙ ap (λ (l : List Told). faults_of l ++ b) none')
 
-line_same : (roster : Roster) (terms : Terms) (number : ℕ) (history : List Entry) (line : List ℕ) (turns turns' : List Turn) (out out' : List ℕ)
-    → IsLine (Means roster) (writing roster.campaigns) terms number history line turns out → IsLine (Means roster) (writing roster.campaigns) terms number history line turns' out' → AreDone turns → AreDone turns' → (turns ≡ turns') × (out ≡ out')
-line_same roster terms number history line turns turns' out out' a b all all' =
-    let same = one_meaning roster line a.meaning b.meaning a.means b.means in
-    call_same (writing roster.campaigns) terms number history b.meaning turns turns' out out' (subst (λ m. AnswersLine (writing roster.campaigns) terms number history m turns out) same a.answered) b.answered all all'
+line_same : (roster : Roster) (terms : Terms) (number : ℕ) (history : List Entry) (line : List ℕ) (told told' : List Told) (out out' : List ℕ) (a b : List (Option Fault))
+    → faults_of told ++ a ≡ faults_of told' ++ b → IsLine (Means roster) (writing roster.campaigns) terms number history line told out → IsLine (Means roster) (writing roster.campaigns) terms number history line told' out' → OneLine told told' out out' a b
+line_same roster terms number history line told told' out out' a b agree one other =
+    let same = one_meaning roster line one.meaning other.meaning one.means other.means in
+    call_same (writing roster.campaigns) terms number history other.meaning told told' out out' a b agree (subst (λ m. AnswersLine (writing roster.campaigns) terms number history m told out) same one.answered) other.answered
 
 -- the answers to the first lines are the first answers
-answers_front : (roster : Roster) (terms : Terms) (history : List Entry) (number : ℕ) (lines more : List (List ℕ)) (turns turns' : List Turn) (out out' : List ℕ)
-    → Answers (Means roster) (writing roster.campaigns) terms number history lines turns out → Answers (Means roster) (writing roster.campaigns) terms number history (lines ++ more) turns' out' → AreDone turns → AreDone turns'
+answers_front : (roster : Roster) (terms : Terms) (history : List Entry) (number : ℕ) (lines more : List (List ℕ)) (told told' : List Told) (out out' : List ℕ) (a b : List (Option Fault))
+    → faults_of told ++ a ≡ faults_of told' ++ b → Answers (Means roster) (writing roster.campaigns) terms number history lines told out → Answers (Means roster) (writing roster.campaigns) terms number history (lines ++ more) told' out'
     → (rest : List ℕ) × (out' ≡ out ++ rest)
-answers_front roster terms history number [] more turns turns' out out' a b all all' = (out', ap (λ o. o ++ out') (sym a.1))
-answers_front roster terms history number (l ∷ lines) more turns turns' out out' (first, rest, out_first, out_rest, one, tail, is, e) (first', rest', out_first', out_rest', one', tail', is', e') all all' =
-    let done = subst AreDone is all in
-    let done' = subst AreDone is' all' in
-    let same = line_same roster terms number history l first first' out_first out_first' one one' (all_left IsDone first rest done) (all_left IsDone first' rest' done') in
-    let behind = answers_front roster terms (run terms history first) (suc number) lines more rest rest' out_rest out_rest' tail (subst (λ (t : List Turn). Answers (Means roster) (writing roster.campaigns) terms (suc number) (run terms history t) (lines ++ more) rest' out_rest') (sym same.0) tail') (all_right IsDone first rest done) (all_right IsDone first' rest' done') in
+answers_front roster terms history number [] more told told' out out' a b agree one other = (out', ap (λ o. o ++ out') (sym one.1))
+answers_front roster terms history number (l ∷ lines) more told told' out out' a b agree (first, rest, out_first, out_rest, one, tail, is, e) (first', rest', out_first', out_rest', one', tail', is', e') =
+    let both = sym (faults_behind first rest told a is) ∙ agree ∙ faults_behind first' rest' told' b is' in
+    let same = line_same roster terms number history l first first' out_first out_first' (faults_of rest ++ a) (faults_of rest' ++ b) both one one' in
+    let behind = answers_front roster terms (run terms history (turns_of first)) (suc number) lines more rest rest' out_rest out_rest' a b same.2 tail (subst (λ (t : List Told). Answers (Means roster) (writing roster.campaigns) terms (suc number) (run terms history (turns_of t)) (lines ++ more) rest' out_rest') (sym same.0) tail') in
     (behind.0, e' ∙ ap (λ x. x ++ out_rest') (sym same.1) ∙ ap (λ x. out_first ++ x) behind.1 ∙ sym (append_assoc out_first out_rest behind.0) ∙ ap (λ x. x ++ behind.0) (sym e))
 
 -- lines are answered in one way
-answers_same : (roster : Roster) (terms : Terms) (history : List Entry) (number : ℕ) (lines : List (List ℕ)) (turns turns' : List Turn) (out out' : List ℕ)
-    → Answers (Means roster) (writing roster.campaigns) terms number history lines turns out → Answers (Means roster) (writing roster.campaigns) terms number history lines turns' out' → AreDone turns → AreDone turns'
-    → (turns ≡ turns') × (out ≡ out')
-answers_same roster terms history number [] turns turns' out out' a b all all' = (a.0 ∙ sym b.0, a.1 ∙ sym b.1)
-answers_same roster terms history number (l ∷ lines) turns turns' out out' (first, rest, out_first, out_rest, one, tail, is, e) (first', rest', out_first', out_rest', one', tail', is', e') all all' =
-    let done = subst AreDone is all in
-    let done' = subst AreDone is' all' in
-    let same = line_same roster terms number history l first first' out_first out_first' one one' (all_left IsDone first rest done) (all_left IsDone first' rest' done') in
-    let more = answers_same roster terms (run terms history first) (suc number) lines rest rest' out_rest out_rest' tail (subst (λ (t : List Turn). Answers (Means roster) (writing roster.campaigns) terms (suc number) (run terms history t) lines rest' out_rest') (sym same.0) tail') (all_right IsDone first rest done) (all_right IsDone first' rest' done') in (
-      is ∙ ap (λ x. x ++ rest) same.0 ∙ ap (λ x. first' ++ x) more.0 ∙ sym is',
+answers_same : (roster : Roster) (terms : Terms) (history : List Entry) (number : ℕ) (lines : List (List ℕ)) (told told' : List Told) (out out' : List ℕ) (a b : List (Option Fault))
+    → faults_of told ++ a ≡ faults_of told' ++ b → Answers (Means roster) (writing roster.campaigns) terms number history lines told out → Answers (Means roster) (writing roster.campaigns) terms number history lines told' out'
+    → (told ≡ told') × (out ≡ out')
+answers_same roster terms history number [] told told' out out' a b agree one other = (one.0 ∙ sym other.0, one.1 ∙ sym other.1)
+answers_same roster terms history number (l ∷ lines) told told' out out' a b agree (first, rest, out_first, out_rest, one, tail, is, e) (first', rest', out_first', out_rest', one', tail', is', e') =
+    let both = sym (faults_behind first rest told a is) ∙ agree ∙ faults_behind first' rest' told' b is' in
+    let same = line_same roster terms number history l first first' out_first out_first' (faults_of rest ++ a) (faults_of rest' ++ b) both one one' in
+    let more = answers_same roster terms (run terms history (turns_of first)) (suc number) lines rest rest' out_rest out_rest' a b same.2 tail (subst (λ (t : List Told). Answers (Means roster) (writing roster.campaigns) terms (suc number) (run terms history (turns_of t)) lines rest' out_rest') (sym same.0) tail') in (
+      is ∙ ap (λ (x : List Told). x ++ rest) same.0 ∙ ap (λ (x : List Told). first' ++ x) more.0 ∙ sym is',
       e ∙ ap (λ x. x ++ out_rest) same.1 ∙ ap (λ x. out_first' ++ x) more.1 ∙ sym e',
     )
 
 -- scripts
 -- a script is written for in one way
-pub writes_same : (roster : Roster) (start : List Entry) (behind : ℕ → List ℕ → List Entry → List ℕ) (script out out' : List ℕ) → WritesRun roster start behind script out → WritesRun roster start behind script out' → out ≡ out'
-writes_same roster start behind script out out' a b =
+writes_same : (roster : Roster) (start : List Entry) (told told' : List Told) (behind : ℕ → List ℕ → List Entry → List ℕ) (script out out' : List ℕ) → Agree told told' → WritesRun roster start told behind script out → WritesRun roster start told' behind script out' → out ≡ out'
+writes_same roster start told told' behind script out out' (left, left', agree) a b =
     let cut = cut_same script a.lines b.lines a.last b.last a.runs.cut b.runs.cut in
-    let same = answers_same roster (terms_by roster) start 2 a.lines a.turns b.turns a.answers b.answers a.runs.answered (subst (λ ls. Answers (Means roster) (writing roster.campaigns) (terms_by roster) 2 start ls b.turns b.answers) (sym cut.0) b.runs.answered) a.runs.done b.runs.done in
-    let history : a.history ≡ b.history = a.runs.books.ran ∙ ap (run (terms_by roster) start) same.0 ∙ sym b.runs.books.ran in
+    let same = answers_same roster (terms_by roster) start 2 a.lines told told' a.answers b.answers left left' agree a.runs.answered (subst (λ ls. Answers (Means roster) (writing roster.campaigns) (terms_by roster) 2 start ls told' b.answers) (sym cut.0) b.runs.answered) in
+    let history : a.history ≡ b.history = a.runs.books.ran ∙ ap (λ (t : List Told). run (terms_by roster) start (turns_of t)) same.0 ∙ sym b.runs.books.ran in
     a.written ∙ ap (λ x. x ++ behind (2 + length a.lines) a.last a.history) same.1 ∙ ap (λ (ls : List (List ℕ)). b.answers ++ behind (2 + length ls) a.last a.history) cut.0
     ∙ ap (λ l. b.answers ++ behind (2 + length b.lines) l a.history) cut.1 ∙ ap (λ h. b.answers ++ behind (2 + length b.lines) b.last h) history ∙ sym b.written
 
 -- a front of a script is written for as the script begins
-pub writes_front : (roster : Roster) (start : List Entry) (behind : ℕ → List ℕ → List Entry → List ℕ) (part back out out' : List ℕ) → WritesRun roster start nothing part out → WritesRun roster start behind (part ++ back) out' → (rest : List ℕ) × (out' ≡ out ++ rest)
-writes_front roster start behind part back out out' a b =
+writes_front : (roster : Roster) (start : List Entry) (told told' : List Told) (behind : ℕ → List ℕ → List Entry → List ℕ) (part back out out' : List ℕ) → Agree told told' → WritesRun roster start told nothing part out → WritesRun roster start told' behind (part ++ back) out' → (rest : List ℕ) × (out' ≡ out ++ rest)
+writes_front roster start told told' behind part back out out' (left, left', agree) a b =
     let both = sym (append_assoc (flat_map ended a.lines) a.last back) ∙ ap (λ p. p ++ back) (sym a.runs.cut.bytes) ∙ b.runs.cut.bytes in
     let more = cut_front a.lines b.lines (a.last ++ back) b.last a.runs.cut.whole b.runs.cut.whole b.runs.cut.piece both in
-    let front = answers_front roster (terms_by roster) start 2 a.lines more.0 a.turns b.turns a.answers b.answers a.runs.answered (subst (λ ls. Answers (Means roster) (writing roster.campaigns) (terms_by roster) 2 start ls b.turns b.answers) more.1 b.runs.answered) a.runs.done b.runs.done in
+    let front = answers_front roster (terms_by roster) start 2 a.lines more.0 told told' a.answers b.answers left left' agree a.runs.answered (subst (λ ls. Answers (Means roster) (writing roster.campaigns) (terms_by roster) 2 start ls told' b.answers) more.1 b.runs.answered) in
     let tail = behind (2 + length b.lines) b.last b.history in (
       front.0 ++ tail,
       b.written ∙ ap (λ x. x ++ tail) front.1 ∙ append_assoc a.answers front.0 tail ∙ ap (λ x. x ++ (front.0 ++ tail)) (sym (a.written ∙ append-nil a.answers)),
@@ -197,18 +221,26 @@ never_refused input first rest out r script a is refusal = by refusal.is_first.1
         absurd (omega (arith, shorter, long, a.short))
 
 -- inputs
--- what is written for an input with a roster, of which a front was read before
-behind_front : (behind : Roster → ℕ → List ℕ → List Entry → List ℕ) (front back due whole : List ℕ) → BehindRoster (λ roster. WritesRun roster [] nothing) front due → BehindRoster (λ roster. WritesRun roster [] (behind roster)) (front ++ back) whole → (rest : List ℕ) × (whole ≡ due ++ rest)
-behind_front behind front back due whole a b =
-    let same = roster_front front back a.roster b.roster a.script b.script a.begins b.begins in
-    writes_front a.roster [] (behind a.roster) a.script back due whole a.writes
-    (subst (λ c. WritesRun c [] (behind c) (a.script ++ back) whole) (sym same.0) (subst (λ t. WritesRun b.roster [] (behind b.roster) t whole) same.1 b.writes))
+-- how what is written behind the answers depends on the roster
+abbrev Behind : Type 0
+Behind = Roster → ℕ → List ℕ → List Entry → List ℕ
 
-behind_same : (behind : Roster → ℕ → List ℕ → List Entry → List ℕ) (input out whole : List ℕ) → BehindRoster (λ roster. WritesRun roster [] (behind roster)) input out → BehindRoster (λ roster. WritesRun roster [] (behind roster)) input whole → out ≡ whole
-behind_same behind input out whole a b =
-    let same = roster_same input a.roster b.roster a.script b.script a.begins b.begins in
-    writes_same a.roster [] (behind a.roster) a.script out whole a.writes
-    (subst (λ c. WritesRun c [] (behind c) a.script whole) (sym same.0) (subst (λ t. WritesRun b.roster [] (behind b.roster) t whole) same.1 b.writes))
+abbrev toolong_of : Behind
+toolong_of roster = toolong
+
+-- what is written for an input with a roster, of which a front was read before
+behind_front : (behind : Behind) (r : Roster) (start : List Entry) (told told' : List Told) (front back due whole : List ℕ) → Agree told told'
+    → BehindRoster (WritesRun r start told nothing) r front due → BehindRoster (WritesRun r start told' (behind r)) r (front ++ back) whole → (rest : List ℕ) × (whole ≡ due ++ rest)
+behind_front behind r start told told' front back due whole agree a b =
+    let same = roster_front front back r r a.script b.script a.begins b.begins in
+    writes_front r start told told' (behind r) a.script back due whole agree a.writes (subst (λ t. WritesRun r start told' (behind r) t whole) same.1 b.writes)
+
+behind_same : (behind : Behind) (r s : Roster) (start : List Entry) (told told' : List Told) (input out whole : List ℕ) → Agree told told'
+    → BehindRoster (WritesRun r start told (behind r)) r input out → BehindRoster (WritesRun s start told' (behind s)) s input whole → out ≡ whole
+behind_same behind r s start told told' input out whole agree a b =
+    let same = roster_same input r s a.script b.script a.begins b.begins in
+    writes_same r start told told' (behind r) a.script out whole agree a.writes
+    (subst (λ c. WritesRun c start told' (behind c) a.script whole) (sym same.0) (subst (λ t. WritesRun s start told' (behind s) t whole) same.1 b.writes))
 
 -- a front with a roster is of an input with one
 roster_more : (front back : List ℕ) (r : Roster) (script : List ℕ) → HasRosterLine front r script → HasRosterLine (front ++ back) r (script ++ back)
@@ -268,48 +300,116 @@ refused_same : (read rest other left out whole : List ℕ) → read ++ rest ≡ 
 refused_same read rest other left out whole both a b =
     a.written ∙ ap roster_refused_line (why_same read rest other left a.line b.line a.why b.why both a.is_first b.is_first a.fails b.fails) ∙ sym b.written
 
--- an input has one output
-of_same : (read rest other left out whole : List ℕ) → read ++ rest ≡ other ++ left → IsWholeOf INPUT_LIMIT day read rest out → IsWholeOf INPUT_LIMIT day other left whole → out ≡ whole
-of_same read rest other left out whole both (inl a) (inl b) = refused_same read rest other left out whole both a b
-of_same read rest other left out whole both (inl a) (inr (inl (none, short, b))) =
-    absurd (never_refused other read rest out b.roster b.script b.begins (sym (append-nil other) ∙ ap (λ l. other ++ l) (sym none) ∙ sym both) a)
-of_same read rest other left out whole both (inl a) (inr (inr (part, more, is, long, b))) =
-    absurd (never_refused (part ++ (more ∷ [] ++ left)) read rest out b.roster (b.script ++ (more ∷ [] ++ left)) (roster_more part (more ∷ [] ++ left) b.roster b.script b.begins) (sym (append_assoc part (more ∷ []) left) ∙ ap (λ o. o ++ left) (sym is) ∙ sym both) a)
-of_same read rest other left out whole both (inr (inl (none, short, a))) (inl b) =
-    absurd (never_refused read other left whole a.roster a.script a.begins (sym (append-nil read) ∙ ap (λ l. read ++ l) (sym none) ∙ both) b)
-of_same read rest other left out whole both (inr (inl (none, short, a))) (inr (inl (none', short', b))) =
+-- days
+-- an input whose first line is refused has that output alone, whatever comes of the day
+first_refused : (more : Course) (read rest other left out whole : List ℕ) → read ++ rest ≡ other ++ left → RefusesRoster read rest out → IsWholeOf INPUT_LIMIT (day more) other left whole → out ≡ whole
+first_refused unopened read rest other left out whole both a (inl (ending, (is, b))) = refused_same read rest other left out whole both a b
+first_refused unopened read rest other left out whole both a (inr (inl (none, short, (result, never)))) = absurd never
+first_refused unopened read rest other left out whole both a (inr (inr (part, more, is, long, never))) = absurd never
+first_refused (given_up r why) read rest other left out whole both a (inl (ending, b)) =
+    absurd (never_refused (other ++ left) read rest out r left (roster_more other left r [] b.begins) (sym both) a)
+first_refused (given_up r why) read rest other left out whole both a (inr (inl (none, short, (result, never)))) = absurd never
+first_refused (given_up r why) read rest other left out whole both a (inr (inr (part, more, is, long, never))) = absurd never
+first_refused (served r start told u) read rest other left out whole both a (inl (ending, never)) = absurd never
+first_refused (served r start told u) read rest other left out whole both a (inr (inl (none, short, (result, (ends, b))))) =
+    absurd (never_refused other read rest out r b.script b.begins (sym (append-nil other) ∙ ap (λ l. other ++ l) (sym none) ∙ sym both) a)
+first_refused (served r start told u) read rest other left out whole both a (inr (inr (part, more, is, long, b))) =
+    absurd (never_refused (part ++ (more ∷ [] ++ left)) read rest out r (b.script ++ (more ∷ [] ++ left)) (roster_more part (more ∷ [] ++ left) r b.script b.begins) (sym (append_assoc part (more ∷ []) left) ∙ ap (λ o. o ++ left) (sym is) ∙ sym both) a)
+
+-- the line of a day that wasn't opened is its output, by the cause
+given_same : (r s : Roster) (why : DeskFault) (ending : Ending) (read rest other left out whole : List ℕ) → RefusesDay r why ending read rest out → IsWholeOf INPUT_LIMIT (day (given_up s why)) other left whole → out ≡ whole
+given_same r s why ending read rest other left out whole a (inl (ending', b)) = a.written ∙ sym b.written
+given_same r s why ending read rest other left out whole a (inr (inl (none, short, (result, never)))) = absurd never
+given_same r s why ending read rest other left out whole a (inr (inr (part, more, is, long, never))) = absurd never
+
+-- a day that was served has one output, by the faults of its calls
+served_same : (r s : Roster) (start : List Entry) (told told' : List Told) (u u' : Option Told) (read rest other left out whole : List ℕ) → Agree told told' → read ++ rest ≡ other ++ left
+    → IsWholeOf INPUT_LIMIT (day (served r start told u)) read rest out → IsWholeOf INPUT_LIMIT (day (served s start told' u')) other left whole → out ≡ whole
+served_same r s start told told' u u' read rest other left out whole agree both (inl (ending, never)) b = absurd never
+served_same r s start told told' u u' read rest other left out whole agree both (inr a) (inl (ending, never)) = absurd never
+served_same r s start told told' u u' read rest other left out whole agree both (inr (inl (none, short, (result, (ends, a))))) (inr (inl (none', short', (result', (ends', b))))) =
     let same : read ≡ other = sym (append-nil read) ∙ ap (λ l. read ++ l) (sym none) ∙ both ∙ ap (λ l. other ++ l) none' ∙ append-nil other in
-    behind_same closing read out whole a (subst (λ i. BehindRoster (λ roster. WritesRun roster [] (closing roster)) i whole) (sym same) b)
-of_same read rest other left out whole both (inr (inl (none, short, a))) (inr (inr (part, more, is, long, b))) =
+    behind_same closing r s start told told' read out whole agree a (subst (λ i. BehindRoster (WritesRun s start told' (closing s)) s i whole) (sym same) b)
+served_same r s start told told' u u' read rest other left out whole agree both (inr (inl (none, short, (result, (ends, a))))) (inr (inr (part, more, is, long, b))) =
     absurd (omega (arith, short, long, ap length none, ap length is, ap length both, length-append read rest, length-append other left, length-append part (more ∷ [])))
-of_same read rest other left out whole both (inr (inr (part, more, is, long, a))) (inl b) =
-    absurd (never_refused (part ++ (more ∷ [] ++ rest)) other left whole a.roster (a.script ++ (more ∷ [] ++ rest)) (roster_more part (more ∷ [] ++ rest) a.roster a.script a.begins) (sym (append_assoc part (more ∷ []) rest) ∙ ap (λ o. o ++ rest) (sym is) ∙ both) b)
-of_same read rest other left out whole both (inr (inr (part, more, is, long, a))) (inr (inl (none, short, b))) =
+served_same r s start told told' u u' read rest other left out whole agree both (inr (inr (part, more, is, long, a))) (inr (inl (none, short, (result, (ends, b))))) =
     absurd (omega (arith, short, long, ap length none, ap length is, ap length both, length-append read rest, length-append other left, length-append part (more ∷ [])))
-of_same read rest other left out whole both (inr (inr (part, more, is, long, a))) (inr (inr (part', more', is', long', b))) =
+served_same r s start told told' u u' read rest other left out whole agree both (inr (inr (part, more, is, long, a))) (inr (inr (part', more', is', long', b))) =
     let all : part ++ (more ∷ [] ++ rest) ≡ part' ++ (more' ∷ [] ++ left) = sym (append_assoc part (more ∷ []) rest) ∙ ap (λ o. o ++ rest) (sym is) ∙ both ∙ ap (λ o. o ++ left) is' ∙ append_assoc part' (more' ∷ []) left in
     let one = front_same part (more ∷ [] ++ rest) part' (more' ∷ [] ++ left) all (long ∙ sym long') in
-    behind_same toolong_of part out whole a (subst (λ i. BehindRoster (λ roster. WritesRun roster [] toolong) i whole) (sym one) b)
-  where
-    toolong_of : Roster → ℕ → List ℕ → List Entry → List ℕ
-    toolong_of roster = toolong
+    behind_same toolong_of r s start told told' part out whole agree a (subst (λ i. BehindRoster (WritesRun s start told' toolong) s i whole) (sym one) b)
 
-pub whole_same : (input out whole : List ℕ) → IsWhole INPUT_LIMIT day input out → IsWhole INPUT_LIMIT day input whole → out ≡ whole
-whole_same input out whole (read, rest, at, a) (other, left, at', b) = of_same read rest other left out whole (sym at ∙ at') a b
+-- days that are alike have one output for one input
+whole_same : (course other : Course) (read rest read' rest' out whole : List ℕ) → AreAlike course other → read ++ rest ≡ read' ++ rest'
+    → IsWholeOf INPUT_LIMIT (day course) read rest out → IsWholeOf INPUT_LIMIT (day other) read' rest' whole → out ≡ whole
+whole_same unopened unopened read rest read' rest' out whole alike both (inl (ending, (is, a))) b = first_refused unopened read rest read' rest' out whole both a b
+whole_same unopened unopened read rest read' rest' out whole alike both (inr (inl (none, short, (result, never)))) b = absurd never
+whole_same unopened unopened read rest read' rest' out whole alike both (inr (inr (part, more, is, long, never))) b = absurd never
+whole_same unopened (given_up s why) read rest read' rest' out whole alike both a b = absurd alike
+whole_same unopened (served s start told u) read rest read' rest' out whole alike both a b = absurd alike
+whole_same (given_up r why) unopened read rest read' rest' out whole alike both a b = absurd alike
+whole_same (given_up r why) (given_up s why') read rest read' rest' out whole alike both (inl (ending, a)) b =
+    given_same r s why ending read rest read' rest' out whole a (subst (λ w. IsWholeOf INPUT_LIMIT (day (given_up s w)) read' rest' whole) (sym alike) b)
+whole_same (given_up r why) (given_up s why') read rest read' rest' out whole alike both (inr (inl (none, short, (result, never)))) b = absurd never
+whole_same (given_up r why) (given_up s why') read rest read' rest' out whole alike both (inr (inr (part, more, is, long, never))) b = absurd never
+whole_same (given_up r why) (served s start told u) read rest read' rest' out whole alike both a b = absurd alike
+whole_same (served r start told u) unopened read rest read' rest' out whole alike both a b = absurd alike
+whole_same (served r start told u) (given_up s why) read rest read' rest' out whole alike both a b = absurd alike
+whole_same (served r start told u) (served s start' told' u') read rest read' rest' out whole (begins, faults) both a b =
+    served_same r s start told told' u u' read rest read' rest' out whole (agree_same told told' faults) both a
+    (subst (λ h. IsWholeOf INPUT_LIMIT (day (served s h told' u')) read' rest' whole) (sym begins) b)
 
--- what is to be written at any point is a front of the output
-front_whole : (read rest other left due whole : List ℕ) → read ++ rest ≡ other ++ left → length read ≤ INPUT_LIMIT → IsFront read due → IsWholeOf INPUT_LIMIT day other left whole → (back : List ℕ) × (whole ≡ due ++ back)
-front_whole read rest other left due whole both small (inl (none, is)) b = (whole, ap (λ d. d ++ whole) (sym is))
-front_whole read rest other left due whole both small (inr a) (inl b) =
-    absurd (never_refused (read ++ rest) other left whole a.roster (a.script ++ rest) (roster_more read rest a.roster a.script a.begins) both b)
-front_whole read rest other left due whole both small (inr a) (inr (inl (none, short, b))) =
+pub has_one_output : HasOneOutput
+has_one_output course other input out whole alike (read, rest, at, a) (read', rest', at', b) = whole_same course other read rest read' rest' out whole alike (sym at ∙ at') a b
+
+-- fronts
+-- where nothing is due, that is a front of anything
+none_due : (due whole : List ℕ) → due ≡ [] → (back : List ℕ) × (whole ≡ due ++ back)
+none_due due whole is = (whole, ap (λ d. d ++ whole) (sym is))
+
+-- all that is due
+all_due : (due whole : List ℕ) → due ≡ whole → (back : List ℕ) × (whole ≡ due ++ back)
+all_due due whole is = ([], sym is ∙ sym (append-nil due))
+
+-- of a day whose opening gave up with a line: the line
+given_on : (r : Roster) (why : DeskFault) (more : Course) (ending : Ending) (read rest other left due whole : List ℕ) → more ≡ given_up r why → RefusesDay r why ending read rest due → IsWholeOf INPUT_LIMIT (day more) other left whole → (back : List ℕ) × (whole ≡ due ++ back)
+given_on r why more ending read rest other left due whole goes a b =
+    all_due due whole (given_same r r why ending read rest other left due whole a (subst (λ c. IsWholeOf INPUT_LIMIT (day c) other left whole) goes b))
+
+-- by the cause: a fault of the disk and want of memory have no line
+given_front : (r : Roster) (why : DeskFault) (more : Course) (ending : Ending) (read rest other left due whole : List ℕ) → GoesOnFrom r why more → RefusesDay r why ending read rest due → IsWholeOf INPUT_LIMIT (day more) other left whole → (back : List ℕ) × (whole ≡ due ++ back)
+given_front r DeskFault.DiskFault more ending read rest other left due whole goes a b = none_due due whole a.written
+given_front r (DeskFault.JournalFull size) more ending read rest other left due whole goes a b = given_on r (DeskFault.JournalFull size) more ending read rest other left due whole goes a b
+given_front r (DeskFault.BadEntry at) more ending read rest other left due whole goes a b = given_on r (DeskFault.BadEntry at) more ending read rest other left due whole goes a b
+given_front r (DeskFault.OtherRoster kept) more ending read rest other left due whole goes a b = given_on r (DeskFault.OtherRoster kept) more ending read rest other left due whole goes a b
+given_front r (DeskFault.NotAJournal at) more ending read rest other left due whole goes a b = given_on r (DeskFault.NotAJournal at) more ending read rest other left due whole goes a b
+given_front r (DeskFault.BadLength at) more ending read rest other left due whole goes a b = given_on r (DeskFault.BadLength at) more ending read rest other left due whole goes a b
+given_front r DeskFault.OutOfMemory more ending read rest other left due whole goes a b = none_due due whole a.written
+
+-- of a day that was served: the answers to what was read
+served_front : (r : Roster) (start : List Entry) (told told' : List Told) (u : Option Told) (read rest other left due whole : List ℕ) → Agree told told' → read ++ rest ≡ other ++ left → length read ≤ INPUT_LIMIT
+    → BehindRoster (WritesRun r start told nothing) r read due → IsWholeOf INPUT_LIMIT (day (served r start told' u)) other left whole → (back : List ℕ) × (whole ≡ due ++ back)
+served_front r start told told' u read rest other left due whole agree both small a (inl (ending, never)) = absurd never
+served_front r start told told' u read rest other left due whole agree both small a (inr (inl (none, short, (result, (ends, b))))) =
     let same : other ≡ read ++ rest = sym (append-nil other) ∙ ap (λ l. other ++ l) (sym none) ∙ sym both in
-    behind_front closing read rest due whole a (subst (λ i. BehindRoster (λ roster. WritesRun roster [] (closing roster)) i whole) same b)
-front_whole read rest other left due whole both small (inr a) (inr (inr (part, more, is, long, b))) =
+    behind_front closing r start told told' read rest due whole agree a (subst (λ i. BehindRoster (WritesRun r start told' (closing r)) r i whole) same b)
+served_front r start told told' u read rest other left due whole agree both small a (inr (inr (part, more, is, long, b))) =
     let all : read ++ rest ≡ part ++ (more ∷ [] ++ left) = both ∙ ap (λ o. o ++ left) is ∙ append_assoc part (more ∷ []) left in
     let longer = front_of read rest part (more ∷ [] ++ left) all (subst (λ n. length read ≤ n) (sym long) small) in
-    behind_front (λ roster. toolong) read longer.0 due whole a (subst (λ i. BehindRoster (λ roster. WritesRun roster [] toolong) i whole) longer.1 b)
+    behind_front toolong_of r start told told' read longer.0 due whole agree a (subst (λ i. BehindRoster (WritesRun r start told' toolong) r i whole) longer.1 b)
 
-pub due_front : (read rest due whole : List ℕ) → IsDue INPUT_LIMIT day read rest due → IsWhole INPUT_LIMIT day (read ++ rest) whole → (back : List ℕ) × (whole ≡ due ++ back)
-due_front read rest due whole (inl (small, front)) (other, left, at, b) = front_whole read rest other left due whole at small front b
-due_front read rest due whole (inr a) (other, left, at, b) = ([], sym (of_same read rest other left due whole at a b) ∙ sym (append-nil due))
+-- what is to be written at any point of a day is a front of each output of a day that goes on from there
+pub due_front : (course more : Course) (read rest due whole : List ℕ) → GoesOn course more
+    → IsDue INPUT_LIMIT (day course) read rest due → IsWhole INPUT_LIMIT (day more) (read ++ rest) whole → (back : List ℕ) × (whole ≡ due ++ back)
+due_front unopened more read rest due whole goes (inl (small, (unbegun, none))) b = none_due due whole none
+due_front unopened more read rest due whole goes (inr (inl (ending, (is, a)))) (other, left, at, b) = all_due due whole (first_refused more read rest other left due whole at a b)
+due_front unopened more read rest due whole goes (inr (inr (inl (none, short, (result, never))))) b = absurd never
+due_front unopened more read rest due whole goes (inr (inr (inr (part, next, is, long, never)))) b = absurd never
+due_front (given_up r why) more read rest due whole goes (inl (small, (unbegun, none))) b = none_due due whole none
+due_front (given_up r why) more read rest due whole goes (inr (inl (ending, a))) (other, left, at, b) = given_front r why more ending read rest other left due whole goes a b
+due_front (given_up r why) more read rest due whole goes (inr (inr (inl (none, short, (result, never))))) b = absurd never
+due_front (given_up r why) more read rest due whole goes (inr (inr (inr (part, next, is, long, never)))) b = absurd never
+due_front (served r start told u) more read rest due whole (later, goes) (inl (small, a)) (other, left, at, b) =
+    served_front r start told (told ++ later) None read rest other left due whole (agree_on told later) at small a (subst (λ c. IsWholeOf INPUT_LIMIT (day c) other left whole) goes b)
+due_front (served r start told u) more read rest due whole (later, goes) (inr a) (other, left, at, b) =
+    all_due due whole (served_same r r start told (told ++ later) u None read rest other left due whole (agree_on told later) at a (subst (λ c. IsWholeOf INPUT_LIMIT (day c) other left whole) goes b))

@@ -1,5 +1,5 @@
 -- What a sink took of what was to be put: how its parts come together.
-use Rattle.std.proofs.Common.{inl, inr, ℕ, List, [], ◌++◌, take, drop, Option, Result, Err, refl, sym, ap, ◌∙◌, append_assoc, append-nil, subst}
+use Rattle.std.proofs.Common.{◌≡◌, ◌⊎◌, inl, inr, ℕ, List, [], ◌++◌, take, drop, Option, Result, Err, refl, sym, ap, ◌∙◌, append_assoc, append-nil, subst}
 use Rattle.std.proofs.lemmas.List.{take-append-drop}
 use Rattle.adx_io.specs.Streams.{Took, TakesAll}
 use Rattle.adx_io.specs.declared.failed.Failed.{Failed}
@@ -7,6 +7,7 @@ use Rattle.adx_io.specs.Talk.{TalkState, Puts, PutsAll, PutsSome}
 use Rattle.adx_io.specs.declared.stop.Stop.{Stop}
 use Rattle.adx_io.proofs.Moved.{took_none, took_both}
 use Rattle.adx.specs.declared.ending.Ending.{Ending}
+use Rattle.adx.specs.Courses.{IsCutShort}
 use Rattle.adx.specs.Endings.{Command, EndsWith, TookDue, TookFront}
 use Rattle.adx.specs.Running.{PutsFront, PutsEnd}
 use Rattle.adx.specs.Steps.{IsAborted}
@@ -97,3 +98,9 @@ end_failed held now bytes wanted ending aborted took = inr (ending, refl, aborte
 
 pub some_taken : (before now : TalkState) → PutsSome before now → TookFront before.held now.held before.out
 some_taken before now (n, small, took) = (take n before.out, drop n before.out, sym (take-append-drop n before.out), took)
+
+-- the last put ended as was wanted, or was cut short
+pub cut_or_put : (held now : Option (List ℕ)) (bytes : List ℕ) (wanted result : Result (Unit {0}) Ending) → PutsEnd held now bytes wanted result → (result ≡ wanted) ⊎ IsCutShort result
+cut_or_put held now bytes wanted result (inl (is, took)) = inl is
+cut_or_put held now bytes wanted result (inr (ending, is, inl at, took)) = inr (inl (is ∙ ap Err at))
+cut_or_put held now bytes wanted result (inr (ending, is, inr at, took)) = inr (inr (is ∙ ap Err at))

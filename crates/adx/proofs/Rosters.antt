@@ -1,5 +1,5 @@
 -- A day may be opened with a roster's campaigns and limits.
-use Rattle.std.proofs.Common.{◌≤◌, List, [], ◌∷◌, map, All, length, sym, subst, arith}
+use Rattle.std.proofs.Common.{◌≤◌, List, [], ◌∷◌, map, All, sym, subst}
 use Rattle.std.proofs.lemmas.List.{length-map}
 use Rattle.std.proofs.lemmas.List.Elements.{All-nil, All-cons}
 use Rattle.campaign_book.specs.Accounts.{IsBudget}

@@ -7,13 +7,16 @@ use Rattle.adx_io.specs.declared.line_buffer.TheConstants.{CHUNK}
 use Rattle.adx_io.specs.declared.stop.Stop.{Stop}
 use Rattle.adx.specs.declared.ending.Ending.{Ending}
 
--- a command: what it writes for a whole input; what for a front of one that goes on; what where it refuses the first
--- line, of which the input goes on behind it with a rest; and what where the input passes its limit behind a part
+-- A command, by what happened beside its input: what it writes for a whole input, with how it then ends; what for a
+-- front of one that goes on; what where it ends so behind a first part of the input, which goes on behind it with a
+-- rest; and what where the input passes its limit behind a part. Where memory was refused: which bytes may have been
+-- read and not be answered.
 pub record Command : Type 1 where
-  pub whole : List ℕ → List ℕ → Type 0
+  pub whole : Result (Unit {0}) Ending → List ℕ → List ℕ → Type 0
   pub front : List ℕ → List ℕ → Type 0
-  pub refusal : List ℕ → List ℕ → List ℕ → Type 0
+  pub refusal : Ending → List ℕ → List ℕ → List ℕ → Type 0
   pub past : List ℕ → List ℕ → Type 0
+  pub over : List ℕ → Type 0
 
 -- what is left in the source of the rest behind what was read: at most one piece was taken and not looked at
 abbrev pub LeftBehind : List ℕ → List ℕ → Type 0
@@ -23,24 +26,24 @@ LeftBehind rest left = (piece : List ℕ) × (length piece ≤ CHUNK) × (rest �
 abbrev pub IsLineAtMost : List ℕ → Type 0
 IsLineAtMost bytes = (bytes ≡ []) ⊎ ((line : List ℕ) × HasNoNewline line × (bytes ≡ ended line))
 
--- the same where the run was given up: one line may have been read and not be answered
-abbrev pub LeftOver : List ℕ → List ℕ → Type 0
-LeftOver rest left = (bytes behind : List ℕ) × IsLineAtMost bytes × (rest ≡ bytes ++ behind) × LeftBehind behind left
-
 -- the sink took some front of these bytes
 abbrev pub TookFront : Option (List ℕ) → Option (List ℕ) → List ℕ → Type 0
 TookFront held held_now bytes = (front back : List ℕ) × (bytes ≡ front ++ back) × Took held held_now front
 
 module _ (limit : ℕ) (c : Command) where
-  -- what is written for an input where nothing fails, of which this much is read and that rest isn't: the first line is
-  -- refused; all is read; or the input passes its limit, and one byte more than that is read
+  -- what is left where the run was given up: one line may have been read and not be answered
+  abbrev pub LeftOver : List ℕ → List ℕ → Type 0
+  LeftOver rest left = (bytes behind : List ℕ) × IsLineAtMost bytes × c.over bytes × (rest ≡ bytes ++ behind) × LeftBehind behind left
+
+  -- what is written where source, sink and memory don't fail, where this much is read of the input and that rest
+  -- isn't: it ends at a first part; all is read; or the input passes its limit, and one byte more than that is read
   abbrev pub IsWholeOf : List ℕ → List ℕ → List ℕ → Type 0
   IsWholeOf read rest out =
-      c.refusal read rest out
-      ⊎ (((rest ≡ []) × (length read ≤ limit) × c.whole read out)
+      ((ending : Ending) × c.refusal ending read rest out)
+      ⊎ (((rest ≡ []) × (length read ≤ limit) × ((result : Result (Unit {0}) Ending) × c.whole result read out))
       ⊎ ((part : List ℕ) × (more : ℕ) × (read ≡ part ++ more ∷ []) × (length part ≡ limit) × c.past part out))
 
-  -- what is written for an input where nothing fails
+  -- what is written for an input where source, sink and memory don't fail
   abbrev pub IsWhole : List ℕ → List ℕ → Type 0
   IsWhole input out = (read rest : List ℕ) × (input ≡ read ++ rest) × IsWholeOf read rest out
 
@@ -53,43 +56,44 @@ module _ (limit : ℕ) (c : Command) where
   TookDue input left held held_now =
       (read rest due : List ℕ) × (input ≡ read ++ rest) × LeftOver rest left × IsDue read rest due × TookFront held held_now due
 
+  -- all of the input was read, and the whole output was taken
+  abbrev pub TookWhole : Result (Unit {0}) Ending → List ℕ → List ℕ → Option (List ℕ) → Option (List ℕ) → Type 0
+  TookWhole result input left held held_now =
+      (out : List ℕ) × (left ≡ []) × (length input ≤ limit) × c.whole result input out × Took held held_now out
+
+  -- the run ended so at a first part of the input, and nothing more was asked
+  abbrev pub TookRefusal : Ending → List ℕ → List ℕ → Option (List ℕ) → Option (List ℕ) → Type 0
+  TookRefusal ending input left held held_now =
+      (first rest out : List ℕ) × (input ≡ first ++ rest) × LeftBehind rest left × c.refusal ending first rest out × Took held held_now out
+
   -- what was written for an input, of which this is left in the source, where the run ended so
   abbrev pub EndsWith : Option (List ℕ) → Option (List ℕ) → Result (Unit {0}) Ending → List ℕ → List ℕ → Type 0
-  EndsWith held held_now (Ok done) input left =
-      (out : List ℕ) × (left ≡ []) × (length input ≤ limit) × c.whole input out × Took held held_now out
+  EndsWith held held_now (Ok done) input left = TookWhole (Ok done) input left held held_now
   EndsWith held held_now (Err Ending.Refused) input left =
-      ((first rest out : List ℕ) × (input ≡ first ++ rest) × LeftBehind rest left × c.refusal first rest out × Took held held_now out)
+      TookRefusal Ending.Refused input left held held_now
       ⊎ ((part : List ℕ) × (more : ℕ) × (out : List ℕ) × (input ≡ part ++ more ∷ left) × (length part ≡ limit) × c.past part out × Took held held_now out)
+  EndsWith held held_now (Err Ending.DiskFault) input left =
+      TookRefusal Ending.DiskFault input left held held_now ⊎ TookWhole (Err Ending.DiskFault) input left held held_now
+  EndsWith held held_now (Err Ending.NoHistory) input left = TookRefusal Ending.NoHistory input left held held_now
   EndsWith held held_now (Err (Ending.Stopped Stop.ReadFault)) input left =
       (read out : List ℕ) × (input ≡ read ++ left) × (length read ≤ limit) × c.front read out × Took held held_now out
   EndsWith held held_now (Err (Ending.Stopped Stop.WriteFault)) input left = TookDue input left held held_now
   EndsWith held held_now (Err (Ending.Stopped Stop.OutOfMemory)) input left = TookDue input left held held_now
 
-  -- whatever the sink took is a front of each output that the input has where nothing fails
+  -- whatever the sink took is a front of each whole output of the input
   abbrev pub TookOfWhole : List ℕ → Option (List ℕ) → Option (List ℕ) → Type 0
   TookOfWhole input held held_now = (whole : List ℕ) → IsWhole input whole → TookFront held held_now whole
 
-  -- how a command ended, and what it did to its source and its sink
-  pub record EndsAt (held held_now : Option (List ℕ)) (result : Result (Unit {0}) Ending) (old new : Tape) : Type 0 where
-    pub ends : EndsWith held held_now result old.left new.left
-    pub of_whole : TookOfWhole old.left held held_now
-
-  -- the same where the source tells its bytes
+  -- how a command ended, and what it did to its source and its sink, where the source tells its bytes
   abbrev pub Ends : Option Tape → Option Tape → Option (List ℕ) → Option (List ℕ) → Result (Unit {0}) Ending → Type 0
-  Ends old new held held_now result = WhereTold old new (EndsAt held held_now result)
-
-  -- there is no input without an output
-  abbrev pub HasOutputs : Type 0
-  HasOutputs = (input : List ℕ) → ((out : List ℕ) → IsWhole input out → ⊥) → ⊥
-
-  -- and none with two
-  abbrev pub HasOneOutput : Type 0
-  HasOneOutput = (input out other : List ℕ) → IsWhole input out → IsWhole input other → out ≡ other
+  Ends old new held held_now result = WhereTold old new (λ before now. EndsWith held held_now result before.left now.left)
 
 -- the exit status of an ending
 abbrev pub status_of : Result (Unit {0}) Ending → ℕ
 status_of (Ok done) = 0
 status_of (Err Ending.Refused) = 3
+status_of (Err Ending.DiskFault) = 6
+status_of (Err Ending.NoHistory) = 7
 status_of (Err (Ending.Stopped Stop.ReadFault)) = 4
 status_of (Err (Ending.Stopped Stop.WriteFault)) = 5
 status_of (Err (Ending.Stopped Stop.OutOfMemory)) = 12

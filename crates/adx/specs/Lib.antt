@@ -4,6 +4,9 @@ pub mod Steps
 pub mod Meanings
 pub mod Output
 pub mod Calls
+pub mod Courses
 pub mod Script
+pub mod OnDisk
 pub mod Running
+pub mod Answering
 pub mod Commands

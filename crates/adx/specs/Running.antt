@@ -1,23 +1,28 @@
 -- How a run over the lines of a script goes on and ends. Only private clauses cite this file.
-use Rattle.std.specs.Prelude.{◌≡◌, ◌⊎◌, ℕ, ◌+◌, ◌≤◌, ◌<◌, List, [], ◌++◌, length, All, Option, Result, Err}
+use Rattle.std.specs.Prelude.{◌≡◌, ◌⊎◌, ℕ, ◌+◌, ◌≤◌, ◌<◌, List, ◌++◌, length, All, Option, Result, Err}
 use Rattle.std.specs.List.{flat_map}
-use Rattle.adx_io.specs.Lines.{HasNoNewline, Keeps, tape_behind}
+use Rattle.adx_io.specs.Lines.{HasNoNewline, tape_behind}
 use Rattle.adx_io.specs.Streams.{Tape, WhereTold, Took}
 use Rattle.adx_io.specs.Talk.{TalkState, Reads, ended}
+use Rattle.adx_io.specs.declared.line_buffer.TheConstants.{CHUNK}
 use Rattle.adx_io.specs.declared.stop.Stop.{Stop}
+use Rattle.adx_desk.specs.Desks.{OnDisk}
+use Rattle.adx_desk.specs.Rosters.{desk_terms}
+use Rattle.adx_desk.specs.declared.fault.DeskFault.{DeskFault}
 use Rattle.day_rules.specs.declared.entry.Entry.{Entry}
-use Rattle.day_rules.specs.Runs.{Turn, AreTurns, run}
-use Rattle.adx.specs.declared.day.FirstLine.{FirstLine}
-use Rattle.adx.specs.declared.ending.Ending.{Ending}
-use Rattle.adx.specs.declared.limits.TheConstants.{LINE_LIMIT}
 use Rattle.deal_floor.specs.declared.roster.Roster.{Roster}
 use Rattle.script_lines.specs.Rosters.{IsRosterLine, RefusesRosterLine}
 use Rattle.script_lines.specs.declared.refusal.RosterRefusal.{RosterRefusal}
+use Rattle.adx.specs.declared.day.FirstLine.{FirstLine}
+use Rattle.adx.specs.declared.ending.Ending.{Ending}
+use Rattle.adx.specs.declared.limits.TheConstants.{LINE_LIMIT}
+use Rattle.adx.specs.Answering.{DeskRuns}
+use Rattle.adx.specs.Courses.{Course, EndsBy, EndsServed, given_up, taken_calls}
 use Rattle.adx.specs.Endings.{Command, EndsWith, TookFront}
-use Rattle.adx_io.specs.declared.line_buffer.TheConstants.{CHUNK}
-use Rattle.adx.specs.Meanings.{Answers, AreDone, IsLine}
-use Rattle.adx.specs.Output.{writing, roster_refused_line}
-use Rattle.adx.specs.Script.{script_of, terms_by, Means}
+use Rattle.adx.specs.Meanings.{Answers, Told}
+use Rattle.adx.specs.OnDisk.{CourseOn, ServesRun}
+use Rattle.adx.specs.Output.{writing, roster_refused_line, unopened_line}
+use Rattle.adx.specs.Script.{day, script_of, terms_by, Means}
 use Rattle.adx.specs.Steps.{IsAborted}
 
 -- this front of these bytes went to the sink, and the rest is still to be put
@@ -26,38 +31,38 @@ pub record PutsFront (held held_now : Option (List ℕ)) (bytes rest : List ℕ)
   pub took : Took held held_now front
   pub split : bytes ≡ front ++ rest
 
--- some lines were read and answered
-pub record RunsOn (roster : Roster) (start : List Entry) (before now : TalkState) (history : List Entry) (number : ℕ) (old new : Tape) : Type 0 where
+-- how a command over what is left of a talk ended: what became of its source and its sink
+abbrev pub EndsTalk : ℕ → Command → TalkState → Option Tape → Option (List ℕ) → Result (Unit {0}) Ending → Type 0
+EndsTalk limit c before tape held_now result =
+    WhereTold before.tape tape (λ old new. EndsWith limit c before.held held_now result old.left new.left)
+
+-- some lines were read and answered, with these calls
+pub record RunsOn (roster : Roster) (start : List Entry) (told : List Told) (before now : TalkState) (number : ℕ) (old new : Tape) : Type 0 where
   pub lines : List (List ℕ)
-  pub turns : List Turn
   pub answers : List ℕ
   pub reads : Reads before now old new (flat_map ended lines)
   pub whole : All HasNoNewline lines
-  pub answered : Answers (Means roster) (writing roster.campaigns) (terms_by roster) 2 start lines turns answers
-  pub done : AreDone turns
-  pub taken : AreTurns (length (terms_by roster).budgets) turns
-  pub ran : history ≡ run (terms_by roster) start turns
+  pub answered : Answers (Means roster) (writing roster.campaigns) (terms_by roster) 2 start lines told answers
   pub numbered : number ≡ 2 + length lines
   pub written : PutsFront before.held now.held answers now.out
 
 -- the same where the source tells its bytes
-abbrev pub Running : Roster → List Entry → TalkState → TalkState → List Entry → ℕ → Type 0
-Running roster start before now history number = WhereTold before.tape now.tape (RunsOn roster start before now history number)
+abbrev pub Running : Roster → List Entry → List Told → TalkState → TalkState → ℕ → Type 0
+Running roster start told before now number = WhereTold before.tape now.tape (RunsOn roster start told before now number)
 
--- a line was answered: these bytes were written behind the old ones, and this history was left
-pub record AnswersTo (roster : Roster) (history : List Entry) (number : ℕ) (line old new : List ℕ) (next : List Entry) : Type 0 where
-  pub turns : List Turn
-  pub out : List ℕ
-  pub answered : IsLine (Means roster) (writing roster.campaigns) (terms_by roster) number history line turns out
-  pub done : AreDone turns
-  pub taken : AreTurns (length (terms_by roster).budgets) turns
-  pub written : new ≡ old ++ out
-  pub left : next ≡ run (terms_by roster) history turns
+-- lines of a day were read and answered on its desk, which was opened with some history
+pub record RunsDesk {D : Type 0} (faults : D → ℕ) (reads : D → Option (List ℕ)) (may_leave : D → List ℕ → Type 0) (moment : D → ℕ) (left_since : D → ℕ → List ℕ → Type 0) (roster : Roster) (start : List Entry) (before now : TalkState) (number : ℕ) (disk : D) (desk : OnDisk D) : Type 0 where
+  pub told : List Told
+  pub on_disk : DeskRuns faults reads may_leave moment left_since (desk_terms roster) disk start told desk
+  pub on_talk : Running roster start told before now number
 
--- the line that was kept was answered
-abbrev pub AnswersKept : Roster → List Entry → ℕ → TalkState → List ℕ → List Entry → Type 0
-AnswersKept roster history number before new next =
-    (line : List ℕ) → Keeps LINE_LIMIT before.overlong before.line line → AnswersTo roster history number line before.out new next
+-- a script was run on a desk, from a history, and ended so
+pub record EndsScript {D : Type 0} (faults : D → ℕ) (reads : D → Option (List ℕ)) (may_leave : D → List ℕ → Type 0) (moment : D → ℕ) (left_since : D → ℕ → List ℕ → Type 0) (roster : Roster) (start : List Entry) (before : TalkState) (tape : Option Tape) (held_now : Option (List ℕ)) (old new : D) (result : Result (Unit {0}) Ending) : Type 0 where
+  pub told : List Told
+  pub unwritten : Option Told
+  pub ends_so : EndsServed told unwritten result
+  pub on_disk : ServesRun faults reads may_leave moment left_since (desk_terms roster) start (taken_calls told unwritten) old new
+  pub ends : EndsTalk before.allowed (script_of roster start told unwritten) before tape held_now result
 
 -- all of these bytes were put, and the run ended as was wanted; or it was aborted, and some front of them was taken
 abbrev pub PutsEnd : Option (List ℕ) → Option (List ℕ) → List ℕ → Result (Unit {0}) Ending → Result (Unit {0}) Ending → Type 0
@@ -65,10 +70,15 @@ PutsEnd held held_now bytes wanted result =
     ((result ≡ wanted) × Took held held_now bytes)
     ⊎ ((ending : Ending) × (result ≡ Err ending) × IsAborted ending × TookFront held held_now bytes)
 
--- how a command over what is left of a talk ended: what became of its source and its sink
-abbrev pub EndsTalk : ℕ → Command → TalkState → Option Tape → Option (List ℕ) → Result (Unit {0}) Ending → Type 0
-EndsTalk limit c before tape held_now result =
-    WhereTold before.tape tape (λ old new. EndsWith limit c before.held held_now result old.left new.left)
+-- an opening that gave up: its line is put, or nothing where it has none
+abbrev pub PutsUnopened : TalkState → Option (List ℕ) → DeskFault → Result (Unit {0}) Ending → Type 0
+PutsUnopened before held_now DeskFault.DiskFault result = (held_now ≡ before.held) × (result ≡ Err Ending.DiskFault)
+PutsUnopened before held_now (DeskFault.JournalFull size) result = PutsEnd before.held held_now (before.out ++ unopened_line (DeskFault.JournalFull size)) (Err Ending.NoHistory) result
+PutsUnopened before held_now (DeskFault.BadEntry at) result = PutsEnd before.held held_now (before.out ++ unopened_line (DeskFault.BadEntry at)) (Err Ending.NoHistory) result
+PutsUnopened before held_now (DeskFault.OtherRoster kept) result = PutsEnd before.held held_now (before.out ++ unopened_line (DeskFault.OtherRoster kept)) (Err Ending.NoHistory) result
+PutsUnopened before held_now (DeskFault.NotAJournal at) result = PutsEnd before.held held_now (before.out ++ unopened_line (DeskFault.NotAJournal at)) (Err Ending.NoHistory) result
+PutsUnopened before held_now (DeskFault.BadLength at) result = PutsEnd before.held held_now (before.out ++ unopened_line (DeskFault.BadLength at)) (Err Ending.NoHistory) result
+PutsUnopened before held_now DeskFault.OutOfMemory result = (held_now ≡ before.held) × (result ≡ Err (Ending.Stopped Stop.OutOfMemory))
 
 -- nothing more was asked of the source, which is at most one piece ahead
 abbrev pub Unasked : Option Tape → Option Tape → Type 0
@@ -91,14 +101,33 @@ abbrev pub FindsFirst : List ℕ → FirstLine → Type 0
 FindsFirst line (FirstLine.Whole r) = IsShortRoster line r
 FindsFirst line (FirstLine.Refused why) = WholeFails line why
 
--- what came of the first line: it is a roster, and its script ended so; or it is none, and was refused; or memory
--- was refused before
-abbrev pub EndsBehind : List ℕ → TalkState → Option Tape → Option (List ℕ) → Result (Unit {0}) Ending → Type 0
-EndsBehind line before tape held_now result =
-    ((r : Roster) × IsShortRoster line r × EndsTalk before.allowed (script_of r []) before tape held_now result)
-    ⊎ (((why : RosterRefusal) × WholeFails line why × Unasked before.tape tape × PutsEnd before.held held_now (before.out ++ roster_refused_line why) (Err Ending.Refused) result)
-    ⊎ (Unasked before.tape tape × (held_now ≡ before.held) × (result ≡ Err (Ending.Stopped Stop.OutOfMemory))))
+-- what came of a roster's line: opening its day gave up, and where it has a line that is put; or its script was run
+abbrev pub EndsOpened : {D : Type 0} → (faults : D → ℕ) (reads : D → Option (List ℕ)) (may_leave : D → List ℕ → Type 0) (moment : D → ℕ) (left_since : D → ℕ → List ℕ → Type 0) → Roster → TalkState → Option Tape → Option (List ℕ) → D → D → Result (Unit {0}) Ending → Type 0
+EndsOpened faults reads may_leave moment left_since r before tape held_now old new result =
+    ((start : List Entry) × EndsScript faults reads may_leave moment left_since r start before tape held_now old new result)
+    ⊎ ((why : DeskFault) × CourseOn faults reads may_leave moment left_since (given_up r why) old new × Unasked before.tape tape × PutsUnopened before held_now why result)
+
+-- what came of the first line: it is a roster's, and so the day ended; or it is none, and was refused; or memory was
+-- refused before. The disk is as it was in the last two.
+abbrev pub EndsBehind : {D : Type 0} → (faults : D → ℕ) (reads : D → Option (List ℕ)) (may_leave : D → List ℕ → Type 0) (moment : D → ℕ) (left_since : D → ℕ → List ℕ → Type 0) → List ℕ → TalkState → Option Tape → Option (List ℕ) → D → D → Result (Unit {0}) Ending → Type 0
+EndsBehind faults reads may_leave moment left_since line before tape held_now old new result =
+    ((r : Roster) × IsShortRoster line r × EndsOpened faults reads may_leave moment left_since r before tape held_now old new result)
+    ⊎ ((new ≡ old) × (((why : RosterRefusal) × WholeFails line why × Unasked before.tape tape × PutsEnd before.held held_now (before.out ++ roster_refused_line why) (Err Ending.Refused) result)
+    ⊎ (Unasked before.tape tape × (held_now ≡ before.held) × (result ≡ Err (Ending.Stopped Stop.OutOfMemory)))))
 
 -- a source that tells its bytes goes on to do so, and any other doesn't begin to
 abbrev pub TellsOn : Option Tape → Option Tape → Type 0
 TellsOn old new = WhereTold old new (λ _ _. Unit {0})
+
+-- how a day went, and what became of its disk, whatever its source tells
+pub record HasCourse {D : Type 0} (faults : D → ℕ) (reads : D → Option (List ℕ)) (may_leave : D → List ℕ → Type 0) (moment : D → ℕ) (left_since : D → ℕ → List ℕ → Type 0) (old new : D) (result : Result (Unit {0}) Ending) : Type 0 where
+  pub course : Course
+  pub by_course : EndsBy course result
+  pub on_disk : CourseOn faults reads may_leave moment left_since course old new
+
+-- a day ended so, whose roster's line was to be read
+pub record EndsDay {D : Type 0} (faults : D → ℕ) (reads : D → Option (List ℕ)) (may_leave : D → List ℕ → Type 0) (moment : D → ℕ) (left_since : D → ℕ → List ℕ → Type 0) (limit : ℕ) (before : TalkState) (tape : Option Tape) (held_now : Option (List ℕ)) (old new : D) (result : Result (Unit {0}) Ending) : Type 0 where
+  pub course : Course
+  pub by_course : EndsBy course result
+  pub on_disk : CourseOn faults reads may_leave moment left_since course old new
+  pub ends : EndsTalk limit (day course) before tape held_now result

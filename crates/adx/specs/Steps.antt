@@ -22,6 +22,10 @@ pub record HasCauses {T : Type 0} (before now : TalkState) (result : Result T En
 abbrev pub EndsBy : TalkState → TalkState → Ending → Type 0
 EndsBy before now ending = HasCauses {T = Unit {0}} before now (Err ending)
 
--- what a run ends as where all was put: at the end of its input, or refused
+-- what a run ends as where all was put: at the end of its input, refused, or for the disk
 abbrev pub IsAnswer : Result (Unit {0}) Ending → Type 0
-IsAnswer ended = (ended ≡ Ok tt) ⊎ (ended ≡ Err Ending.Refused)
+IsAnswer (Ok done) = Unit {0}
+IsAnswer (Err Ending.Refused) = Unit {0}
+IsAnswer (Err Ending.DiskFault) = Unit {0}
+IsAnswer (Err Ending.NoHistory) = Unit {0}
+IsAnswer (Err (Ending.Stopped stop)) = ⊥

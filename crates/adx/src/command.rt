@@ -1,29 +1,17 @@
 //! The top call, from the words of a command to its exit status.
-ghost use Rattle.std.specs.Prelude.{◌≡◌, ◌≢◌, ◌≤◌, MatchBool};
+ghost use Rattle.std.specs.Prelude.{◌≡◌, ◌≢◌, ◌⊎◌, ◌≤◌};
 ghost use Rattle.adx_io.specs.Streams.{Rises};
-ghost use Rattle.adx.specs.Commands.{day_words, Runs, TellsUsage};
-ghost use Rattle.adx.specs.declared.limits.TheConstants.{INPUT_LIMIT};
-ghost use Rattle.adx.specs.Endings.{HasOneOutput, HasOutputs};
-ghost use Rattle.adx.specs.Script.{day};
+ghost use Rattle.adx.specs.Commands.{HasOneOutput, HasOutputs, IsDay, RunsDay, TellsUsage};
 
 use crate::day::serve_day;
 use crate::ending::{NO_COMMAND, WRITE_FAULT, status_of};
-use adx_io::{Sink, Source, put_all};
+use crate::paths::is_day;
+use adx_io::{Disk, Sink, Source, put_all};
 use adx_units::Text;
 use std::alloc::Global;
 
 /// What is written where the words aren't a command.
 const USAGE: &str = "usage: adx COMMAND\n";
-
-/// Whether the words are those of the command `day`.
-fn is_day(words: &[Text]) -> bool
-    ensures { MatchBool result (words.now ≡ day_words) (words.now ≢ day_words) }
-{
-    match words {
-        [word] => word.as_str() == "day",
-        _ => false,
-    }
-}
 
 /// Writes the usage line, and gives the exit status.
 fn tell_usage<K: Sink>(sink: &mut K) -> u8
@@ -41,35 +29,50 @@ fn tell_usage<K: Sink>(sink: &mut K) -> u8
 }
 
 /// Runs the command that the words tell, which stand behind the program's name, from the source to
-/// the sink, and gives the exit status.
+/// the sink on a disk, and gives the exit status.
 ///
-/// The one command is `day`. It reads a roster line and then the lines of a script, answers each line
-/// of the script with a line, and closes with a table of the campaigns' books. What it answers is put
-/// into the sink before more is asked of the source.
+/// The one command is `day`. It reads a roster line, opens the roster's day on the disk, by the history that the disk's
+/// file stands for, and then reads the lines of a script. It answers each line of the script with a line, and closes
+/// with a table of the campaigns' books. A call's entry is in the journal before its answer is written, and what it
+/// answers is put into the sink before more is asked of the source. A call that a fault of the disk gives up, or that
+/// the journal has no room for, is answered so, and the run goes on.
 ///
-/// The status is 0 where the source was read to its end; 2 where the words aren't a command, and then
-/// the sink takes a usage line; 3 where the first line isn't a roster, or the input passes 2^36 bytes,
-/// of which one more is taken; 4 where the source failed, and then the sink took the answers to all
-/// whole lines that the source gave; 5 where the sink failed, and 12 where memory was refused, and then
-/// the sink took a front of the output. The count of faults of the source rises exactly at 4 and that
-/// of the sink exactly at 5, but where a count stands at its last value. Each input has one output.
-pub fn adx<S: Source, K: Sink>(alloc: Global, words: &[Text], source: &mut S, sink: &mut K) -> u8
-    ensures day { words.now ≡ day_words → Runs day (S.tape source.old) (S.tape source.new) (K.held sink.old) (K.held sink.new) result }
-    ensures usage { words.now ≢ day_words → TellsUsage (K.held sink.old) (K.held sink.new) result }
-    ensures unasked { words.now ≢ day_words → source.new ≡ source.old }
+/// The status is 0 where the source was read to its end and no call was given up by the disk; 2 where the words aren't
+/// a command, and then the sink takes a usage line; 3 where the first line isn't a roster, or the input passes 2^36
+/// bytes, of which one more is taken; 4 where the source failed, and then the sink took the answers to all whole lines
+/// that the source gave; 5 where the sink failed, and 12 where memory was refused, and then the sink took a front of the
+/// output; 6 where the disk failed while the day was opened, and then the sink took nothing, or where the source was
+/// read to its end and some call was given up by the disk; 7 where the disk's file stands for no history of the roster,
+/// and then the sink took a line that says why. The count of faults of the source rises exactly at 4 and that of the
+/// sink exactly at 5, but where a count stands at its last value; that of the disk rises in just the calls that are
+/// answered so. Each input has one output for each history at the start and each choice of calls that are given up.
+pub fn adx<S: Source, K: Sink, D: Disk>(
+    alloc: Global,
+    words: &[Text],
+    source: &mut S,
+    sink: &mut K,
+    disk: &mut D,
+) -> u8
+    ensures day { IsDay words.now → RunsDay D.faults D.reads D.may_leave D.moment D.left_since (S.tape source.old) (S.tape source.new) (K.held sink.old) (K.held sink.new) disk.old disk.new result }
+    ensures usage { (IsDay words.now → ⊥) → TellsUsage (K.held sink.old) (K.held sink.new) result }
+    ensures unasked { (IsDay words.now → ⊥) → (source.new ≡ source.old) × (disk.new ≡ disk.old) }
     ensures read_fault { result ≡ 4 → Rises (S.faults source.old) (S.faults source.new) }
     ensures read_passed { result ≢ 4 → S.faults source.new ≡ S.faults source.old }
     ensures write_fault { result ≡ 5 → Rises (K.faults sink.old) (K.faults sink.new) }
     ensures write_passed { result ≢ 5 → K.faults sink.new ≡ K.faults sink.old }
+    ensures disk_fault { result ≡ 6 → Rises (D.faults disk.old) (D.faults disk.new) }
+    ensures disk_passed { (result ≡ 0) ⊎ (result ≡ 7) → D.faults disk.new ≡ D.faults disk.old }
     ensures source_later { S.faults source.old ≤ S.faults source.new }
     ensures sink_later { K.faults sink.old ≤ K.faults sink.new }
-    ensures outputs { HasOutputs INPUT_LIMIT day }
-    ensures one_output { HasOneOutput INPUT_LIMIT day }
+    ensures disk_later { D.faults disk.old ≤ D.faults disk.new }
+    ensures outputs { HasOutputs }
+    ensures one_output { HasOneOutput }
     ensures source_same { S.place source.new ≡ S.place source.old }
     ensures sink_same { K.place sink.new ≡ K.place sink.old }
+    ensures disk_lasts { D.lasts disk.old disk.new }
 {
     if is_day(words) {
-        let ended = serve_day(alloc, source, sink);
+        let ended = serve_day(alloc, source, sink, disk);
         return status_of(ended);
     }
     tell_usage(sink)

@@ -7,17 +7,16 @@ ghost use Rattle.adx_io.specs.declared.stop.Stop.TheVariants.{ReadFault, WriteFa
 ghost use Rattle.adx.specs.declared.ending.Ending.TheVariants.{Stopped, Refused};
 ghost use Rattle.adx_io.specs.declared.line_buffer.TheConstants.{CHUNK};
 ghost use Rattle.adx.specs.declared.limits.TheConstants.{INPUT_LIMIT as input_limit, LINE_LIMIT as line_limit};
-ghost use Rattle.adx.specs.Endings.{Ends};
 ghost use Rattle.adx.specs.Output.{roster_refused_line};
-ghost use Rattle.adx.specs.Running.{CutFails, EndsTalk, EndsBehind, FindsFirst, PutsEnd, TellsOn};
-ghost use Rattle.adx.specs.Script.{day};
+ghost use Rattle.adx.specs.Commands.{ServesDay};
+ghost use Rattle.adx.specs.Running.{CutFails, EndsBehind, EndsDay, FindsFirst, HasCourse, PutsEnd, TellsOn};
 ghost use Rattle.adx.specs.Steps.{HasCauses};
 
 use crate::ending::Ending;
 use crate::limits::{INPUT_LIMIT, LINE_LIMIT};
 use crate::refusals::push_roster_refused;
 use crate::script::{put_end, run_day};
-use adx_io::{LineBuffer, Next, Sink, Source, Talk};
+use adx_io::{Disk, LineBuffer, Next, Sink, Source, Talk};
 use adx_units::OutOfMemory;
 use deal_floor::Roster;
 use script_lines::{RosterLineFault, RosterRefusal, read_roster};
@@ -90,32 +89,43 @@ fn refuse_roster<S: Source, K: Sink>(
 }
 
 /// Serves the day of the first line, whose newline was read, or refuses it.
-fn serve_first<S: Source, K: Sink>(alloc: Global, talk: &mut Talk<'_, S, K>) -> Result<(), Ending>
+fn serve_first<S: Source, K: Sink, D: Disk>(
+    alloc: Global,
+    disk: &mut D,
+    talk: &mut Talk<'_, S, K>,
+) -> Result<(), Ending>
     requires unwritten { (state_of talk.old).out ≡ [] }
     requires within { (state_of talk.old).allowed ≤ input_limit }
     requires ahead { length talk.old.buffer.now.pending ≤ CHUNK }
     ensures ends { (line : List ℕ) → Keeps line_limit talk.old.buffer.now.overlong talk.old.buffer.now.line line
-        → EndsBehind line (state_of talk.old) (S.tape talk.new.source.now) (K.held talk.new.sink.now) result }
+        → EndsBehind D.faults D.reads D.may_leave D.moment D.left_since line (state_of talk.old) (S.tape talk.new.source.now) (K.held talk.new.sink.now) disk.old disk.new result }
+    ensures course { HasCourse D.faults D.reads D.may_leave D.moment D.left_since disk.old disk.new result }
+    ensures lasts { D.lasts disk.old disk.new }
     ensures tells { TellsOn (state_of talk.old).tape (S.tape talk.new.source.now) }
     ensures causes { HasCauses (state_of talk.old) (state_of talk.new) result }
     ensures same { place_of talk.new ≡ place_of talk.old }
 {
     match first_line(alloc, talk.buffer)? {
-        FirstLine::Whole { roster } => run_day(alloc, &roster, talk),
+        FirstLine::Whole { roster } => run_day(alloc, &roster, disk, talk),
         FirstLine::Refused { why } => refuse_roster(alloc, talk, why),
     }
 }
 
 /// Reads the roster line, and serves its day.
-fn serve<S: Source, K: Sink>(alloc: Global, talk: &mut Talk<'_, S, K>) -> Result<(), Ending>
+fn serve<S: Source, K: Sink, D: Disk>(
+    alloc: Global,
+    disk: &mut D,
+    talk: &mut Talk<'_, S, K>,
+) -> Result<(), Ending>
     requires unwritten { (state_of talk.old).out ≡ [] }
     requires whole { (state_of talk.old).allowed ≡ input_limit }
-    ensures ends { EndsTalk input_limit day (state_of talk.old) (S.tape talk.new.source.now) (K.held talk.new.sink.now) result }
+    ensures ends { EndsDay D.faults D.reads D.may_leave D.moment D.left_since input_limit (state_of talk.old) (S.tape talk.new.source.now) (K.held talk.new.sink.now) disk.old disk.new result }
+    ensures lasts { D.lasts disk.old disk.new }
     ensures causes { HasCauses (state_of talk.old) (state_of talk.new) result }
     ensures same { place_of talk.new ≡ place_of talk.old }
 {
     match talk.next_line(LINE_LIMIT)? {
-        Next::Line => serve_first(alloc, talk),
+        Next::Line => serve_first(alloc, disk, talk),
         Next::End => {
             let why = cut_first(talk.buffer);
             refuse_roster(alloc, talk, why)
@@ -125,12 +135,14 @@ fn serve<S: Source, K: Sink>(alloc: Global, talk: &mut Talk<'_, S, K>) -> Result
 }
 
 /// Serves a day from its roster line to its closing table.
-pub(crate) fn serve_day<S: Source, K: Sink>(
+pub(crate) fn serve_day<S: Source, K: Sink, D: Disk>(
     alloc: Global,
     source: &mut S,
     sink: &mut K,
+    disk: &mut D,
 ) -> Result<(), Ending>
-    ensures ends { Ends input_limit day (S.tape source.old) (S.tape source.new) (K.held sink.old) (K.held sink.new) result }
+    ensures ends { ServesDay D.faults D.reads D.may_leave D.moment D.left_since (S.tape source.old) (S.tape source.new) (K.held sink.old) (K.held sink.new) disk.old disk.new result }
+    ensures lasts { D.lasts disk.old disk.new }
     ensures read_fault { result ≡ Err (Stopped ReadFault) → Rises (S.faults source.old) (S.faults source.new) }
     ensures read_passed { result ≢ Err (Stopped ReadFault) → S.faults source.new ≡ S.faults source.old }
     ensures write_fault { result ≡ Err (Stopped WriteFault) → Rises (K.faults sink.old) (K.faults sink.new) }
@@ -143,5 +155,5 @@ pub(crate) fn serve_day<S: Source, K: Sink>(
     let mut buffer = LineBuffer::new(alloc)?;
     let mut out = String::new(alloc);
     let mut talk = Talk::over(source, sink, &mut buffer, &mut out, INPUT_LIMIT);
-    serve(alloc, &mut talk)
+    serve(alloc, disk, &mut talk)
 }

@@ -22,14 +22,24 @@ const READ_FAULT: u8 = 4;
 /// The status where the sink failed.
 pub(crate) const WRITE_FAULT: u8 = 5;
 
+/// The status where the disk failed.
+pub(crate) const DISK_FAULT: u8 = 6;
+
+/// The status where the disk's file stands for no history of the roster.
+const NO_HISTORY: u8 = 7;
+
 /// The status where memory was refused.
 pub(crate) const OUT_OF_MEMORY: u8 = 12;
 
-/// Why a command ends before the end of its input.
+/// How a command ends that isn't done as it should.
 #[derive(Clone, Copy, Debug, PartialEq, Eq)]
 pub enum Ending {
     /// The input isn't of its form, or passes its limit.
     Refused,
+    /// The disk failed: while the day was opened, or in a call that was answered so; the input was then read to its end.
+    DiskFault,
+    /// The disk's file stands for no history of the roster.
+    NoHistory,
     /// A fault of the source or the sink, or want of memory.
     Stopped(Stop),
 }
@@ -57,6 +67,8 @@ pub fn status_of(ended: Result<(), Ending>) -> u8
     match ended {
         Ok(()) => DONE,
         Err(Ending::Refused) => REFUSED,
+        Err(Ending::DiskFault) => DISK_FAULT,
+        Err(Ending::NoHistory) => NO_HISTORY,
         Err(Ending::Stopped(Stop::ReadFault)) => READ_FAULT,
         Err(Ending::Stopped(Stop::WriteFault)) => WRITE_FAULT,
         Err(Ending::Stopped(Stop::OutOfMemory)) => OUT_OF_MEMORY,

@@ -2,16 +2,21 @@
 //!
 //! The call `adx` of the module `command` does all that the program does, from the words of its command
 //! line and the bytes of a source to those of a sink; its contract is the program's. It stands on
-//! `script_lines`, which says what a line means, on `day_machine`, which holds a day, on `day_rules`, which
-//! says what a day means, on `answer_lines`, which writes the answers, and on `deal_floor`, `adx_json`, `adx_io`
-//! and `adx_units`.
+//! `script_lines`, which says what a line means, on `adx_desk`, which holds a day and keeps its history on a disk,
+//! on `day_rules`, which says what a day means, on `answer_lines`, which writes the answers, and on `deal_floor`,
+//! `adx_json`, `adx_io` and `adx_units`.
 #![tactic(auto)]
 
 mod answering;
 mod command;
 mod day;
 mod ending;
+#[cfg(test)]
+mod journal_tests;
+mod length_disk;
 mod limits;
+mod opening;
+mod paths;
 mod refusals;
 mod script;
 #[cfg(test)]
@@ -20,9 +25,12 @@ mod test_tables;
 mod tests;
 
 use crate::command::adx;
-use crate::ending::{OUT_OF_MEMORY, WRITE_FAULT};
-use adx_io::{StdSink, StdSource};
+use crate::ending::{DISK_FAULT, OUT_OF_MEMORY, WRITE_FAULT};
+use crate::length_disk::LengthDisk;
+use crate::paths::{Paths, paths_of};
+use adx_io::{Disk, FileDisk, StdSink, StdSource};
 use adx_units::Text;
+use std::fs::{File, OpenOptions};
 use std::io;
 use std::io::ErrorKind;
 use std::process::ExitCode;
@@ -30,9 +38,10 @@ use std::process::ExitCode;
 /// What `--help` prints.
 const HELP: &str = "adx serves a day of an advertising exchange.
 
-usage: adx day
+usage: adx day [--journal FILE]
   reads a roster line and script lines on standard input, and writes an answer to each line and then
   the closing table on standard output
+  --journal FILE: the day goes on from the history that FILE keeps, and FILE keeps what it adds
 ";
 
 /// What `--version` prints.
@@ -55,6 +64,32 @@ fn tell(rt: &HostRuntime, text: &str) -> ExitCode {
     }
 }
 
+/// The file of a journal, made where there is none.
+fn open_journal(rt: &HostRuntime, path: &str) -> io::Result<File> {
+    OpenOptions::new()
+        .read(true)
+        .write(true)
+        .create(true)
+        .open(rt, path)
+}
+
+/// Runs the command from standard input to standard output, on a disk.
+fn run_on<D: Disk>(rt: &HostRuntime, words: &[Text], disk: &mut D) -> ExitCode {
+    let mut source = StdSource::new(rt.stdin());
+    let mut sink = StdSink::new(rt.stdout());
+    let status = adx(rt.alloc(), words, &mut source, &mut sink, disk);
+    ExitCode::from(status)
+}
+
+/// Runs the command on the file of a journal.
+fn run_on_file(rt: &HostRuntime, words: &[Text], path: &str) -> ExitCode {
+    match open_journal(rt, path) {
+        Ok(file) => run_on(rt, words, &mut FileDisk::new(file)),
+        Err(error) if error.kind() == ErrorKind::OutOfMemory => ExitCode::from(OUT_OF_MEMORY),
+        Err(_) => ExitCode::from(DISK_FAULT),
+    }
+}
+
 fn main(rt: HostRuntime) -> ExitCode {
     let words = match words_of(&rt) {
         Ok(words) => words,
@@ -71,8 +106,13 @@ fn main(rt: HostRuntime) -> ExitCode {
             _ => {}
         }
     }
-    let mut source = StdSource::new(rt.stdin());
-    let mut sink = StdSink::new(rt.stdout());
-    let status = adx(rt.alloc(), words.as_slice(), &mut source, &mut sink);
-    ExitCode::from(status)
+    match paths_of(rt.alloc(), words.as_slice()) {
+        Ok(
+            Paths {
+                journal: Some(path),
+            },
+        ) => run_on_file(&rt, words.as_slice(), path.as_str()),
+        Ok(Paths { journal: None }) => run_on(&rt, words.as_slice(), &mut LengthDisk::new()),
+        Err(_) => ExitCode::from(OUT_OF_MEMORY),
+    }
 }

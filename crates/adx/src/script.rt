@@ -1,56 +1,33 @@
 //! The lines of a script, from the first to the closing table.
-ghost use Rattle.std.specs.Prelude.{◌≡◌, ◌≢◌, ◌+◌, ◌*◌, ◌<◌, ◌≤◌, ◌++◌, ℕ, List, [], length, map, IfOk, IfErr, OnOk, Ok, Err, string_bytes};
+ghost use Rattle.std.specs.Prelude.{◌≡◌, ◌≢◌, ◌⊎◌, ◌+◌, ◌<◌, ◌≤◌, ◌++◌, ℕ, List, [], length, MatchBool, IfErr, OnErr, OnOk, Ok, Err, string_bytes};
 ghost use Rattle.adx_io.specs.Lines.{Keeps};
 ghost use Rattle.adx_io.specs.TalkState.{state_of, place_of};
-ghost use Rattle.adx_units.specs.declared.units.Units.{Units};
-ghost use Rattle.deal_floor.specs.declared.campaign.Campaign.{Campaign};
-ghost use Rattle.adx.specs.declared.ending.Ending.TheVariants.{Refused, Stopped};
+ghost use Rattle.adx_desk.specs.Rosters.{desk_terms};
+ghost use Rattle.day_rules.specs.declared.entry.Entry.{Entry};
+ghost use Rattle.adx.specs.declared.ending.Ending.TheVariants.{DiskFault as FaultOfDisk, Refused, Stopped};
 ghost use Rattle.adx_io.specs.declared.stop.Stop.TheVariants.{OutOfMemory as NoMemory};
 ghost use Rattle.adx_io.specs.declared.line_buffer.TheConstants.{CHUNK};
 ghost use Rattle.adx.specs.declared.limits.TheConstants.{INPUT_LIMIT as input_limit, LINE_LIMIT as line_limit};
 ghost use Rattle.answer_lines.specs.Table.{closing_table};
+ghost use Rattle.adx.specs.Courses.{IsCutShort};
+ghost use Rattle.adx.specs.Answering.{AnswersTo, DeskRuns, LeavesUnwritten};
 ghost use Rattle.adx.specs.Output.{toolong_line};
-ghost use Rattle.adx.specs.Running.{AnswersKept, EndsTalk, PutsEnd};
-ghost use Rattle.adx.specs.Script.{closing, cut_line, script_of, terms_by};
+ghost use Rattle.adx.specs.Running.{EndsOpened, EndsScript, PutsEnd};
+ghost use Rattle.adx.specs.Script.{closing, cut_line, terms_by};
 ghost use Rattle.adx.specs.Steps.{HasCauses, IsAnswer};
 
 use crate::answering::answer_line;
 use crate::ending::Ending;
 use crate::limits::LINE_LIMIT;
+use crate::opening::give_up;
 use crate::refusals::{push_refusal, push_refused};
-use adx_io::{LineBuffer, Next, Sink, Source, Talk};
-use adx_units::{OutOfMemory, Units};
+use adx_desk::Desk;
+use adx_io::{Disk, LineBuffer, Next, Sink, Source, Talk};
+use adx_units::OutOfMemory;
 use answer_lines::push_table;
-use day_machine::Day;
-use day_rules::DayLimits;
 use deal_floor::{Campaign, Roster};
 use script_lines::Refusal;
 use std::alloc::Global;
-
-fn budgets_of(alloc: Global, campaigns: &[Campaign]) -> Result<Vec<Units>, OutOfMemory>
-    ensures { IfOk result (λ budgets. budgets.items ≡ map (λ (c : Campaign). c.budget) campaigns.now) }
-{
-    let mut budgets = Vec::new(alloc);
-    for campaign in campaigns {
-        budgets.push(campaign.budget)?;
-    }
-    Ok(budgets)
-}
-
-/// The day of a roster.
-fn open_day(alloc: Global, roster: &Roster) -> Result<Day, OutOfMemory>
-    ensures terms { IfOk result (λ day. day.terms ≡ terms_by roster.entry.now) }
-    ensures history { IfOk result (λ day. day.history ≡ []) }
-{
-    let budgets = budgets_of(alloc, roster.campaigns.as_slice())?;
-    let limits = DayLimits {
-        auctions: roster.limits.auctions,
-        bids: roster.limits.bids,
-        text: roster.limits.text,
-    };
-    let day = Day::new(alloc, budgets.as_slice(), limits)?;
-    Ok(day)
-}
 
 /// Writes the refusal of a last piece without a newline, unless it is empty.
 fn push_cut(
@@ -75,38 +52,42 @@ fn push_cut(
 }
 
 /// Writes the closing table of a day with these campaigns.
-fn push_campaigns(out: &mut String, day: &Day, campaigns: &[Campaign]) -> Result<(), OutOfMemory>
-    requires { length day.now.terms.budgets ≡ length campaigns.now }
-    ensures { OnOk result (string_bytes out.new ≡ string_bytes out.old ++ closing_table campaigns.now day.now.terms day.now.history) }
+fn push_campaigns<D: Disk>(
+    out: &mut String,
+    desk: &Desk<D>,
+    campaigns: &[Campaign],
+) -> Result<(), OutOfMemory>
+    requires { length desk.now.desk.terms.day.budgets ≡ length campaigns.now }
+    ensures { OnOk result (string_bytes out.new ≡ string_bytes out.old ++ closing_table campaigns.now desk.now.desk.terms.day desk.now.desk.history) }
 {
-    push_table(out, campaigns, day.book(), day.awards(), day.entries())?;
+    push_table(out, campaigns, desk.book(), desk.entries())?;
     Ok(())
 }
 
 /// Writes the closing table of the day of a roster.
-fn push_books(out: &mut String, day: &Day, roster: &Roster) -> Result<(), OutOfMemory>
-    requires { day.now.terms ≡ terms_by roster.now }
-    ensures { OnOk result (string_bytes out.new ≡ string_bytes out.old ++ closing_table roster.entry.now.campaigns (terms_by roster.entry.now) day.now.history) }
+fn push_books<D: Disk>(out: &mut String, desk: &Desk<D>, roster: &Roster) -> Result<(), OutOfMemory>
+    requires { desk.now.desk.terms.day ≡ terms_by roster.now }
+    ensures { OnOk result (string_bytes out.new ≡ string_bytes out.old ++ closing_table roster.entry.now.campaigns (terms_by roster.entry.now) desk.now.desk.history) }
 {
-    push_campaigns(out, day, roster.campaigns.as_slice())?;
+    push_campaigns(out, desk, roster.campaigns.as_slice())?;
     Ok(())
 }
 
 /// Writes what comes behind the answers to all lines.
-fn push_close(
+fn push_close<D: Disk>(
     alloc: Global,
     out: &mut String,
-    day: &Day,
+    desk: &Desk<D>,
     roster: &Roster,
     number: u64,
     buffer: &LineBuffer,
 ) -> Result<(), OutOfMemory>
-    requires { day.now.terms ≡ terms_by roster.now }
+    requires { desk.now.desk.terms.day ≡ terms_by roster.now }
     ensures { OnOk result ((line : List ℕ) → Keeps line_limit buffer.now.overlong buffer.now.line line
-        → string_bytes out.new ≡ string_bytes out.old ++ closing roster.entry.now number line day.now.history) }
+        → string_bytes out.new ≡ string_bytes out.old ++ closing roster.entry.now number line desk.now.desk.history) }
 {
     push_cut(alloc, out, number, buffer)?;
-    push_books(out, day, roster)?;
+    push_books(out, desk, roster)?;
     Ok(())
 }
 
@@ -125,23 +106,38 @@ pub(crate) fn put_end<S: Source, K: Sink>(
     ending
 }
 
+/// How a day ends whose script was read to its end: done, or with a fault where a call was answered so.
+fn end_of<D: Disk>(desk: &Desk<D>) -> Result<(), Ending>
+    ensures done { desk.now.desk.faults ≡ 0 → result ≡ Ok tt }
+    ensures fault { desk.now.desk.faults ≢ 0 → result ≡ Err FaultOfDisk }
+{
+    if desk.faults() == 0 {
+        return Ok(());
+    }
+    Err(Ending::DiskFault)
+}
+
 /// Ends a script that was read to its end.
-fn close<S: Source, K: Sink>(
+fn close<S: Source, K: Sink, D: Disk>(
     alloc: Global,
     roster: &Roster,
-    day: &Day,
+    desk: &Desk<D>,
     number: u64,
     talk: &mut Talk<'_, S, K>,
 ) -> Result<(), Ending>
-    requires { day.now.terms ≡ terms_by roster.now }
-    ensures ends { (line : List ℕ) → Keeps line_limit talk.old.buffer.now.overlong talk.old.buffer.now.line line
-        → PutsEnd (state_of talk.old).held (state_of talk.new).held ((state_of talk.old).out ++ closing roster.entry.now number line day.now.history) (Ok tt) result }
+    requires { desk.now.desk.terms.day ≡ terms_by roster.now }
+    ensures done { desk.now.desk.faults ≡ 0 → (line : List ℕ) → Keeps line_limit talk.old.buffer.now.overlong talk.old.buffer.now.line line
+        → PutsEnd (state_of talk.old).held (state_of talk.new).held ((state_of talk.old).out ++ closing roster.entry.now number line desk.now.desk.history) (Ok tt) result }
+    ensures fault { desk.now.desk.faults ≢ 0 → (line : List ℕ) → Keeps line_limit talk.old.buffer.now.overlong talk.old.buffer.now.line line
+        → PutsEnd (state_of talk.old).held (state_of talk.new).held ((state_of talk.old).out ++ closing roster.entry.now number line desk.now.desk.history) (Err FaultOfDisk) result }
+    ensures done_so { desk.now.desk.faults ≡ 0 → (result ≡ Ok tt) ⊎ IsCutShort result }
+    ensures fault_so { desk.now.desk.faults ≢ 0 → (result ≡ Err FaultOfDisk) ⊎ IsCutShort result }
     ensures rest { (talk.new.source ≡ talk.old.source) × (talk.new.buffer ≡ talk.old.buffer) × (talk.new.room ≡ talk.old.room) }
     ensures causes { HasCauses (state_of talk.old) (state_of talk.new) result }
     ensures same { place_of talk.new ≡ place_of talk.old }
 {
-    push_close(alloc, talk.out, day, roster, number, talk.buffer)?;
-    put_end(talk, Ok(()))
+    push_close(alloc, talk.out, desk, roster, number, talk.buffer)?;
+    put_end(talk, end_of(desk))
 }
 
 /// Ends a script that passes the limit of an input.
@@ -156,38 +152,40 @@ fn refuse_rest<S: Source, K: Sink>(number: u64, talk: &mut Talk<'_, S, K>) -> Re
 }
 
 /// Answers the line that was read last.
-fn answer_next<S: Source, K: Sink>(
+fn answer_next<S: Source, K: Sink, D: Disk>(
     alloc: Global,
     roster: &Roster,
-    day: &mut Day,
+    desk: &mut Desk<D>,
     number: u64,
     talk: &mut Talk<'_, S, K>,
 ) -> Result<(), Ending>
-    requires terms { day.old.terms ≡ terms_by roster.now }
-    ensures terms { day.new.terms ≡ day.old.terms }
-    ensures answered { OnOk result (AnswersKept roster.entry.now day.old.history number (state_of talk.old) (state_of talk.new).out day.new.history) }
+    requires terms { desk.old.desk.terms.day ≡ terms_by roster.now }
+    ensures answered { OnOk result (AnswersTo D.faults D.may_leave D.moment D.left_since roster.entry.now desk.old desk.new number (Keeps line_limit talk.old.buffer.now.overlong talk.old.buffer.now.line) (state_of talk.old).out (state_of talk.new).out) }
+    ensures unwritten { OnErr result (LeavesUnwritten D.faults D.may_leave D.moment D.left_since roster.entry.now desk.old desk.new (Keeps line_limit talk.old.buffer.now.overlong talk.old.buffer.now.line)) }
     ensures failed { IfErr result (λ e. e ≡ Stopped NoMemory) }
     ensures state { state_of talk.new ≡ record (state_of talk.old) { out = (state_of talk.new).out } }
     ensures rest { (talk.new.source ≡ talk.old.source) × (talk.new.buffer ≡ talk.old.buffer) }
+    ensures lasts { D.lasts desk.old.disk desk.new.disk }
     ensures causes { HasCauses (state_of talk.old) (state_of talk.new) result }
     ensures same { place_of talk.new ≡ place_of talk.old }
 {
-    answer_line(alloc, roster, day, number, talk.buffer, talk.out)?;
+    answer_line(alloc, roster, desk, number, talk.buffer, talk.out)?;
     Ok(())
 }
 
 /// Answers the lines of a script on a day that begins, and closes it.
-fn run_lines<S: Source, K: Sink>(
+fn run_lines<S: Source, K: Sink, D: Disk>(
     alloc: Global,
     roster: &Roster,
-    day: &mut Day,
+    desk: &mut Desk<D>,
     talk: &mut Talk<'_, S, K>,
 ) -> Result<(), Ending>
-    requires terms { day.old.terms ≡ terms_by roster.now }
-    requires begins { day.old.history ≡ [] }
     requires unwritten { (state_of talk.old).out ≡ [] }
     requires within { (state_of talk.old).allowed ≤ input_limit }
-    ensures ends { EndsTalk (state_of talk.old).allowed (script_of roster.entry.now []) (state_of talk.old) (S.tape talk.new.source.now) (K.held talk.new.sink.now) result }
+    requires terms { desk.old.desk.terms ≡ desk_terms roster.now }
+    ensures ends { (disk : D) (start : List Entry) → DeskRuns D.faults D.reads D.may_leave D.moment D.left_since (desk_terms roster.entry.now) disk start [] desk.old
+        → EndsScript D.faults D.reads D.may_leave D.moment D.left_since roster.entry.now start (state_of talk.old) (S.tape talk.new.source.now) (K.held talk.new.sink.now) disk desk.new.disk result }
+    ensures lasts { D.lasts desk.old.disk desk.new.disk }
     ensures causes { HasCauses (state_of talk.old) (state_of talk.new) result }
     ensures same { place_of talk.new ≡ place_of talk.old }
 {
@@ -195,28 +193,40 @@ fn run_lines<S: Source, K: Sink>(
     'lines: loop {
         match talk.next_line(LINE_LIMIT)? {
             Next::Line => {
-                answer_next(alloc, roster, day, number, talk)?;
+                answer_next(alloc, roster, desk, number, talk)?;
                 number += 1;
             }
-            Next::End => return close(alloc, roster, day, number, talk),
+            Next::End => return close(alloc, roster, desk, number, talk),
             Next::PastLimit => return refuse_rest(number, talk),
         }
     }
 }
 
-/// Serves the day of a roster: answers the lines of the script, and closes it.
-pub(crate) fn run_day<S: Source, K: Sink>(
+/// Serves the day of a roster: opens it on its disk, answers the lines of the script, and closes it.
+pub(crate) fn run_day<S: Source, K: Sink, D: Disk>(
     alloc: Global,
     roster: &Roster,
+    disk: &mut D,
     talk: &mut Talk<'_, S, K>,
 ) -> Result<(), Ending>
     requires unwritten { (state_of talk.old).out ≡ [] }
     requires within { (state_of talk.old).allowed ≤ input_limit }
     requires ahead { length talk.old.buffer.now.pending ≤ CHUNK }
-    ensures ends { EndsTalk (state_of talk.old).allowed (script_of roster.entry.now []) (state_of talk.old) (S.tape talk.new.source.now) (K.held talk.new.sink.now) result }
+    ensures ends { EndsOpened D.faults D.reads D.may_leave D.moment D.left_since roster.entry.now (state_of talk.old) (S.tape talk.new.source.now) (K.held talk.new.sink.now) disk.old disk.new result }
+    ensures lasts { D.lasts disk.old disk.new }
     ensures causes { HasCauses (state_of talk.old) (state_of talk.new) result }
     ensures same { place_of talk.new ≡ place_of talk.old }
 {
-    let mut day = open_day(alloc, roster)?;
-    run_lines(alloc, roster, &mut day, talk)
+    match Desk::open(alloc, &mut *disk, roster) {
+        Ok(desk) => {
+            let mut desk = desk;
+            let ended = run_lines(alloc, roster, &mut desk, talk);
+            let _ = desk.close();
+            ended
+        }
+        Err(refused) => {
+            let (fault, _) = refused;
+            give_up(talk, &fault)
+        }
+    }
 }

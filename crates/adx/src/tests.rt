@@ -3,7 +3,7 @@ use crate::command::adx;
 use crate::test_tables::{
     EVENTFUL, EVENTFUL_ANSWERS, LAST_NUMBER, REFUSED, ROSTER_COUNT, ROSTERS, SCRIPT_COUNT, SCRIPTS,
 };
-use adx_io::{MemorySink, MemorySource};
+use adx_io::{MemoryDisk, MemorySink, MemorySource};
 use adx_units::Text;
 use std::alloc::Global;
 use std::fmt::Write;
@@ -68,7 +68,8 @@ fn answers(alloc: Global, case: &Case, step: usize) -> Result<bool, Fail> {
     let words = [Text::of(alloc, "day")?];
     let mut source = MemorySource::new(alloc, case.input.as_bytes(), step, &[])?;
     let mut sink = MemorySink::new(alloc, step, &[])?;
-    let status = adx(alloc, &words, &mut source, &mut sink);
+    let mut disk = MemoryDisk::new(alloc, b"", &[], None)?;
+    let status = adx(alloc, &words, &mut source, &mut sink, &mut disk);
     Ok(status == case.status && sink.taken() == case.output.as_bytes())
 }
 
@@ -235,7 +236,8 @@ fn keeps_the_answers_to_whole_lines_at_a_read_fault(rt: HostRuntime) -> Result<(
     for call in 0..=calls {
         let mut source = MemorySource::new(alloc, input, STEP, &[call as u64])?;
         let mut sink = MemorySink::new(alloc, 0, &[])?;
-        let status = adx(alloc, &words, &mut source, &mut sink);
+        let mut disk = MemoryDisk::new(alloc, b"", &[], None)?;
+        let status = adx(alloc, &words, &mut source, &mut sink, &mut disk);
         let (want_status, want) = if call == calls {
             (0, output)
         } else {
@@ -258,7 +260,8 @@ fn leaves_a_front_of_the_output_at_a_write_fault(rt: HostRuntime) -> Result<(), 
     for call in 0..=output.len() {
         let mut source = MemorySource::new(alloc, input, 0, &[])?;
         let mut sink = MemorySink::new(alloc, 1, &[call as u64])?;
-        let status = adx(alloc, &words, &mut source, &mut sink);
+        let mut disk = MemoryDisk::new(alloc, b"", &[], None)?;
+        let status = adx(alloc, &words, &mut source, &mut sink, &mut disk);
         let want_status = if call == output.len() { 0 } else { 5 };
         assert_eq!(rt; status, want_status, "put {call} fails");
         assert_eq!(rt; sink.taken(), output.split_at(call).0, "put {call} fails");

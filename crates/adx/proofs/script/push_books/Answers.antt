@@ -5,11 +5,11 @@ use Rattle.adx.proofs.AnswerLaws.{budgets_counted}
 use Rattle.adx.proofs.script.push_books.Goals as goal
 
 pub push_campaigns-requires : goal.push_campaigns-requires
-push_campaigns-requires c = budgets_counted c.args.roster.now c.args.day.now.terms c.requires ∙ ap (λ cs. length cs) (sym c.as_slice.ensures)
+push_campaigns-requires g c = budgets_counted c.args.roster.now c.args.desk.now.desk.terms.day c.requires ∙ ap (λ cs. length cs) (sym c.as_slice.ensures)
 
 pub returns : goal.returns
-returns c =
+returns g c =
     let roster = c.args.roster.now in
-    let day = c.args.day.now in
+    let desk = c.args.desk.now.desk in
     let old = string_bytes c.args.out.now in
-    c.in_ok-push_campaigns.ensures ∙ ap (λ cs. old ++ closing_table cs day.terms day.history) c.as_slice.ensures ∙ ap (λ t. old ++ closing_table roster.campaigns t day.history) c.requires
+    c.in_ok-push_campaigns.ensures ∙ ap (λ cs. old ++ closing_table cs desk.terms.day desk.history) c.as_slice.ensures ∙ ap (λ t. old ++ closing_table roster.campaigns t desk.history) c.requires

@@ -6,7 +6,7 @@ use Rattle.day_rules.specs.Terms.{budgets_after}
 use Rattle.day_rules.proofs.Money.{accounts_length}
 use Rattle.adx.proofs.script.push_campaigns.Goals as goal
 
-pub push_table-requires-clause-campaigns : goal.push_table-requires-clause-campaigns
-push_table-requires-clause-campaigns c =
-    let day = c.args.day.now in
-    ap (λ (accounts : List Account). length accounts) c.book.ensures ∙ accounts_length (budgets_after day.terms day.history) (awards_of day.history) ∙ c.requires
+pub push_table-requires : goal.push_table-requires
+push_table-requires g c =
+    let desk = c.args.desk.now.desk in
+    ap (λ (accounts : List Account). length accounts) c.book.ensures ∙ accounts_length (budgets_after desk.terms.day desk.history) (awards_of desk.history) ∙ c.requires
