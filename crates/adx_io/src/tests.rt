@@ -124,10 +124,8 @@ fn plan(rt: HostRuntime) -> Result<(), OutOfMemory> {
     }
     assert_eq!(rt; exchange(&mut &mut link, &mut answered)?, "end");
     assert_eq!(rt; answered.as_slice(), NO_CONTENT.as_bytes());
-    let mut start = 0;
-    for row in &TABLE {
-        assert_eq!(rt; link.asked(start), Some(row.asked));
-        start += 1;
+    for (start, row) in TABLE.iter().enumerate() {
+        assert_eq!(rt; link.asked(start as u32), Some(row.asked));
     }
     assert_eq!(rt; link.asked(7), Some(&b"asked"[..]));
     assert_eq!(rt; link.asked(8), None);
