@@ -55,6 +55,7 @@ impl Journal {
         ensures refused { IfErr result (λ e. (file : List ℕ) → D.reads disk.old ≡ Some file → Refuses file e) }
         ensures untouched { (at : ℕ) → result ≡ Err (JournalFault.NotAJournal at) → D.reads disk.new ≡ D.reads disk.old }
         ensures no_place { (at : ℕ) → result ≡ Err (JournalFault.BadLength at) → ⊥ }
+        ensures start { IfOk result (λ opening. opening.window.at ≡ length (opened [])) }
 
         // A crash at any moment of the call leaves a file with the payloads of one that a crash before
         // it might have left.
@@ -141,6 +142,7 @@ impl Opening {
         ensures closed { result ≡ Ok None → self.new.closed ≡ true }
         ensures refused { IfErr result (λ e. (file : List ℕ) (payloads : List (List ℕ)) → D.reads disk.old ≡ Some file → StandsBehind file self.old payloads → Refuses file e) }
         ensures place { (at : ℕ) → result ≡ Err (JournalFault.BadLength at) → at ≡ self.old.window.at }
+        ensures moved { IfOk result (λ next. MatchOption next (self.new.window.at ≡ self.old.window.at) (λ payload. self.new.window.at ≤ self.old.window.at + (length payload.items + 5))) }
         ensures only_reads { OnlyReads D.reads D.may_leave D.moment D.left_since disk.old disk.new }
         ensures ends { EndsOpening (D.faults disk.old) (D.faults disk.new) result }
         ensures lasts { D.lasts disk.old disk.new }
@@ -162,6 +164,7 @@ impl Opening {
         ensures closed { result ≡ Ok false → self.new.closed ≡ true }
         ensures refused { IfErr result (λ e. (file : List ℕ) (payloads : List (List ℕ)) → D.reads disk.old ≡ Some file → StandsBehind file self.old payloads → Refuses file e) }
         ensures place { (at : ℕ) → result ≡ Err (JournalFault.BadLength at) → at ≡ self.old.window.at }
+        ensures moved { IfOk result (λ more. MatchBool more (self.new.window.at ≤ self.old.window.at + (length payload.new.items + 5)) (self.new.window.at ≡ self.old.window.at)) }
         ensures only_reads { OnlyReads D.reads D.may_leave D.moment D.left_since disk.old disk.new }
         ensures ends { EndsOpening (D.faults disk.old) (D.faults disk.new) result }
         ensures lasts { D.lasts disk.old disk.new }
@@ -201,6 +204,8 @@ impl Opening {
         ensures refused { IfErr result (λ e. (file : List ℕ) (payloads : List (List ℕ)) → D.reads disk.old ≡ Some file → StandsBehind file self.old payloads
             → IsPlace self.old.window.bytes (Place.Open count) → Refuses file e) }
         ensures place { (at : ℕ) → result ≡ Err (JournalFault.BadLength at) → at ≡ self.old.window.at }
+        ensures len { OnOk result (length payload.new.items ≡ count) }
+        ensures moved { OnOk result (self.new.window.at ≤ self.old.window.at + (count + 5)) }
         ensures only_reads { OnlyReads D.reads D.may_leave D.moment D.left_since disk.old disk.new }
         ensures ends { EndsOpening (D.faults disk.old) (D.faults disk.new) result }
         ensures lasts { D.lasts disk.old disk.new }
