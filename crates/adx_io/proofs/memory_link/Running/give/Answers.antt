@@ -1,5 +1,5 @@
 -- The bytes that were copied are the next ones of the answer.
-use Rattle.std.proofs.Common.{◌≡◌, ap, ◌∙◌, ◌+◌, subst, arith, min, length, take, drop}
+use Rattle.std.proofs.Common.{◌≡◌, ap, ◌∙◌, ◌+◌, subst, arith, length, take, drop}
 use Rattle.adx_io.specs.Streams.{Gives}
 use Rattle.adx_io.specs.MemoryLinks.{RunningState}
 use Rattle.adx_io.proofs.Moved.{Gives-next, nothing_left}
