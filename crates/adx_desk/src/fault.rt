@@ -1,5 +1,9 @@
 //! What a desk answers where it can't do what it was asked.
+ghost use Rattle.std.specs.Prelude.{◌≡◌};
+ghost use Rattle.adx_desk.specs.Lines.{told_as};
+
 use adx_units::OutOfMemory;
+use answer_lines::Fault;
 use day_journal::JournalFault;
 use std::fmt;
 
@@ -21,6 +25,24 @@ pub enum DeskFault {
     BadLength { at: u64 },
     /// Memory was refused.
     OutOfMemory,
+}
+
+impl DeskFault {
+    /// The fault that a line tells of a call which this one gave up: that of the disk, or a journal without room, with the
+    /// size in bytes that it would come to. None for want of memory and for the refusals of a file, which no line tells.
+    pub fn told(&self) -> Option<Fault>
+        ensures { result ≡ told_as self.now }
+    {
+        match self {
+            DeskFault::DiskFault => Some(Fault::Disk),
+            DeskFault::JournalFull { size } => Some(Fault::JournalFull { size: *size }),
+            DeskFault::BadEntry { .. }
+            | DeskFault::OtherRoster { .. }
+            | DeskFault::NotAJournal { .. }
+            | DeskFault::BadLength { .. }
+            | DeskFault::OutOfMemory => None,
+        }
+    }
 }
 
 impl fmt::Display for DeskFault {

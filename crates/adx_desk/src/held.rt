@@ -11,12 +11,6 @@ use notice_book::Awards;
 /// The bytes of a record beside its payload: its gate and its length.
 pub const RECORD_OVERHEAD: u64 = 5;
 
-/// The bytes of a journal without payloads: its head and its gate.
-pub(crate) const EMPTY_SIZE: u64 = 10;
-
-/// The bytes of a journal whose only payload is a roster's digest.
-pub(crate) const FIRST_SIZE: u64 = EMPTY_SIZE + RECORD_OVERHEAD + 32;
-
 /// The bytes of the record of a notice.
 pub const NOTICE_RECORD: u64 = 10;
 

@@ -71,7 +71,7 @@ impl JournaledDay {
         journal: Journal,
     ) -> Result<JournaledDay, DeskFault>
         requires legal { IsDay day.terms day.history }
-        requires short { min (size_of journal) last_count ≤ longest_size (record { day = day.terms; digest = digest }) day.history }
+        requires short { size_of journal ≤ longest_size (record { day = day.terms; digest = digest }) day.history }
         ensures desk { IfOk result (λ d. d.desk ≡ record { terms = record { day = day.terms; digest = digest }; history = day.history; journal = journal; faults = 0 }) }
         ensures room { OnOk result (size_of journal + held day.history ≤ greatest_size) }
         ensures full { IfErr result (λ e. (greatest_size < size_of journal + held day.history)

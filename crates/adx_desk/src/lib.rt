@@ -36,4 +36,6 @@ pub use turn::{Call, Turn};
 #[cfg(test)]
 mod file_tests;
 #[cfg(test)]
+mod line_tests;
+#[cfg(test)]
 mod tests;

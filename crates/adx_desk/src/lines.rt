@@ -11,7 +11,7 @@ ghost use Rattle.adx_desk.specs.Rosters.{desk_terms};
 use crate::done::Done;
 use crate::fault::DeskFault;
 use adx_units::{OutOfMemory, Text};
-use answer_lines::{Fault, push_answer, push_fault, push_table};
+use answer_lines::{push_answer, push_fault, push_table};
 use campaign_book::Book;
 use day_rules::Entry;
 use deal_floor::Roster;
@@ -41,14 +41,8 @@ pub fn fault_line(alloc: Global, fault: &DeskFault) -> Result<Text, OutOfMemory>
     requires { HasLine fault.now }
     ensures { IfOk result (λ text. IfSome (told_as fault.now) (λ told. text ≡ line_of_fault told)) }
 {
-    let told = match fault {
-        DeskFault::DiskFault => Fault::Disk,
-        DeskFault::JournalFull { size } => Fault::JournalFull { size: *size },
-        DeskFault::BadEntry { .. }
-        | DeskFault::OtherRoster { .. }
-        | DeskFault::NotAJournal { .. }
-        | DeskFault::BadLength { .. }
-        | DeskFault::OutOfMemory => unreachable!(),
+    let Some(told) = fault.told() else {
+        unreachable!()
     };
     let mut line = String::new(alloc);
     push_fault(&mut line, told)?;

@@ -1,18 +1,16 @@
 //! What a journal tells of a day: the roster's digest, and behind it the records.
-ghost use Rattle.std.specs.Prelude.{◌≡◌, ◌≢◌, ◌==◌, ◌+◌, ◌≤◌, ℕ, List, [], ◌∷◌, length, min, true, Some, IfOk, IfErr, IfSome, OnOk, MatchOption, if◌then◌else◌};
+ghost use Rattle.std.specs.Prelude.{◌≡◌, ◌≢◌, ◌==◌, ◌+◌, ◌≤◌, ℕ, List, [], ◌∷◌, length, true, Some, IfOk, IfErr, OnOk, MatchBool, if◌then◌else◌};
 ghost use Rattle.std.specs.List.{sum_by};
-ghost use Rattle.adx_io.specs.Streams.{last_count};
 ghost use Rattle.day_journal.specs.Openings.{OnlyReads, StandsBehind};
 ghost use Rattle.day_journal.specs.Places.{IsClosed, opened};
 ghost use Rattle.day_rules.specs.DayState.{IsDay};
 ghost use Rattle.adx_desk.specs.Held.{record_size};
+ghost use Rattle.adx_desk.specs.Histories.{longest_size};
 ghost use Rattle.adx_desk.specs.Loading.{HasRead, HasReadAll};
 ghost use Rattle.adx_desk.specs.Openings.{EndsByDisk, RefusesDesk, told_of};
 ghost use Rattle.adx_desk.specs.declared.fault.DeskFault.{DeskFault as Fault};
-ghost use Rattle.adx_desk.specs.declared.held.TheConstants.{FIRST_SIZE as first_size, RECORD_OVERHEAD as record_overhead};
 
 use crate::fault::DeskFault;
-use crate::held::RECORD_OVERHEAD;
 use crate::record_reading::take_record;
 use adx_io::Disk;
 use day_journal::Opening;
@@ -43,27 +41,21 @@ fn compare(payload: &[u8], digest: &[u8; 32]) -> Result<(), DeskFault>
     Ok(())
 }
 
-/// So many bytes, and those of the record of this payload.
-fn with_record(bytes: u64, payload: &[u8]) -> u64
-    ensures { result ≡ min (bytes + length payload.now + record_overhead) last_count }
-{
-    bytes.saturating_add(payload.len() as u64 + RECORD_OVERHEAD)
-}
-
-/// Reads the records behind the digest, to the end of the journal, and tells how many bytes they have.
+/// Reads the records behind the digest, to the end of the journal.
 fn read_records<D: Disk>(
     alloc: Global,
     disk: &mut D,
     opening: &mut Opening,
     day: &mut Day,
     payload: &mut Vec<u8>,
-) -> Result<u64, DeskFault>
+) -> Result<(), DeskFault>
     requires { IsDay day.old.terms day.old.history }
     ensures terms { day.new.terms ≡ day.old.terms }
     ensures legal { OnOk result (IsDay day.new.terms day.new.history) }
-    ensures bytes { IfOk result (λ bytes. bytes + sum_by record_size day.old.history ≤ sum_by record_size day.new.history) }
-    ensures counted { IfOk result (λ bytes. (digest file : List ℕ) → D.reads disk.old ≡ Some file → HasRead digest file opening.old day.old.history
-        → min opening.new.window.at last_count ≤ opening.old.window.at + bytes) }
+
+    // Whatever the disk reads: the reader moved by no more bytes than a record for each entry that it added takes.
+    ensures moved { OnOk result (opening.new.window.at + sum_by record_size day.old.history ≤ opening.old.window.at + sum_by record_size day.new.history) }
+
     ensures read { OnOk result ((digest file : List ℕ) → D.reads disk.old ≡ Some file → HasRead digest file opening.old day.old.history
         → HasReadAll digest file opening.new day.new.history) }
     ensures closed { OnOk result (opening.new.closed ≡ true) }
@@ -73,38 +65,37 @@ fn read_records<D: Disk>(
     ensures ends { EndsByDisk (D.faults disk.old) (D.faults disk.new) result }
     ensures lasts { D.lasts disk.old disk.new }
 {
-    let mut bytes = 0;
     'records: loop {
         match opening.next_into(disk, payload) {
             Ok(true) => match take_record(alloc, day, payload.as_slice()) {
-                Ok(()) => bytes = with_record(bytes, payload.as_slice()),
+                Ok(()) => {}
                 Err(fault) => return Err(fault),
             },
-            Ok(false) => return Ok(bytes),
+            Ok(false) => return Ok(()),
             Err(fault) => return Err(DeskFault::from(fault)),
         }
     }
 }
 
-/// Reads the journal to its end, the digest and what stands behind it, and tells how many bytes the records behind the
-/// digest have; None where it has no payload.
+/// Reads the journal to its end, the digest and what stands behind it: true; false where it has no payload.
 pub(crate) fn load<D: Disk>(
     alloc: Global,
     disk: &mut D,
     opening: &mut Opening,
     day: &mut Day,
     digest: &[u8; 32],
-) -> Result<Option<u64>, DeskFault>
+) -> Result<bool, DeskFault>
     requires legal { IsDay day.old.terms day.old.history }
     requires empty { day.old.history ≡ [] }
+    requires start { opening.old.window.at ≡ length (opened []) }
     ensures terms { day.new.terms ≡ day.old.terms }
     ensures legal { OnOk result (IsDay day.new.terms day.new.history) }
     ensures read { IfOk result (λ found. (file : List ℕ) → D.reads disk.old ≡ Some file → StandsBehind file opening.old []
-        → MatchOption found (StandsBehind file opening.new [] × IsClosed (opened []) file × (day.new.history ≡ []))
-        (λ bytes. HasReadAll digest.now file opening.new day.new.history)) }
-    ensures bytes { IfOk result (λ found. IfSome found (λ bytes. bytes ≤ sum_by record_size day.new.history)) }
-    ensures counted { IfOk result (λ found. IfSome found (λ bytes. (file : List ℕ) → D.reads disk.old ≡ Some file → StandsBehind file opening.old []
-        → min opening.new.window.at last_count + 1 ≤ first_size + bytes)) }
+        → MatchBool found (HasReadAll digest.now file opening.new day.new.history)
+        (StandsBehind file opening.new [] × IsClosed (opened []) file)) }
+    ensures size { IfOk result (λ found. MatchBool found
+        (opening.new.window.at + 1 ≤ longest_size (record { day = day.new.terms; digest = digest.now }) day.new.history)
+        ((opening.new.window.at ≡ length (opened [])) × (day.new.history ≡ []))) }
     ensures closed { OnOk result (opening.new.closed ≡ true) }
     ensures refused { IfErr result (λ e. (file : List ℕ) → D.reads disk.old ≡ Some file → StandsBehind file opening.old []
         → RefusesDesk (record { day = day.old.terms; digest = digest.now }) file e) }
@@ -116,12 +107,12 @@ pub(crate) fn load<D: Disk>(
     match opening.next_into(disk, &mut payload) {
         Ok(true) => match compare(payload.as_slice(), digest) {
             Ok(()) => match read_records(alloc, disk, opening, day, &mut payload) {
-                Ok(bytes) => Ok(Some(bytes)),
+                Ok(()) => Ok(true),
                 Err(fault) => Err(fault),
             },
             Err(fault) => Err(fault),
         },
-        Ok(false) => Ok(None),
+        Ok(false) => Ok(false),
         Err(fault) => Err(DeskFault::from(fault)),
     }
 }

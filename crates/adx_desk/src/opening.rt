@@ -1,9 +1,8 @@
 //! How the day of a roster is opened on a disk.
-ghost use Rattle.std.specs.Prelude.{◌≡◌, ◌⊎◌, ◌+◌, ◌<◌, ◌≤◌, ℕ, List, [], ◌∷◌, length, min, true, Some, IfOk, IfErr, OnOk};
+ghost use Rattle.std.specs.Prelude.{◌≡◌, ◌⊎◌, ◌+◌, ◌<◌, ◌≤◌, ℕ, List, [], ◌∷◌, length, true, Some, IfOk, IfErr, OnOk};
 ghost use Rattle.adx_io.specs.Disks.{AsRead, LeavesOnly};
 ghost use Rattle.day_journal.specs.Openings.{StandsBehind};
-ghost use Rattle.day_journal.specs.Places.{StandsFor};
-ghost use Rattle.adx_io.specs.Streams.{last_count};
+ghost use Rattle.day_journal.specs.Places.{StandsFor, opened};
 ghost use Rattle.day_journal.specs.Tails.{Keeps, size_of};
 ghost use Rattle.day_rules.specs.DayState.{IsDay};
 ghost use Rattle.day_rules.specs.declared.entry.Entry.{Entry};
@@ -12,11 +11,8 @@ ghost use Rattle.adx_desk.specs.Histories.{IsHistoryOf, SameHistories, longest_s
 ghost use Rattle.adx_desk.specs.Loading.{HasOpened};
 ghost use Rattle.adx_desk.specs.Openings.{EndsByDisk, IsRefusal, RefusesDesk};
 ghost use Rattle.adx_desk.specs.Opened.{GivesUp, Opens};
-ghost use Rattle.adx_desk.specs.declared.fault.DeskFault.{DeskFault as Fault};
-ghost use Rattle.adx_desk.specs.declared.held.TheConstants.{EMPTY_SIZE as empty_size};
 
 use crate::fault::DeskFault;
-use crate::held::{EMPTY_SIZE, FIRST_SIZE};
 use crate::journaled_day::JournaledDay;
 use crate::loading::load;
 use adx_io::{Disk, Frame};
@@ -24,45 +20,24 @@ use day_journal::{Journal, Opening};
 use day_machine::Day;
 use std::alloc::Global;
 
-/// The open journal behind all its payloads, where these have no more than so many bytes with its head and its gate; that
-/// many were read.
-fn done_with<D: Disk>(disk: &D, opening: Opening, size: u64) -> Result<Journal, DeskFault>
-    requires { opening.closed ≡ true }
-    ensures kept { IfOk result (λ journal. (file : List ℕ) (payloads : List (List ℕ)) (tail : List ℕ) → D.reads disk.now ≡ Some file → StandsBehind file opening payloads
-        → AsRead (D.reads disk.now) (D.may_leave disk.now) → Keeps (D.may_leave disk.now) journal payloads tail) }
-    ensures gate { IfOk result (λ journal. journal.gate ≡ opening.window.at) }
-    ensures size { IfOk result (λ journal. min (size_of journal) last_count ≤ size) }
-    ensures longer { IfErr result (λ e. (size < min (opening.window.at + 1) last_count) × (e ≡ Fault.BadLength size)) }
-{
-    let journal = opening.done(disk);
-    if journal.size() > size {
-        return Err(DeskFault::BadLength { at: size });
-    }
-    Ok(journal)
-}
-
 /// Makes the frame's payload the first one of a journal that has none.
 fn begin<D: Disk>(disk: &mut D, opening: Opening, first: &Frame) -> Result<Journal, DeskFault>
     requires closed { opening.closed ≡ true }
     requires some { 0 < length first.now.payload }
+    requires start { opening.window.at ≡ length (opened []) }
     ensures kept { IfOk result (λ journal. (file : List ℕ) → D.reads disk.old ≡ Some file → StandsBehind file opening [] → AsRead (D.reads disk.old) (D.may_leave disk.old)
         → (tail : List ℕ) → Keeps (D.may_leave disk.new) journal (first.now.payload ∷ []) tail) }
     ensures any_moment { (file : List ℕ) → D.reads disk.old ≡ Some file → StandsBehind file opening [] → AsRead (D.reads disk.old) (D.may_leave disk.old)
         → LeavesOnly D.moment D.left_since disk.old disk.new (λ c. StandsFor c [] ⊎ StandsFor c (first.now.payload ∷ [])) }
-    ensures size { IfOk result (λ journal. size_of journal ≤ empty_size + (length first.now.payload + 5)) }
+    ensures size { IfOk result (λ journal. size_of journal ≡ length (opened (first.now.payload ∷ [])) + 1) }
     ensures refused { IfErr result (λ e. (file : List ℕ) → D.reads disk.old ≡ Some file → StandsBehind file opening [] → length first.now.payload ≤ 32 → IsRefusal e → ⊥) }
     ensures ends { EndsByDisk (D.faults disk.old) (D.faults disk.new) result }
     ensures lasts { D.lasts disk.old disk.new }
 {
-    match done_with(disk, opening, EMPTY_SIZE) {
-        Ok(journal) => {
-            let mut journal = journal;
-            match journal.append(disk, first, 0) {
-                Ok(()) => Ok(journal),
-                Err(fault) => Err(DeskFault::from(fault)),
-            }
-        }
-        Err(fault) => Err(fault),
+    let mut journal = opening.done(disk);
+    match journal.append(disk, first, 0) {
+        Ok(()) => Ok(journal),
+        Err(fault) => Err(DeskFault::from(fault)),
     }
 }
 
@@ -78,13 +53,14 @@ fn journal_of<D: Disk>(
     requires legal { IsDay day.old.terms day.old.history }
     requires empty { day.old.history ≡ [] }
     requires first { first.now.payload ≡ digest.now }
+    requires start { opening.window.at ≡ length (opened []) }
     ensures terms { day.new.terms ≡ day.old.terms }
     ensures legal { OnOk result (IsDay day.new.terms day.new.history) }
     ensures opened { IfOk result (λ journal. (file : List ℕ) → D.reads disk.old ≡ Some file → StandsBehind file opening [] → AsRead (D.reads disk.old) (D.may_leave disk.old)
         → HasOpened digest.now file (D.reads disk.new) (D.may_leave disk.new) journal day.new.history) }
     ensures any_moment { (file : List ℕ) → D.reads disk.old ≡ Some file → StandsBehind file opening [] → AsRead (D.reads disk.old) (D.may_leave disk.old)
         → LeavesOnly D.moment D.left_since disk.old disk.new (SameHistories (record { day = day.old.terms; digest = digest.now }) file) }
-    ensures size { IfOk result (λ journal. min (size_of journal) last_count ≤ longest_size (record { day = day.new.terms; digest = digest.now }) day.new.history) }
+    ensures size { IfOk result (λ journal. size_of journal ≤ longest_size (record { day = day.new.terms; digest = digest.now }) day.new.history) }
     ensures refused { IfErr result (λ e. (file : List ℕ) → D.reads disk.old ≡ Some file → StandsBehind file opening []
         → RefusesDesk (record { day = day.old.terms; digest = digest.now }) file e) }
     ensures untouched { IfErr result (λ e. (file : List ℕ) → D.reads disk.old ≡ Some file → StandsBehind file opening [] → IsRefusal e → D.reads disk.new ≡ Some file) }
@@ -93,11 +69,8 @@ fn journal_of<D: Disk>(
 {
     let mut opening = opening;
     match load(alloc, disk, &mut opening, day, digest) {
-        Ok(Some(bytes)) => match done_with(disk, opening, bytes.saturating_add(FIRST_SIZE)) {
-            Ok(journal) => Ok(journal),
-            Err(fault) => Err(fault),
-        },
-        Ok(None) => match begin(disk, opening, first) {
+        Ok(true) => Ok(opening.done(disk)),
+        Ok(false) => match begin(disk, opening, first) {
             Ok(journal) => Ok(journal),
             Err(fault) => Err(fault),
         },
@@ -117,6 +90,7 @@ fn day_behind<D: Disk>(
     requires legal { IsDay day.terms day.history }
     requires empty { day.history ≡ [] }
     requires first { first.now.payload ≡ digest.now }
+    requires start { opening.window.at ≡ length (opened []) }
     ensures terms { IfOk result (λ d. d.desk.terms ≡ record { day = day.terms; digest = digest.now }) }
     ensures faults { IfOk result (λ d. d.desk.faults ≡ 0) }
     ensures history { IfOk result (λ d. (file : List ℕ) → D.reads disk.old ≡ Some file → StandsBehind file opening [] → AsRead (D.reads disk.old) (D.may_leave disk.old)

@@ -5,7 +5,7 @@ ghost use Rattle.day_rules.specs.Asks.{IsAdmittedOffer, IsUndecided, IsWellForme
 ghost use Rattle.day_rules.specs.declared.ask.Kept.{Kept as KeptValue};
 ghost use Rattle.day_asks.specs.KeptTexts.{IsShort};
 
-use crate::{Desk, DeskFault};
+use crate::{Desk, DeskFault, Done};
 use adx_io::{Disk, MemoryDisk};
 use adx_json::read;
 use adx_units::{ADMITTED, Id, Offer, OutOfMemory, Sequence, Text, Units};
@@ -146,6 +146,33 @@ fn script() -> [(Call, Answer); 9] {
     ]
 }
 
+/// What is done of a notice or a tick, which is about no ask.
+fn about_no_ask(answered: Result<Answer, DeskFault>) -> Result<Done, DeskFault> {
+    match answered {
+        Ok(answer) => Ok(Done { answer, ask: None }),
+        Err(fault) => Err(fault),
+    }
+}
+
+/// What the desk does of a call.
+pub(crate) fn done<D: Disk>(
+    alloc: Global,
+    desk: &mut Desk<D>,
+    call: Call,
+) -> Result<Done, DeskFault>
+    requires { length desk.old.desk.terms.day.budgets ≡ 2 }
+    ensures { desk.new.desk.terms ≡ desk.old.desk.terms }
+{
+    match call {
+        Call::Ask(auction, now) => {
+            let ask = ask(alloc, auction, 7, now % 1_000_000, &[(0, 25_000, 60)])?;
+            desk.ask(ask)
+        }
+        Call::Notice(kind, auction, award) => about_no_ask(desk.notice(kind, auction, award)),
+        Call::Tick(now) => about_no_ask(desk.tick(now % 1_000_000)),
+    }
+}
+
 /// The desk's answer to a call; None where the disk failed.
 pub(crate) fn answer<D: Disk>(
     alloc: Global,
@@ -155,19 +182,8 @@ pub(crate) fn answer<D: Disk>(
     requires { length desk.old.desk.terms.day.budgets ≡ 2 }
     ensures { desk.new.desk.terms ≡ desk.old.desk.terms }
 {
-    let answered = match call {
-        Call::Ask(auction, now) => {
-            let ask = ask(alloc, auction, 7, now % 1_000_000, &[(0, 25_000, 60)])?;
-            match desk.ask(ask) {
-                Ok(done) => Ok(done.answer),
-                Err(fault) => Err(fault),
-            }
-        }
-        Call::Notice(kind, auction, award) => desk.notice(kind, auction, award),
-        Call::Tick(now) => desk.tick(now % 1_000_000),
-    };
-    match answered {
-        Ok(answer) => Ok(Some(answer)),
+    match done(alloc, desk, call) {
+        Ok(done) => Ok(Some(done.answer)),
         Err(DeskFault::DiskFault) => Ok(None),
         Err(fault) => Err(fault),
     }

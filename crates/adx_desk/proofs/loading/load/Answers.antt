@@ -1,5 +1,7 @@
-use Rattle.std.proofs.Common.{rules, arith, ◌≡◌, List, ℕ, ◌∷◌, [], length, Err, sym, ◌∙◌, ap, subst}
+use Rattle.std.proofs.Common.{arith, List, ℕ, ◌∷◌, [], length, Err, sym, ◌∙◌, ap, subst}
+use Rattle.std.specs.List.{sum_by}
 use Rattle.day_journal.specs.Openings.{StandsBehind}
+use Rattle.adx_desk.specs.Held.{record_size}
 use Rattle.adx_desk.specs.Histories.{DeskTerms}
 use Rattle.adx_desk.specs.Openings.{RefusesDesk}
 use Rattle.adx_desk.proofs.OpenedDays.{opened_one}
@@ -13,24 +15,18 @@ returns-in-Ok-read_records-clause-read g c file told behind =
     c.in-Ok-read_records.ensures.read digest file (c.next_into.ensures.only_reads.same ∙ told)
     (digest_read digest c.next_into.new.payload.items file c.next_into.new.self c.args.day.now.history (sym c.as_slice.ensures.value ∙ c.in-Ok.ensures.same) c.requires.empty (found file [] told behind))
 
-pub returns-in-Ok-read_records-clause-bytes : goal.returns-in-Ok-read_records-clause-bytes
-returns-in-Ok-read_records-clause-bytes g c = omega (arith, c.in-Ok-read_records.ensures.bytes)
-
-pub returns-in-Ok-read_records-clause-counted : goal.returns-in-Ok-read_records-clause-counted
-returns-in-Ok-read_records-clause-counted g c file told behind =
-    let found = rw c.in-Ok-true.field-0-test at c.in-Ok-true.ensures.found in
-    let digest = c.args.digest.now in
-    let first = c.next_into.new.payload.items in
+pub returns-in-Ok-read_records-clause-size : goal.returns-in-Ok-read_records-clause-size
+returns-in-Ok-read_records-clause-size g c =
+    let moved = rw c.in-Ok-true.field-0-test at c.in-Ok-true.ensures.moved in
     let same = sym c.as_slice.ensures.value ∙ c.in-Ok.ensures.same in
-    let short : length digest ≡ 32 = first_of (omega arith, search rules) in
-    let here = found file [] told behind in
     omega (
       arith,
-      short,
+      c.requires.start,
       ap length same,
-      here.place,
-      opened_one first,
-      c.in-Ok-read_records.ensures.counted digest file (c.next_into.ensures.only_reads.same ∙ told) (digest_read digest first file c.next_into.new.self c.args.day.now.history same c.requires.empty here),
+      moved,
+      opened_one c.args.digest.now,
+      c.in-Ok-read_records.ensures.moved,
+      ap (sum_by record_size) c.requires.empty,
     )
 
 pub returns-in-Ok-clause-refused : goal.returns-in-Ok-clause-refused
@@ -50,7 +46,7 @@ returns-in-Ok-true-clause-refused g c file told behind =
 pub returns-in-Ok-false-clause-read : goal.returns-in-Ok-false-clause-read
 returns-in-Ok-false-clause-read g c file told behind =
     let found = rw c.in-Ok-false.field-0-test at c.in-Ok-false.ensures.found in
-    let both = found file [] told behind in (both.0, both.1, c.requires.empty)
+    found file [] told behind
 
 pub returns-clause-refused : goal.returns-clause-refused
 returns-clause-refused g c file told behind =

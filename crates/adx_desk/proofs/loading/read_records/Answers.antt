@@ -1,5 +1,4 @@
-use Rattle.std.proofs.Common.{◌≡◌, ◌+◌, List, ℕ, ◌∷◌, [], length, min, Ok, Err, refl, sym, ◌∙◌, ap, subst, arith}
-use Rattle.adx_io.specs.Streams.{last_count}
+use Rattle.std.proofs.Common.{List, ℕ, ◌∷◌, [], Ok, Err, refl, sym, ◌∙◌, ap, subst, arith}
 use Rattle.day_rules.specs.DayState.{IsDay}
 use Rattle.day_rules.specs.Legal.{IsLegal}
 use Rattle.day_rules.specs.Terms.{Terms}
@@ -7,7 +6,7 @@ use Rattle.adx_desk.specs.Loading.{RefusesRecord, TakesFront}
 use Rattle.adx_desk.specs.Histories.{DeskTerms}
 use Rattle.adx_desk.specs.Openings.{RefusesDesk}
 use Rattle.adx_desk.proofs.ReadRecords.{later_refused, no_reads, read_all, reads_on, record_read, record_refused, still_shorter}
-use Rattle.adx_desk.proofs.Sizes.{place_counted, record_counted}
+use Rattle.adx_desk.proofs.Sizes.{moved_on}
 use Rattle.adx_desk.proofs.loading.read_records.Goals as goal
 
 pub records-init : goal.records-init
@@ -20,8 +19,7 @@ records-init g c =
       only = no_reads D.reads D.may_leave D.moment D.left_since c.args.disk.now (g.met.D.Disk.only_now c.args.disk.now);
       count = refl;
       lasts = g.met.D.Disk.lasts_same c.args.disk.now;
-      bytes = omega arith;
-      counted = λ digest file told read. omega arith;
+      moved = omega arith;
     }
 
 pub records-preserved : goal.records-preserved
@@ -34,8 +32,7 @@ records-preserved g c =
     let inv = c.records.invariant in
     let taken = subst (λ (t : Terms). TakesFront t mid.history new.history bytes []) inv.terms (subst (λ (l : List ℕ). TakesFront mid.terms mid.history new.history l []) c.as_slice.ensures.value c.in-Ok.ensures.taken) in
     let found = rw c.in-Ok-true.field-0-test at c.in-Ok-true.ensures.found in
-    let counted : c.with_record-bytes.result ≡ min (c.records.bytes + length bytes + 5) last_count =
-    c.with_record-bytes.ensures ∙ ap (λ (l : List ℕ). min (c.records.bytes + length l + 5) last_count) c.as_slice-in-Ok.ensures.value in
+    let moved = rw c.in-Ok-true.field-0-test at c.in-Ok-true.ensures.moved in
     record {
       terms = c.take_record.ensures.terms ∙ inv.terms;
       legal = record { terms_ok = c.requires.terms_ok; legal = taken.legal };
@@ -45,11 +42,7 @@ records-preserved g c =
       only = reads_on D.reads D.may_leave D.moment D.left_since c.args.disk.now c.records.disk c.next_into.new.disk inv.only c.next_into.ensures.only_reads;
       count = c.in-Ok-true.ensures.ends ∙ inv.count;
       lasts = g.met.D.Disk.lasts_on c.args.disk.now c.records.disk c.next_into.new.disk inv.lasts c.next_into.ensures.lasts;
-      bytes = record_counted day.terms mid.history new.history bytes day.history c.records.bytes c.with_record-bytes.result taken counted inv.bytes;
-      counted = λ digest file told read.
-          let had = inv.read digest file told read in
-          place_counted file c.records.opening c.next_into.new.self (digest ∷ had.rest) bytes c.args.opening.now.window.at c.records.bytes c.with_record-bytes.result had.behind
-          (found file (digest ∷ had.rest) (inv.only.same ∙ told) had.behind) counted (inv.counted digest file told read);
+      moved = moved_on day.terms mid.history new.history bytes day.history c.args.opening.now.window.at c.records.opening.window.at c.next_into.new.self.window.at taken moved inv.moved;
     }
 
 pub records-smaller : goal.records-smaller
@@ -71,12 +64,9 @@ returns-in-Ok-false-clause-read g c digest file told read =
 pub returns-in-Ok-false-clause-closed : goal.returns-in-Ok-false-clause-closed
 returns-in-Ok-false-clause-closed g c = c.in-Ok-false.ensures.closed (ap Ok c.in-Ok-false.field-0-test)
 
-pub returns-in-Ok-false-clause-counted : goal.returns-in-Ok-false-clause-counted
-returns-in-Ok-false-clause-counted g c digest file told read =
-    let inv = c.records.invariant in
-    let had = inv.read digest file told read in
-    let found = rw c.in-Ok-false.field-0-test at c.in-Ok-false.ensures.found in
-    omega (arith, inv.counted digest file told read, had.behind.place, (found file (digest ∷ had.rest) (inv.only.same ∙ told) had.behind).0.place)
+pub returns-in-Ok-false-clause-moved : goal.returns-in-Ok-false-clause-moved
+returns-in-Ok-false-clause-moved g c =
+    let still = rw c.in-Ok-false.field-0-test at c.in-Ok-false.ensures.moved in omega (arith, c.records.invariant.moved, still)
 
 pub returns-in-Err-take_record-clause-refused : goal.returns-in-Err-take_record-clause-refused
 returns-in-Err-take_record-clause-refused g c digest file told read =

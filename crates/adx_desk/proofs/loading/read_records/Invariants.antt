@@ -1,7 +1,6 @@
 -- The records so far were added, and nothing was written.
-use Rattle.std.proofs.Common.{◌≡◌, ◌+◌, ◌-◌, ◌^◌, ◌≤◌, ℕ, List, Some, length, min}
+use Rattle.std.proofs.Common.{◌≡◌, ◌+◌, ◌-◌, ◌^◌, ◌≤◌, ℕ, List, Some, length}
 use Rattle.std.specs.List.{sum_by}
-use Rattle.adx_io.specs.Streams.{last_count}
 use Rattle.day_journal.specs.Openings.{OnlyReads}
 use Rattle.day_rules.specs.DayState.{IsDay}
 use Rattle.adx_desk.specs.Held.{record_size}
@@ -16,8 +15,7 @@ invariant-records g l = record {
   only : OnlyReads g.D.Disk.reads g.D.Disk.may_leave g.D.Disk.moment g.D.Disk.left_since l.fn.disk l.disk;
   count : g.D.Disk.faults l.disk ≡ g.D.Disk.faults l.fn.disk;
   lasts : g.D.Disk.lasts l.fn.disk l.disk;
-  bytes : l.bytes + sum_by record_size l.fn.day.history ≤ sum_by record_size l.day.history;
-  counted : (digest file : List ℕ) → g.D.Disk.reads l.fn.disk ≡ Some file → HasRead digest file l.fn.opening l.fn.day.history → min l.opening.window.at last_count ≤ l.fn.opening.window.at + l.bytes;
+  moved : l.opening.window.at + sum_by record_size l.fn.day.history ≤ l.fn.opening.window.at + sum_by record_size l.day.history;
 }
 
 abbrev pub decreases-records : goal.decreases-records
