@@ -1,13 +1,14 @@
 //! The top call, from the words of a command to its exit status.
 ghost use Rattle.std.specs.Prelude.{◌≡◌, ◌≢◌, ◌⊎◌, ◌≤◌};
 ghost use Rattle.adx_io.specs.Streams.{Rises};
-ghost use Rattle.adx.specs.Commands.{HasOneOutput, HasOutputs, IsDay, RunsDay, TellsUsage};
+ghost use Rattle.script_day.specs.Days.{HasOneOutput, HasOutputs};
+ghost use Rattle.adx.specs.Commands.{IsDay, RunsDay, TellsUsage};
 
-use crate::day::serve_day;
-use crate::ending::{NO_COMMAND, WRITE_FAULT, status_of};
 use crate::paths::is_day;
+use crate::status::{NO_COMMAND, WRITE_FAULT, status_of};
 use adx_io::{Disk, Sink, Source, put_all};
 use adx_units::Text;
+use script_day::serve_day;
 use std::alloc::Global;
 
 /// What is written where the words aren't a command.

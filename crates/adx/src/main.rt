@@ -2,32 +2,24 @@
 //!
 //! The call `adx` of the module `command` does all that the program does, from the words of its command
 //! line and the bytes of a source to those of a sink; its contract is the program's. It stands on
-//! `script_lines`, which says what a line means, on `adx_desk`, which holds a day and keeps its history on a disk,
-//! on `day_rules`, which says what a day means, on `answer_lines`, which writes the answers, and on `deal_floor`,
-//! `adx_json`, `adx_io` and `adx_units`.
+//! `script_day`, which serves a day of script lines, on `adx_io` and on `adx_units`.
 #![tactic(auto)]
 
-mod answering;
 mod command;
-mod day;
-mod ending;
 #[cfg(test)]
 mod journal_tests;
 mod length_disk;
-mod limits;
-mod opening;
 mod paths;
-mod refusals;
-mod script;
+mod status;
 #[cfg(test)]
 mod test_tables;
 #[cfg(test)]
 mod tests;
 
 use crate::command::adx;
-use crate::ending::{DISK_FAULT, OUT_OF_MEMORY, WRITE_FAULT};
 use crate::length_disk::LengthDisk;
 use crate::paths::{Paths, paths_of};
+use crate::status::{DISK_FAULT, OUT_OF_MEMORY, WRITE_FAULT};
 use adx_io::{Disk, FileDisk, StdSink, StdSource};
 use adx_units::Text;
 use std::fs::{File, OpenOptions};

@@ -1,8 +1,9 @@
 -- Each input has one output, and the disk's count is that of its day.
 use Rattle.std.proofs.Common.{◌≡◌, ◌⊎◌, ◌∙◌, sym, subst}
-use Rattle.adx.proofs.DiskCounts.{day_later, day_rises, day_stays, is_faulted, is_passed}
-use Rattle.adx.proofs.OneOutput.{has_one_output}
-use Rattle.adx.proofs.Outputs.{has_outputs}
+use Rattle.script_day.proofs.DiskCounts.{day_later, day_rises, day_stays}
+use Rattle.script_day.proofs.OneOutput.{has_one_output}
+use Rattle.script_day.proofs.Outputs.{has_outputs}
+use Rattle.adx.proofs.Statuses.{is_faulted, is_passed}
 use Rattle.adx.proofs.command.adx.Goals as goal
 
 pub returns-then-is_day-clause-disk_fault : goal.returns-then-is_day-clause-disk_fault

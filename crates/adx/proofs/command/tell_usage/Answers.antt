@@ -1,7 +1,7 @@
 -- The usage line, or a front of it.
 use Rattle.std.proofs.Common.{inr, refl}
-use Rattle.adx.specs.Output.{usage_line}
-use Rattle.adx.proofs.Putting.{front_taken}
+use Rattle.adx.specs.Commands.{usage_line}
+use Rattle.script_day.proofs.Putting.{front_taken}
 use Rattle.adx.proofs.command.tell_usage.Goals as goal
 
 pub returns-in-Err-clause-tells : goal.returns-in-Err-clause-tells

@@ -1,0 +1,97 @@
+-- How a run over the lines of a script goes on and ends. Only private clauses cite this file.
+use Rattle.std.specs.Prelude.{◌≡◌, ◌⊎◌, ℕ, ◌+◌, ◌≤◌, List, ◌++◌, length, All, Option, Result, Err}
+use Rattle.std.specs.List.{flat_map}
+use Rattle.adx_io.specs.Lines.{HasNoNewline, tape_behind}
+use Rattle.adx_io.specs.Streams.{Tape, WhereTold, Took}
+use Rattle.adx_io.specs.Talk.{TalkState, Reads, ended}
+use Rattle.adx_io.specs.declared.line_buffer.TheConstants.{CHUNK}
+use Rattle.adx_io.specs.declared.stop.Stop.{Stop}
+use Rattle.adx_desk.specs.Desks.{OnDisk}
+use Rattle.adx_desk.specs.Rosters.{desk_terms}
+use Rattle.adx_desk.specs.declared.fault.DeskFault.{DeskFault}
+use Rattle.day_rules.specs.declared.entry.Entry.{Entry}
+use Rattle.deal_floor.specs.declared.roster.Roster.{Roster}
+use Rattle.script_lines.specs.declared.refusal.RosterRefusal.{RosterRefusal}
+use Rattle.script_day.specs.declared.ending.Ending.{Ending}
+use Rattle.script_day.specs.Answering.{DeskRuns}
+use Rattle.script_day.specs.Courses.{Course, EndsBy, EndsServed, given_up, taken_calls}
+use Rattle.script_day.specs.Endings.{Command, EndsWith}
+use Rattle.script_day.specs.Meanings.{Answers, Told}
+use Rattle.script_day.specs.OnDisk.{CourseOn, ServesRun}
+use Rattle.script_day.specs.Output.{writing, roster_refused_line}
+use Rattle.script_day.specs.Parts.{IsShortRoster, PutsEnd, PutsUnopened, WholeFails}
+use Rattle.script_day.specs.Script.{day, script_of, terms_by, Means}
+
+-- this front of these bytes went to the sink, and the rest is still to be put
+pub record PutsFront (held held_now : Option (List ℕ)) (bytes rest : List ℕ) : Type 0 where
+  pub front : List ℕ
+  pub took : Took held held_now front
+  pub split : bytes ≡ front ++ rest
+
+-- how a command over what is left of a talk ended: what became of its source and its sink
+abbrev pub EndsTalk : ℕ → Command → TalkState → Option Tape → Option (List ℕ) → Result (Unit {0}) Ending → Type 0
+EndsTalk limit c before tape held_now result =
+    WhereTold before.tape tape (λ old new. EndsWith limit c before.held held_now result old.left new.left)
+
+-- some lines were read and answered, with these calls
+pub record RunsOn (roster : Roster) (start : List Entry) (told : List Told) (before now : TalkState) (number : ℕ) (old new : Tape) : Type 0 where
+  pub lines : List (List ℕ)
+  pub answers : List ℕ
+  pub reads : Reads before now old new (flat_map ended lines)
+  pub whole : All HasNoNewline lines
+  pub answered : Answers (Means roster) (writing roster.campaigns) (terms_by roster) 2 start lines told answers
+  pub numbered : number ≡ 2 + length lines
+  pub written : PutsFront before.held now.held answers now.out
+
+-- the same where the source tells its bytes
+abbrev pub Running : Roster → List Entry → List Told → TalkState → TalkState → ℕ → Type 0
+Running roster start told before now number = WhereTold before.tape now.tape (RunsOn roster start told before now number)
+
+-- lines of a day were read and answered on its desk, which was opened with some history
+pub record RunsDesk {D : Type 0} (faults : D → ℕ) (reads : D → Option (List ℕ)) (may_leave : D → List ℕ → Type 0) (moment : D → ℕ) (left_since : D → ℕ → List ℕ → Type 0) (roster : Roster) (start : List Entry) (before now : TalkState) (number : ℕ) (disk : D) (desk : OnDisk D) : Type 0 where
+  pub told : List Told
+  pub on_disk : DeskRuns faults reads may_leave moment left_since (desk_terms roster) disk start told desk
+  pub on_talk : Running roster start told before now number
+
+-- a script was run on a desk, from a history, and ended so
+pub record EndsScript {D : Type 0} (faults : D → ℕ) (reads : D → Option (List ℕ)) (may_leave : D → List ℕ → Type 0) (moment : D → ℕ) (left_since : D → ℕ → List ℕ → Type 0) (roster : Roster) (start : List Entry) (before : TalkState) (tape : Option Tape) (held_now : Option (List ℕ)) (old new : D) (result : Result (Unit {0}) Ending) : Type 0 where
+  pub told : List Told
+  pub unwritten : Option Told
+  pub ends_so : EndsServed told unwritten result
+  pub on_disk : ServesRun faults reads may_leave moment left_since (desk_terms roster) start (taken_calls told unwritten) old new
+  pub ends : EndsTalk before.allowed (script_of roster start told unwritten) before tape held_now result
+
+-- nothing more was asked of the source, which is at most one piece ahead
+abbrev pub Unasked : Option Tape → Option Tape → Type 0
+Unasked told tape = (pending : List ℕ) × (length pending ≤ CHUNK) × (told ≡ tape_behind pending tape)
+
+-- what came of a roster's line: opening its day gave up, and where it has a line that is put; or its script was run
+abbrev pub EndsOpened : {D : Type 0} → (faults : D → ℕ) (reads : D → Option (List ℕ)) (may_leave : D → List ℕ → Type 0) (moment : D → ℕ) (left_since : D → ℕ → List ℕ → Type 0) → Roster → TalkState → Option Tape → Option (List ℕ) → D → D → Result (Unit {0}) Ending → Type 0
+EndsOpened faults reads may_leave moment left_since r before tape held_now old new result =
+    ((start : List Entry) × EndsScript faults reads may_leave moment left_since r start before tape held_now old new result)
+    ⊎ ((why : DeskFault) × CourseOn faults reads may_leave moment left_since (given_up r why) old new × Unasked before.tape tape × PutsUnopened before held_now why result)
+
+-- what came of the first line: it is a roster's, and so the day ended; or it is none, and was refused; or memory was
+-- refused before. The disk is as it was in the last two.
+abbrev pub EndsBehind : {D : Type 0} → (faults : D → ℕ) (reads : D → Option (List ℕ)) (may_leave : D → List ℕ → Type 0) (moment : D → ℕ) (left_since : D → ℕ → List ℕ → Type 0) → List ℕ → TalkState → Option Tape → Option (List ℕ) → D → D → Result (Unit {0}) Ending → Type 0
+EndsBehind faults reads may_leave moment left_since line before tape held_now old new result =
+    ((r : Roster) × IsShortRoster line r × EndsOpened faults reads may_leave moment left_since r before tape held_now old new result)
+    ⊎ ((new ≡ old) × (((why : RosterRefusal) × WholeFails line why × Unasked before.tape tape × PutsEnd before.held held_now (before.out ++ roster_refused_line why) (Err Ending.Refused) result)
+    ⊎ (Unasked before.tape tape × (held_now ≡ before.held) × (result ≡ Err (Ending.Stopped Stop.OutOfMemory)))))
+
+-- a source that tells its bytes goes on to do so, and any other doesn't begin to
+abbrev pub TellsOn : Option Tape → Option Tape → Type 0
+TellsOn old new = WhereTold old new (λ _ _. Unit {0})
+
+-- how a day went, and what became of its disk, whatever its source tells
+pub record HasCourse {D : Type 0} (faults : D → ℕ) (reads : D → Option (List ℕ)) (may_leave : D → List ℕ → Type 0) (moment : D → ℕ) (left_since : D → ℕ → List ℕ → Type 0) (old new : D) (result : Result (Unit {0}) Ending) : Type 0 where
+  pub course : Course
+  pub by_course : EndsBy course result
+  pub on_disk : CourseOn faults reads may_leave moment left_since course old new
+
+-- a day ended so, whose roster's line was to be read
+pub record EndsDay {D : Type 0} (faults : D → ℕ) (reads : D → Option (List ℕ)) (may_leave : D → List ℕ → Type 0) (moment : D → ℕ) (left_since : D → ℕ → List ℕ → Type 0) (limit : ℕ) (before : TalkState) (tape : Option Tape) (held_now : Option (List ℕ)) (old new : D) (result : Result (Unit {0}) Ending) : Type 0 where
+  pub course : Course
+  pub by_course : EndsBy course result
+  pub on_disk : CourseOn faults reads may_leave moment left_since course old new
+  pub ends : EndsTalk limit (day course) before tape held_now result

@@ -1,0 +1,203 @@
+//! A line's answer: what the desk answers its call, or why it gave the call up.
+ghost use Rattle.std.specs.Prelude.{◌≡◌, ◌≤◌, ◌<◌, ◌^◌, ℕ, List, ◌++◌, length, option_map, Option, Some, None, Result, Ok, IfOk, IfErr, OnErr, OnOk, string_bytes};
+ghost use Rattle.adx_io.specs.Lines.{Keeps};
+ghost use Rattle.adx_io.specs.Talk.{ended};
+ghost use Rattle.answer_lines.specs.Answers.{answer_line as line_of_answer, fault_line};
+ghost use Rattle.day_rules.specs.Asks.{IsWellFormed, IsUndecided};
+ghost use Rattle.day_rules.specs.Replies.{Call, ask as ask_call, notice as notice_call, tick as tick_call};
+ghost use Rattle.day_rules.specs.Runs.{IsCall};
+ghost use Rattle.script_lines.specs.Found.{call_of};
+ghost use Rattle.script_day.specs.declared.limits.TheConstants.{LINE_LIMIT};
+ghost use Rattle.adx_desk.specs.Lines.{told_as};
+ghost use Rattle.script_day.specs.Answering.{AnswersCall, AnswersTo, IsOfCall, LeavesCall, LeavesUnwritten};
+ghost use Rattle.script_day.specs.Script.{terms_by};
+
+use crate::refusals::{push, push_refused};
+use adx_desk::{Desk, DeskFault};
+use adx_io::{Disk, LineBuffer};
+use adx_units::OutOfMemory;
+use answer_lines::{Fault, push_answer, push_fault};
+use day_rules::{Answer, Ask};
+use deal_floor::{Campaign, Roster};
+use script_lines::{LineFault, Notice, Refusal, ScriptLine, read_line};
+use std::alloc::Global;
+
+/// Writes what a call is answered, and about which ask.
+fn push_told(
+    out: &mut String,
+    campaigns: &[Campaign],
+    answer: &Answer,
+    ask: Option<&Ask>,
+) -> Result<(), OutOfMemory>
+    ensures { OnOk result (string_bytes out.new ≡ string_bytes out.old ++ ended (line_of_answer campaigns.now answer.now (option_map (λ a. a.now) ask.entry))) }
+{
+    push_answer(out, campaigns, answer, ask)?;
+    push(out, "\n")?;
+    Ok(())
+}
+
+/// The fault that a line tells of a call that was given up; want of memory has no line.
+fn fault_told(fault: DeskFault) -> Result<Fault, OutOfMemory>
+    requires { IsOfCall fault }
+    ensures { IfOk result (λ told. told_as fault ≡ Some told) }
+{
+    match fault.told() {
+        Some(told) => Ok(told),
+        None => Err(OutOfMemory),
+    }
+}
+
+/// Writes why a call was given up.
+fn push_given_up(out: &mut String, fault: DeskFault) -> Result<(), OutOfMemory>
+    requires { IsOfCall fault }
+    ensures { OnOk result ((told : Fault) × (told_as fault ≡ Some told) × (string_bytes out.new ≡ string_bytes out.old ++ ended (fault_line told))) }
+{
+    let told = fault_told(fault)?;
+    push_fault(out, told)?;
+    push(out, "\n")?;
+    Ok(())
+}
+
+/// Takes an ask, and writes its answer.
+fn answer_ask<D: Disk>(
+    campaigns: &[Campaign],
+    desk: &mut Desk<D>,
+    ask: Ask,
+    out: &mut String,
+) -> Result<(), OutOfMemory>
+    requires well_formed { IsWellFormed (length desk.old.desk.terms.day.budgets) ask }
+    requires undecided { IsUndecided ask }
+    ensures answered { OnOk result (AnswersCall D.faults D.may_leave D.moment D.left_since campaigns.now desk.old desk.new (ask_call ask) (string_bytes out.old) (string_bytes out.new)) }
+    ensures unwritten { OnErr result (LeavesCall D.faults D.may_leave D.moment D.left_since desk.old desk.new (ask_call ask)) }
+    ensures lasts { D.lasts desk.old.disk desk.new.disk }
+{
+    match desk.ask(ask) {
+        Ok(done) => {
+            push_told(out, campaigns, &done.answer, done.ask.as_ref())?;
+            Ok(())
+        }
+        Err(fault) => {
+            push_given_up(out, fault)?;
+            Ok(())
+        }
+    }
+}
+
+/// Takes a notice, and writes its answer.
+fn answer_notice<D: Disk>(
+    campaigns: &[Campaign],
+    desk: &mut Desk<D>,
+    notice: &Notice,
+    out: &mut String,
+) -> Result<(), OutOfMemory>
+    ensures answered { OnOk result (AnswersCall D.faults D.may_leave D.moment D.left_since campaigns.now desk.old desk.new (notice_call notice.now.kind notice.now.auction notice.now.award) (string_bytes out.old) (string_bytes out.new)) }
+    ensures unwritten { OnErr result (LeavesCall D.faults D.may_leave D.moment D.left_since desk.old desk.new (notice_call notice.now.kind notice.now.auction notice.now.award)) }
+    ensures lasts { D.lasts desk.old.disk desk.new.disk }
+{
+    match desk.notice(notice.kind, notice.auction.as_str(), notice.award) {
+        Ok(answer) => {
+            push_told(out, campaigns, &answer, None)?;
+            Ok(())
+        }
+        Err(fault) => {
+            push_given_up(out, fault)?;
+            Ok(())
+        }
+    }
+}
+
+/// Takes a tick, and writes its answer.
+fn answer_tick<D: Disk>(
+    campaigns: &[Campaign],
+    desk: &mut Desk<D>,
+    now: u64,
+    out: &mut String,
+) -> Result<(), OutOfMemory>
+    requires { now < 2 ^ 63 }
+    ensures answered { OnOk result (AnswersCall D.faults D.may_leave D.moment D.left_since campaigns.now desk.old desk.new (tick_call now) (string_bytes out.old) (string_bytes out.new)) }
+    ensures unwritten { OnErr result (LeavesCall D.faults D.may_leave D.moment D.left_since desk.old desk.new (tick_call now)) }
+    ensures lasts { D.lasts desk.old.disk desk.new.disk }
+{
+    match desk.tick(now) {
+        Ok(answer) => {
+            push_told(out, campaigns, &answer, None)?;
+            Ok(())
+        }
+        Err(fault) => {
+            push_given_up(out, fault)?;
+            Ok(())
+        }
+    }
+}
+
+/// Takes the call of a line, and writes its answer.
+fn answer_call<D: Disk>(
+    campaigns: &[Campaign],
+    desk: &mut Desk<D>,
+    call: ScriptLine,
+    out: &mut String,
+) -> Result<(), OutOfMemory>
+    requires { IsCall (length desk.old.desk.terms.day.budgets) (call_of call) }
+    ensures answered { OnOk result (AnswersCall D.faults D.may_leave D.moment D.left_since campaigns.now desk.old desk.new (call_of call) (string_bytes out.old) (string_bytes out.new)) }
+    ensures unwritten { OnErr result (LeavesCall D.faults D.may_leave D.moment D.left_since desk.old desk.new (call_of call)) }
+    ensures lasts { D.lasts desk.old.disk desk.new.disk }
+{
+    match call {
+        ScriptLine::Ask { ask } => answer_ask(campaigns, desk, ask, out),
+        ScriptLine::Notice { notice } => answer_notice(campaigns, desk, &notice, out),
+        ScriptLine::Tick { now } => answer_tick(campaigns, desk, now, out),
+    }
+}
+
+/// Answers a line within the limit of a line.
+fn answer_text<D: Disk>(
+    alloc: Global,
+    roster: &Roster,
+    desk: &mut Desk<D>,
+    number: u64,
+    line: &[u8],
+    out: &mut String,
+) -> Result<(), OutOfMemory>
+    requires terms { desk.old.desk.terms.day ≡ terms_by roster.now }
+    ensures answered { OnOk result (AnswersTo D.faults D.may_leave D.moment D.left_since roster.entry.now desk.old desk.new number (λ text. (text ≡ line.now) × (length text ≤ LINE_LIMIT)) (string_bytes out.old) (string_bytes out.new)) }
+    ensures unwritten { OnErr result (LeavesUnwritten D.faults D.may_leave D.moment D.left_since roster.entry.now desk.old desk.new (λ text. (text ≡ line.now) × (length text ≤ LINE_LIMIT))) }
+    ensures lasts { D.lasts desk.old.disk desk.new.disk }
+{
+    match read_line(alloc, roster, line) {
+        Ok(call) => {
+            answer_call(roster.campaigns.as_slice(), desk, call, out)?;
+            Ok(())
+        }
+        Err(LineFault::Refused { why }) => {
+            push_refused(alloc, out, number, &why)?;
+            Ok(())
+        }
+        Err(LineFault::OutOfMemory) => Err(OutOfMemory),
+    }
+}
+
+/// Answers the line that was read last.
+pub(crate) fn answer_line<D: Disk>(
+    alloc: Global,
+    roster: &Roster,
+    desk: &mut Desk<D>,
+    number: u64,
+    buffer: &LineBuffer,
+    out: &mut String,
+) -> Result<(), OutOfMemory>
+    requires terms { desk.old.desk.terms.day ≡ terms_by roster.now }
+    ensures answered { OnOk result (AnswersTo D.faults D.may_leave D.moment D.left_since roster.entry.now desk.old desk.new number (Keeps LINE_LIMIT buffer.now.overlong buffer.now.line) (string_bytes out.old) (string_bytes out.new)) }
+    ensures unwritten { OnErr result (LeavesUnwritten D.faults D.may_leave D.moment D.left_since roster.entry.now desk.old desk.new (Keeps LINE_LIMIT buffer.now.overlong buffer.now.line)) }
+    ensures lasts { D.lasts desk.old.disk desk.new.disk }
+{
+    match buffer.line() {
+        Some(line) => {
+            answer_text(alloc, roster, desk, number, line, out)?;
+            Ok(())
+        }
+        None => {
+            push_refused(alloc, out, number, &Refusal::Long)?;
+            Ok(())
+        }
+    }
+}
