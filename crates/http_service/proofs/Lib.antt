@@ -1,0 +1,5 @@
+pub mod Lists
+pub mod Written
+pub mod Steps
+pub mod Running
+pub mod Seen

@@ -1,0 +1,183 @@
+-- How a connection goes on by its steps, and ends.
+use Rattle.std.proofs.Common.{◌≡◌, ◌≢◌, inl, inr, ℕ, ◌+◌, ◌<◌, List, [], ◌∷◌, ◌++◌, true, Option, Some, None, refl, sym, ap, ◌∙◌, append_assoc, subst, arith, lit<}
+use Rattle.std.proofs.lemmas.List.Elements.{All-nil}
+use Rattle.adx_io.specs.Streams.{Tape, WhereTold, Took}
+use Rattle.adx_io.proofs.Moved.{took_none, took_both}
+use Rattle.http_bodies.proofs.Told.{told_same, told_then}
+use Rattle.http_connection.specs.Messages.{Request, IsRequestThen, AreRequests, RefusesRequest}
+use Rattle.http_connection.specs.declared.conn.ConnEnd.{ConnEnd}
+use Rattle.http_grammar.specs.Requests.{is_kept}
+use Rattle.http_grammar.specs.declared.fault.HttpFault.{HttpFault}
+use Rattle.http_service.specs.Connections.{Answering, GivingUp, GoOn, Brings, IsAny, Served, TookFront, Refuses, EndsWith, HasCauses, Replies}
+use Rattle.http_service.specs.Replies.{refusal_bytes, reply_to}
+use Rattle.http_service.specs.Steps.{Answers, BringsOne, Finds, Runs, StepCauses, StepGives, WritesRefusal}
+use Rattle.http_service.specs.declared.limits.TheConstants.{MESSAGE_LIMIT}
+use Rattle.http_service.proofs.Lists.{requests_more, replies_more, kept_more, one_more}
+
+-- no message came yet
+pub runs_none : {S : Type 0} (answers : Answering S) (limit : ℕ) (ahead : List ℕ) (tape : Option Tape) (held : Option (List ℕ)) (s : S) → ahead ≡ [] → Runs answers limit 0 ahead tape tape held held s s
+runs_none answers limit ahead tape held s is = record {
+  ms = [];
+  many = refl;
+  kept = All-nil (λ (r : Request). is_kept r.head ≡ true);
+  served = record { out = []; replies = (refl, refl); took = took_none held };
+  brings = told_same tape (λ o n. AreRequests limit o.left [] (ahead ++ n.left)) (λ t. ap (λ (a : List ℕ). a ++ t.left) (sym is));
+}
+
+-- what is brought behind the messages so far
+brings_more : (limit : ℕ) (ms : List Request) (m : Request) (ahead ahead_now : List ℕ) (tape mid tape_now : Option Tape) → WhereTold tape mid (λ o n. AreRequests limit o.left ms (ahead ++ n.left)) → BringsOne limit ahead ahead_now mid tape_now m
+    → WhereTold tape tape_now (λ o n. AreRequests limit o.left (ms ++ m ∷ []) (ahead_now ++ n.left))
+brings_more limit ms m ahead ahead_now tape mid tape_now are one =
+    told_then tape mid tape_now (λ o n. AreRequests limit o.left ms (ahead ++ n.left)) (λ o n. IsRequestThen limit (ahead ++ o.left) m (ahead_now ++ n.left)) (λ o n. AreRequests limit o.left (ms ++ m ∷ []) (ahead_now ++ n.left))
+    (λ o b n r i. requests_more limit o.left ms (ahead ++ b.left) m (ahead_now ++ n.left) r i) are one
+
+brings_found : (limit : ℕ) (ms : List Request) (ahead : List ℕ) (tape mid tape_now : Option Tape) (Rest : List ℕ → Type 0) → WhereTold tape mid (λ o n. AreRequests limit o.left ms (ahead ++ n.left)) → Finds ahead mid tape_now Rest → Brings limit tape tape_now ms Rest
+brings_found limit ms ahead tape mid tape_now Rest are found =
+    told_then tape mid tape_now (λ o n. AreRequests limit o.left ms (ahead ++ n.left)) (λ o n. (piece : List ℕ) × (o.left ≡ piece ++ n.left) × Rest (ahead ++ o.left)) (λ o n. (beyond : List ℕ) × AreRequests limit o.left ms (beyond ++ n.left) × Rest (beyond ++ n.left))
+    (λ o b n r f.
+    let e : ahead ++ b.left ≡ (ahead ++ f.0) ++ n.left = ap (λ (l : List ℕ). ahead ++ l) f.1 ∙ sym (append_assoc ahead f.0 n.left) in
+    (ahead ++ f.0, subst (λ (l : List ℕ). AreRequests limit o.left ms l) e r, subst Rest e f.2))
+    are found
+
+brings_any : (limit : ℕ) (ms : List Request) (ahead : List ℕ) (tape tape_now : Option Tape) → WhereTold tape tape_now (λ o n. AreRequests limit o.left ms (ahead ++ n.left)) → Brings limit tape tape_now ms IsAny
+brings_any limit ms ahead None tape_now w = w
+brings_any limit ms ahead (Some o) None w = w
+brings_any limit ms ahead (Some o) (Some n) w = (ahead, w, tt)
+
+-- what the sink took behind the replies so far
+served_more : {S : Type 0} (answers : Answering S) (ms : List Request) (m : Request) (held mid held_now : Option (List ℕ)) (s between now : S) → Served answers ms held mid s between → Answers answers Took mid held_now between now m → Served answers (ms ++ m ∷ []) held held_now s now
+served_more answers ms m held mid held_now s between now served one = record {
+  out = Served.out served ++ reply_to m (Answers.answer one) (Answers.body one);
+  replies = replies_more answers s ms (Served.out served) between m (Answers.answer one) (Answers.body one) now (Served.replies served) (Answers.answered one);
+  took = took_both held mid held_now (Served.out served) (reply_to m (Answers.answer one) (Answers.body one)) (Served.took served) (Answers.took one);
+}
+
+served_same : {S : Type 0} (answers : Answering S) (ms : List Request) (held mid held_now : Option (List ℕ)) (s between now : S) → Served answers ms held mid s between → now ≡ between → held_now ≡ mid → Served answers ms held held_now s now
+served_same {S = S} answers ms held mid held_now s between now served e f =
+    subst (λ (h : Option (List ℕ)). Served answers ms held h s now) (sym f) (subst (λ (b : S). Served answers ms held mid s b) (sym e) served)
+
+replies_same : {S : Type 0} (answers : Answering S) (ms : List Request) (out : List ℕ) (s between now : S) → Replies answers s ms out between → now ≡ between → Replies answers s ms out now
+replies_same {S = S} answers ms out s between now are e = subst (λ (b : S). Replies answers s ms out b) (sym e) are
+
+front_behind : (held mid held_now : Option (List ℕ)) (out bytes : List ℕ) → Took held mid out → TookFront mid held_now bytes → TookFront held held_now (out ++ bytes)
+front_behind held mid held_now out bytes took front =
+    (out ++ front.0, front.1, ap (λ (l : List ℕ). out ++ l) front.2 ∙ sym (append_assoc out front.0 front.1), took_both held mid held_now out front.0 took front.3)
+
+-- a message was served, and the connection goes on
+pub runs_more : {S : Type 0} (answers : Answering S) (gives_up : GivingUp S) (limit count : ℕ) (ahead ahead_now : List ℕ) (tape mid tape_now : Option Tape) (held held_mid held_now : Option (List ℕ)) (s between now : S)
+    → Runs answers limit count ahead tape mid held held_mid s between → StepGives answers gives_up limit ahead ahead_now mid tape_now held_mid held_now between now None
+    → Runs answers limit (count + 1) ahead_now tape tape_now held held_now s now
+runs_more answers gives_up limit count ahead ahead_now tape mid tape_now held held_mid held_now s between now r g = record {
+  ms = Runs.ms r ++ g.0 ∷ [];
+  many = one_more (Runs.ms r) g.0 count (Runs.many r);
+  kept = kept_more (Runs.ms r) g.0 (Runs.kept r) g.2.0;
+  served = served_more answers (Runs.ms r) g.0 held held_mid held_now s between now (Runs.served r) g.2.1;
+  brings = brings_more limit (Runs.ms r) g.0 ahead ahead_now tape mid tape_now (Runs.brings r) g.1;
+}
+
+goes_on : {S : Type 0} (answers : Answering S) (limit count : ℕ) (ahead : List ℕ) (tape tape_now : Option Tape) (held held_now : Option (List ℕ)) (s now : S) (r : Runs answers limit count ahead tape tape_now held held_now s now) → count < MESSAGE_LIMIT → GoOn (Runs.ms r)
+goes_on answers limit count ahead tape tape_now held held_now s now r below = record {
+  kept = Runs.kept r;
+  few = subst (λ (n : ℕ). n < MESSAGE_LIMIT) (sym (Runs.many r)) below;
+}
+
+-- a refusal behind the messages so far
+refuses : {S : Type 0} (answers : Answering S) (Takes : Option (List ℕ) → Option (List ℕ) → List ℕ → Type 0) (limit count : ℕ) (ahead : List ℕ) (tape mid tape_now : Option Tape) (held held_mid held_now : Option (List ℕ)) (s between now : S) (fault : HttpFault)
+    → ((out bytes : List ℕ) → Took held held_mid out → Takes held_mid held_now bytes → Takes held held_now (out ++ bytes))
+    → Runs answers limit count ahead tape mid held held_mid s between → count < MESSAGE_LIMIT → now ≡ between → WritesRefusal Takes held_mid held_now fault → Finds ahead mid tape_now (λ rest. RefusesRequest limit rest fault)
+    → Refuses answers Takes limit tape tape_now held held_now s now fault
+refuses answers Takes limit count ahead tape mid tape_now held held_mid held_now s between now fault behind r below same w found = record {
+  ms = Runs.ms r;
+  out = Served.out (Runs.served r);
+  status = WritesRefusal.status w;
+  go_on = goes_on answers limit count ahead tape mid held held_mid s between r below;
+  replies = replies_same answers (Runs.ms r) (Served.out (Runs.served r)) s between now (Served.replies (Runs.served r)) same;
+  answered = WritesRefusal.answered w;
+  took = behind (Served.out (Runs.served r)) (refusal_bytes (WritesRefusal.status w)) (Served.took (Runs.served r)) (WritesRefusal.took w);
+  brings = brings_found limit (Runs.ms r) ahead tape mid tape_now (λ rest. RefusesRequest limit rest fault) (Runs.brings r) found;
+}
+
+-- the connection ended behind the messages so far
+pub runs_end : {S : Type 0} (answers : Answering S) (gives_up : GivingUp S) (limit count : ℕ) (ahead ahead_now : List ℕ) (tape mid tape_now : Option Tape) (held held_mid held_now : Option (List ℕ)) (s between now : S) (end : ConnEnd)
+    → Runs answers limit count ahead tape mid held held_mid s between → count < MESSAGE_LIMIT → StepGives answers gives_up limit ahead ahead_now mid tape_now held_mid held_now between now (Some end)
+    → EndsWith answers gives_up limit tape tape_now held held_now s now end
+runs_end answers gives_up limit count ahead ahead_now tape mid tape_now held held_mid held_now s between now ConnEnd.Closed r below (inl g) = (
+  Runs.ms r,
+  served_same answers (Runs.ms r) held held_mid held_now s between now (Runs.served r) g.0 g.1,
+  inl (goes_on answers limit count ahead tape mid held held_mid s between r below, brings_found limit (Runs.ms r) ahead tape mid tape_now (λ rest. rest ≡ []) (Runs.brings r) g.2),
+)
+runs_end answers gives_up limit count ahead ahead_now tape mid tape_now held held_mid held_now s between now ConnEnd.Closed r below (inr g) = (
+  Runs.ms r ++ g.0 ∷ [],
+  served_more answers (Runs.ms r) g.0 held held_mid held_now s between now (Runs.served r) g.2.1,
+  inr (
+    record { before = Runs.ms r; last = g.0; split = refl; go_on = goes_on answers limit count ahead tape mid held held_mid s between r below; closes = g.2.0 },
+    brings_any limit (Runs.ms r ++ g.0 ∷ []) ahead_now tape tape_now (brings_more limit (Runs.ms r) g.0 ahead ahead_now tape mid tape_now (Runs.brings r) g.1),
+  ),
+)
+runs_end answers gives_up limit count ahead ahead_now tape mid tape_now held held_mid held_now s between now ConnEnd.Cut r below g = (
+  Runs.ms r,
+  served_same answers (Runs.ms r) held held_mid held_now s between now (Runs.served r) g.0 g.1,
+  goes_on answers limit count ahead tape mid held held_mid s between r below,
+  brings_found limit (Runs.ms r) ahead tape mid tape_now (λ rest. RefusesRequest limit rest HttpFault.Cut) (Runs.brings r) g.2,
+)
+runs_end answers gives_up limit count ahead ahead_now tape mid tape_now held held_mid held_now s between now (ConnEnd.Refused fault) r below g =
+    refuses answers Took limit count ahead tape mid tape_now held held_mid held_now s between now fault (λ out bytes. took_both held held_mid held_now out bytes) r below g.0 g.1 g.2
+runs_end answers gives_up limit count ahead ahead_now tape mid tape_now held held_mid held_now s between now ConnEnd.ReadFault r below g = (
+  Runs.ms r,
+  served_same answers (Runs.ms r) held held_mid held_now s between now (Runs.served r) g.0 g.1,
+  goes_on answers limit count ahead tape mid held held_mid s between r below,
+  brings_found limit (Runs.ms r) ahead tape mid tape_now IsAny (Runs.brings r) g.2,
+)
+runs_end answers gives_up limit count ahead ahead_now tape mid tape_now held held_mid held_now s between now ConnEnd.WriteFault r below (inl g) =
+    inl
+    (record {
+      before = Runs.ms r;
+      last = g.0;
+      out = Served.out (Runs.served r) ++ reply_to g.0 (Answers.answer g.2) (Answers.body g.2);
+      go_on = goes_on answers limit count ahead tape mid held held_mid s between r below;
+      replies = replies_more answers s (Runs.ms r) (Served.out (Runs.served r)) between g.0 (Answers.answer g.2) (Answers.body g.2) now (Served.replies (Runs.served r)) (Answers.answered g.2);
+      took = front_behind held held_mid held_now (Served.out (Runs.served r)) (reply_to g.0 (Answers.answer g.2) (Answers.body g.2)) (Served.took (Runs.served r)) (Answers.took g.2);
+      brings = brings_any limit (Runs.ms r ++ g.0 ∷ []) ahead_now tape tape_now (brings_more limit (Runs.ms r) g.0 ahead ahead_now tape mid tape_now (Runs.brings r) g.1);
+    })
+runs_end answers gives_up limit count ahead ahead_now tape mid tape_now held held_mid held_now s between now ConnEnd.WriteFault r below (inr g) =
+    inr (g.0, refuses answers TookFront limit count ahead tape mid tape_now held held_mid held_now s between now g.0 (λ out bytes. front_behind held held_mid held_now out bytes) r below g.1 g.2 g.3)
+runs_end answers gives_up limit count ahead ahead_now tape mid tape_now held held_mid held_now s between now ConnEnd.Spent r below g = absurd g
+runs_end answers gives_up limit count ahead ahead_now tape mid tape_now held held_mid held_now s between now ConnEnd.OutOfMemory r below g = (
+  Runs.ms r,
+  between,
+  served_same answers (Runs.ms r) held held_mid held_now s between between (Runs.served r) refl g.2.1,
+  goes_on answers limit count ahead tape mid held held_mid s between r below,
+  inr (g.0, g.2.0, brings_any limit (Runs.ms r ++ g.0 ∷ []) ahead_now tape tape_now (brings_more limit (Runs.ms r) g.0 ahead ahead_now tape mid tape_now (Runs.brings r) g.1)),
+)
+
+-- as many messages came as may
+pub runs_spent : {S : Type 0} (answers : Answering S) (gives_up : GivingUp S) (limit count : ℕ) (ahead : List ℕ) (tape tape_now : Option Tape) (held held_now : Option (List ℕ)) (s now : S)
+    → Runs answers limit count ahead tape tape_now held held_now s now → count ≡ MESSAGE_LIMIT → EndsWith answers gives_up limit tape tape_now held held_now s now ConnEnd.Spent
+runs_spent answers gives_up limit count ahead tape tape_now held held_now s now r all =
+    (Runs.ms r, Runs.served r, record { kept = Runs.kept r; many = Runs.many r ∙ all }, brings_any limit (Runs.ms r) ahead tape tape_now (Runs.brings r))
+
+-- memory was refused before any message came
+pub runs_nothing : {S : Type 0} (answers : Answering S) (gives_up : GivingUp S) (limit : ℕ) (tape : Option Tape) (held : Option (List ℕ)) (s : S) → EndsWith answers gives_up limit tape tape held held s s ConnEnd.OutOfMemory
+runs_nothing answers gives_up limit tape held s = (
+  [],
+  s,
+  record { out = []; replies = (refl, refl); took = took_none held },
+  record { kept = All-nil (λ (r : Request). is_kept r.head ≡ true); few = lit< tt },
+  inl (refl, refl, refl),
+)
+
+-- the causes of an end, where nothing failed before
+pub causes_behind : (read mid read_now write write_mid write_now : ℕ) (end : ConnEnd) → mid ≡ read → write_mid ≡ write → StepCauses mid read_now write_mid write_now (Some end) → HasCauses read read_now write write_now end
+causes_behind read mid read_now write write_mid write_now end e f causes =
+    subst (λ (w : ℕ). HasCauses read read_now w write_now end) f (subst (λ (r : ℕ). HasCauses r read_now write_mid write_now end) e causes)
+
+-- no fault where nothing failed
+pub no_causes : (read read_now write write_now : ℕ) (end : ConnEnd) → read_now ≡ read → write_now ≡ write → end ≢ ConnEnd.ReadFault → end ≢ ConnEnd.WriteFault → HasCauses read read_now write write_now end
+no_causes read read_now write write_now end e f no_read no_write = record {
+  read_later = omega arith;
+  write_later = omega arith;
+  read_fault = λ is. absurd (no_read is);
+  write_fault = λ is. absurd (no_write is);
+  read_same = λ is. e;
+  write_same = λ is. f;
+}

@@ -1,0 +1,19 @@
+//! HTTP/1.1 messages that are served one after another on a connection.
+//!
+//! `serve_messages` reads the messages of a source and puts what a service answers to each into a sink before it reads
+//! the next. A contract names the messages, what they were replied, the state that the service is left in, and why no
+//! more were read; it speaks of any service, whose answers are a relation of its own.
+//! Stands on `adx_io` for sources and sinks and on `adx_http` for messages and replies.
+#![tactic(auto)]
+
+mod answer;
+mod limits;
+mod refusal;
+mod reply;
+mod service;
+mod serving;
+
+pub use answer::{Answer, Methods};
+pub use limits::{MESSAGE_LIMIT, REQUEST_LIMIT};
+pub use service::Service;
+pub use serving::serve_messages;

@@ -1,0 +1,32 @@
+//! The reply to a message that was answered.
+ghost use Rattle.std.specs.Prelude.{◌≡◌};
+ghost use Rattle.adx_http.specs.Written.{Writes, WritesBy};
+ghost use Rattle.http_service.specs.Replies.{answer_bytes};
+
+use crate::answer::Answer;
+use adx_http::{Reply, WriteFault, write_reply};
+use adx_io::Sink;
+
+/// Puts the reply with an answer and its body.
+pub(crate) fn write_answer<K: Sink>(
+    sink: &mut K,
+    answer: Answer,
+    body: &[u8],
+    close: bool,
+    head: bool,
+) -> Result<(), WriteFault>
+    ensures taken { Writes (K.held sink.old) (K.held sink.new) (answer_bytes close head answer body.now) result }
+    ensures cause { WritesBy (K.faults sink.old) (K.faults sink.new) result }
+    ensures same { K.place sink.new ≡ K.place sink.old }
+{
+    let reply = Reply {
+        status: answer.status,
+        json: true,
+        openrtb: answer.openrtb,
+        close,
+        allow: answer.allow.text(),
+        head,
+        body,
+    };
+    write_reply(sink, &reply)
+}
