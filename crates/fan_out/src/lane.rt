@@ -1,0 +1,76 @@
+//! A lane: a bidder, the link to it, and what it answered.
+ghost use Rattle.std.specs.Prelude.{◌≡◌, Option, Result};
+ghost use Rattle.adx_units.specs.declared.memory.OutOfMemory.{OutOfMemory};
+ghost use Rattle.fan_out.specs.declared.answer.BidderAnswer.{BidderAnswer};
+ghost use Rattle.fan_out.specs.Lanes.{IsWorked, outcome_of};
+ghost use Rattle.fan_out.specs.Lasts.{Leaves, answer_of, lane_of};
+
+use crate::answer::{BidderAnswer, Refusal};
+use crate::auction::Auction;
+use crate::head::head_of;
+use adx_http::{Conn, HttpFault};
+use adx_io::Link;
+use adx_units::{Id, OutOfMemory};
+use deal_floor::Place;
+use link_exchange::exchange;
+use std::alloc::Global;
+
+/// A bidder, where it is asked, and what it answered.
+#[derive(Drop)]
+pub struct Lane<L> {
+    /// The bidder's place.
+    pub place: Place,
+    /// The link to it, on which nothing else is asked.
+    pub link: L,
+    /// What reads its answers; its limit bounds their bodies.
+    pub conn: Conn,
+    /// Where the lane's work leaves its answer; None between calls.
+    pub last: Option<Result<BidderAnswer, OutOfMemory>>,
+}
+
+/// What is told of a bidder whose answer was heard.
+fn answer_of(
+    heard: Result<Result<BidderAnswer, OutOfMemory>, HttpFault>,
+) -> Result<BidderAnswer, OutOfMemory>
+    ensures { result ≡ answer_of heard }
+{
+    match heard {
+        Ok(answer) => answer,
+        Err(HttpFault::ReadFault) => Ok(BidderAnswer::LinkFault),
+        Err(fault) => Ok(BidderAnswer::Refused(Refusal::Http(fault))),
+    }
+}
+
+/// Asks a bidder at its place over a link, and says what it answered.
+fn asked<L: Link>(
+    alloc: Global,
+    place: &Place,
+    link: &mut L,
+    conn: &mut Conn,
+    body: &[u8],
+    id: &Id,
+) -> Result<BidderAnswer, OutOfMemory>
+    ensures { (before now : Option (Result BidderAnswer OutOfMemory)) → IsWorked L.exchanges L.course L.faults L.place body.now id.now
+        (lane_of place.now link.old conn.old before) (lane_of place.now link.new conn.new now) (outcome_of result) }
+{
+    match head_of(alloc, place, body.len()) {
+        Ok(head) => answer_of(exchange(
+            link,
+            conn,
+            place.host.as_str(),
+            place.port,
+            head.as_bytes(),
+            body,
+            Auction { alloc, id },
+        )),
+        Err(wanting) => Err(wanting),
+    }
+}
+
+/// Asks a lane's bidder, and leaves in the lane what it answered.
+pub(crate) fn work<L: Link>(alloc: Global, lane: &mut Lane<L>, body: &[u8], id: &Id)
+    ensures { Leaves (IsWorked L.exchanges L.course L.faults L.place body.now id.now) lane.old lane.new }
+{
+    let answer = asked(alloc, &lane.place, &mut lane.link, &mut lane.conn, body, id);
+    lane.last = Some(answer);
+}
