@@ -1,0 +1,15 @@
+-- Four pieces, two of which are spelled texts.
+use Rattle.std.proofs.Common.{◌++◌, ap, ◌∙◌, string_bytes}
+use Rattle.std.specs.Prelude.{codes}
+use Rattle.adx_json.specs.Spelling.{text_spelling}
+use Rattle.bidder_http.proofs.Lines.{four}
+use Rattle.bidder_http.proofs.books.push_names.Goals as goal
+
+pub returns : goal.returns
+returns c =
+    four (string_bytes c.args.out.now) (codes "{\"auction\":") (text_spelling c.args.row.now.auction) (codes ",\"bid\":") (text_spelling c.args.row.now.bid)
+    (string_bytes c.push.new.out) (string_bytes c.push_text.new.out) (string_bytes c.push-2.new.out) (string_bytes c.push_text-2.new.out)
+    c.in_ok-push.ensures
+    (c.in_ok-push_text.ensures ∙ ap (λ t. string_bytes c.push.new.out ++ text_spelling t) c.as_str.ensures.value)
+    c.in_ok-push-2.ensures
+    (c.in_ok-push_text-2.ensures ∙ ap (λ t. string_bytes c.push-2.new.out ++ text_spelling t) c.as_str-2.ensures.value)

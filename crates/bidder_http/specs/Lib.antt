@@ -1,0 +1,7 @@
+pub mod Pages
+pub mod Bodies
+pub mod Offers
+pub mod Told
+pub mod Notices
+pub mod Books
+pub mod Messages
