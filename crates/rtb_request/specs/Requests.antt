@@ -1,6 +1,6 @@
 -- A request for bids (OpenRTB 2.6, section 3.2.1, BidRequest): its view, or its first fault.
 -- This project's own: the limits, the order of the tests, and that USD is the one currency.
-use Rattle.std.specs.Prelude.{ℕ, List, [], ◌∷◌, length, map, Bool, ◌||◌, nat_le, ◌==◌, codes, Some, Result}
+use Rattle.std.specs.Prelude.{ℕ, List, [], ◌∷◌, length, map, Bool, ◌||◌, nat_le, ◌==◌, codes, Some, Result, Ok, Err}
 use Rattle.std.specs.List.{list_any}
 use Rattle.adx_json.specs.Tree.{Tree}
 use Rattle.adx_json.specs.Spelling.{spelling}
@@ -68,3 +68,20 @@ request_view t = record {
 -- a request's view, or its first fault
 abbrev pub request_in : Tree → Result RequestView RequestFault
 request_in t = judged (request_checks t) (request_view t)
+
+-- what a bidder reads of a request: the auction's id and the impressions
+pub record OfferedView : Type 0 where
+  pub id : List ℕ
+  pub imps : List ImpView
+
+abbrev pub offered_view : RequestView → OfferedView
+offered_view r = record { id = r.id; imps = r.imps }
+
+-- that of a view; a fault stays
+abbrev pub offered_by : Result RequestView RequestFault → Result OfferedView RequestFault
+offered_by (Ok r) = Ok (offered_view r)
+offered_by (Err fault) = Err fault
+
+-- what a request offers, or its first fault: its view as far as a bidder reads it
+abbrev pub offered_in : Tree → Result OfferedView RequestFault
+offered_in t = offered_by (request_in t)

@@ -3,10 +3,11 @@ use Rattle.std.specs.Prelude.{ℕ, List, Bool, map}
 use Rattle.std.specs.Str.{bytes_eq}
 use Rattle.rtb_request.specs.Deals.{DealView}
 use Rattle.rtb_request.specs.Imps.{ImpView}
-use Rattle.rtb_request.specs.Requests.{RequestView}
+use Rattle.rtb_request.specs.Requests.{RequestView, OfferedView}
 use Rattle.rtb_request.specs.declared.deal.Deal.{Deal}
 use Rattle.rtb_request.specs.declared.imp.Imp.{Imp}
 use Rattle.rtb_request.specs.declared.bid_request.BidRequest.{BidRequest}
+use Rattle.rtb_request.specs.declared.offered_imps.OfferedImps.{OfferedImps}
 
 abbrev pub seen_deal : Deal → DealView
 seen_deal d = record { id = d.id; floor = d.floor; fixed = d.fixed; wseat = d.wseat; wadomain = d.wadomain }
@@ -16,6 +17,9 @@ seen_imp i = record { id = i.id; floor = i.floor; sold = i.sold; private_only = 
 
 abbrev pub seen_request : BidRequest → RequestView
 seen_request r = record { id = r.id; imps = map seen_imp r.imps; wseat = r.wseat; bseat = r.bseat; bcat = r.bcat; badv = r.badv; digest = r.digest }
+
+abbrev pub seen_offered : OfferedImps → OfferedView
+seen_offered o = record { id = o.id; imps = map seen_imp o.imps }
 
 -- a deal or an impression has this id
 abbrev pub deal_has_id : List ℕ → Deal → Bool

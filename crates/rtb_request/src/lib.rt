@@ -1,7 +1,7 @@
 //! Requests for bids (OpenRTB 2.6) as an exchange sees them.
 //!
 //! A request's tree has a view, which is what its members say, or a first fault; `BidRequest::of` gives
-//! just that. Ranges, lengths and distinct ids are facts of the types. `for_bidders` is what bidders are asked.
+//! just that, and `OfferedImps::of` as much of it as a bidder reads. Ranges, lengths and distinct ids are facts of the types. `for_bidders` is what bidders are asked.
 //! Stands on adx_units, adx_json, tree_view and sha2.
 #![tactic(auto)]
 
@@ -14,6 +14,7 @@ mod fault;
 mod imp;
 mod imp_reader;
 mod members;
+mod offered_imps;
 mod request_reader;
 #[cfg(test)]
 mod tests;
@@ -23,3 +24,4 @@ pub use bid_request::{BidRequest, MOST_IMPS};
 pub use deal::Deal;
 pub use fault::{Field, RequestFault};
 pub use imp::{Imp, MOST_SECONDS};
+pub use offered_imps::OfferedImps;

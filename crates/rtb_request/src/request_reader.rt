@@ -1,19 +1,21 @@
-//! The view of a request's tree, or its first fault.
-ghost use Rattle.std.specs.Prelude.{◌≡◌, IfOk};
+//! The view of a request's tree, or its first fault; and what it offers, with the same tests.
+ghost use Rattle.std.specs.Prelude.{◌≡◌, codes, option_map, IfOk};
 ghost use Rattle.std.specs.List.{list_any};
 ghost use Rattle.adx_json.specs.Spelling.{spelling};
 ghost use Rattle.adx_json.specs.View.{tree_of, trees_of};
 ghost use Rattle.sha2.specs.Sha256.{sha256};
 ghost use Rattle.tree_view.specs.Checks.{Gives};
+ghost use Rattle.tree_view.specs.Values.{given};
 ghost use Rattle.rtb_request.specs.Faults.{lacks_memory};
-ghost use Rattle.rtb_request.specs.Requests.{request_in, leaves_dollars as leaves_dollars_by, is_dollars};
-ghost use Rattle.rtb_request.specs.Seen.{seen_request};
+ghost use Rattle.rtb_request.specs.Requests.{request_in, offered_in, leaves_dollars as leaves_dollars_by, is_dollars};
+ghost use Rattle.rtb_request.specs.Seen.{seen_request, seen_offered};
 
 use crate::amount::id_in;
 use crate::bid_request::{BidRequest, MOST_IMPS};
 use crate::fault::{Field, RequestFault, bad_field};
 use crate::imp_reader::imps_of;
-use crate::members::request_members;
+use crate::members::{RequestMembers, request_members};
+use crate::offered_imps::OfferedImps;
 use adx_json::{Json, write};
 use adx_units::{OutOfMemory, Sequence};
 use sha2::{Digest, Sha256};
@@ -26,46 +28,85 @@ impl BidRequest {
     pub fn of(alloc: Global, tree: &Json) -> Result<BidRequest, RequestFault>
         ensures { Gives lacks_memory seen_request result (request_in (tree_of tree.now)) }
     {
-        let found = request_members(tree);
-        let Some(id) = id_in(alloc, found.id)? else {
-            return Err(RequestFault::NoId);
-        };
-        let trees = items_in(found.imp);
-        if trees.is_empty() {
-            return Err(RequestFault::NoImp);
-        }
-        if trees.len() > MOST_IMPS {
-            return Err(RequestFault::TooManyImps);
-        }
-        if !are_texts_if_given(found.cur) {
-            return Err(bad_field(Field::Cur));
-        }
-        if !are_texts_if_given(found.wseat) {
-            return Err(bad_field(Field::Wseat));
-        }
-        if !are_texts_if_given(found.bseat) {
-            return Err(bad_field(Field::Bseat));
-        }
-        if !are_texts_if_given(found.bcat) {
-            return Err(bad_field(Field::Bcat));
-        }
-        if !are_texts_if_given(found.badv) {
-            return Err(bad_field(Field::Badv));
-        }
-        let imps = match imps_of(alloc, leaves_dollars(items_in(found.cur)), trees) {
-            Ok(imps) => Sequence::from(imps),
+        let TestedRequest { offered, members } = match tested(alloc, tree) {
+            Ok(tested) => tested,
             Err(fault) => return Err(fault),
         };
+        let OfferedImps { id, imps } = offered;
         Ok(BidRequest {
             id,
             imps,
-            wseat: texts_in(alloc, found.wseat)?,
-            bseat: texts_in(alloc, found.bseat)?,
-            bcat: texts_in(alloc, found.bcat)?,
-            badv: texts_in(alloc, found.badv)?,
+            wseat: texts_in(alloc, members.wseat)?,
+            bseat: texts_in(alloc, members.bseat)?,
+            bcat: texts_in(alloc, members.bcat)?,
+            badv: texts_in(alloc, members.badv)?,
             digest: digest_of(alloc, tree)?,
         })
     }
+}
+
+impl OfferedImps {
+    /// What a request offers, or its first fault: as `BidRequest::of` reads it, with neither the seats, the categories and
+    /// the domains nor the digest.
+    pub fn of(alloc: Global, tree: &Json) -> Result<OfferedImps, RequestFault>
+        ensures { Gives lacks_memory seen_offered result (offered_in (tree_of tree.now)) }
+    {
+        match tested(alloc, tree) {
+            Ok(tested) => Ok(tested.offered),
+            Err(fault) => Err(fault),
+        }
+    }
+}
+
+/// What a request that passed its tests offers, and its members.
+#[derive(Drop)]
+struct TestedRequest<'a> {
+    offered: OfferedImps,
+    members: RequestMembers<'a>,
+}
+
+/// A request behind its tests, or the fault of the first that fails.
+fn tested(alloc: Global, tree: &Json) -> Result<TestedRequest<'_>, RequestFault>
+    ensures offered { Gives lacks_memory (λ r. seen_offered r.offered) result (offered_in (tree_of tree.now)) }
+    ensures wseat { IfOk result (λ r. option_map (λ t. tree_of t.now) r.members.wseat ≡ given (codes "wseat") (tree_of tree.now)) }
+    ensures bseat { IfOk result (λ r. option_map (λ t. tree_of t.now) r.members.bseat ≡ given (codes "bseat") (tree_of tree.now)) }
+    ensures bcat { IfOk result (λ r. option_map (λ t. tree_of t.now) r.members.bcat ≡ given (codes "bcat") (tree_of tree.now)) }
+    ensures badv { IfOk result (λ r. option_map (λ t. tree_of t.now) r.members.badv ≡ given (codes "badv") (tree_of tree.now)) }
+{
+    let found = request_members(tree);
+    let Some(id) = id_in(alloc, found.id)? else {
+        return Err(RequestFault::NoId);
+    };
+    let trees = items_in(found.imp);
+    if trees.is_empty() {
+        return Err(RequestFault::NoImp);
+    }
+    if trees.len() > MOST_IMPS {
+        return Err(RequestFault::TooManyImps);
+    }
+    if !are_texts_if_given(found.cur) {
+        return Err(bad_field(Field::Cur));
+    }
+    if !are_texts_if_given(found.wseat) {
+        return Err(bad_field(Field::Wseat));
+    }
+    if !are_texts_if_given(found.bseat) {
+        return Err(bad_field(Field::Bseat));
+    }
+    if !are_texts_if_given(found.bcat) {
+        return Err(bad_field(Field::Bcat));
+    }
+    if !are_texts_if_given(found.badv) {
+        return Err(bad_field(Field::Badv));
+    }
+    let imps = match imps_of(alloc, leaves_dollars(items_in(found.cur)), trees) {
+        Ok(imps) => Sequence::from(imps),
+        Err(fault) => return Err(fault),
+    };
+    Ok(TestedRequest {
+        offered: OfferedImps { id, imps },
+        members: found,
+    })
 }
 
 /// Whether currencies leave USD: none is named, or USD is among them.

@@ -1,6 +1,6 @@
 //! A table of requests with their first fault, views, and what bidders are asked.
-use crate::{BidRequest, RequestFault, for_bidders};
-use adx_json::{read, write};
+use crate::{BidRequest, Imp, OfferedImps, RequestFault, for_bidders};
+use adx_json::{Json, read, write};
 use std::alloc::Global;
 use std::test::Fail;
 
@@ -16,14 +16,22 @@ fn is_fault(fault: &RequestFault, want: &str) -> bool {
     }
 }
 
-/// Whether a request's first fault is the one of that word, or it has none and the word is "view".
+/// Whether what a request offers has that first fault.
+fn is_offered(alloc: Global, tree: &Json, want: &str) -> bool {
+    match OfferedImps::of(alloc, tree) {
+        Ok(_) => want == "view",
+        Err(fault) => is_fault(&fault, want),
+    }
+}
+
+/// Whether a request's first fault is the one of that word, or it has none and the word is "view", for both readers.
 fn is_answer(alloc: Global, text: &str, want: &str) -> bool {
     let Ok(tree) = read(alloc, text.as_bytes()) else {
         return false;
     };
     match BidRequest::of(alloc, &tree) {
-        Ok(_) => want == "view",
-        Err(fault) => is_fault(&fault, want),
+        Ok(_) => want == "view" && is_offered(alloc, &tree, want),
+        Err(fault) => is_fault(&fault, want) && is_offered(alloc, &tree, want),
     }
 }
 
@@ -137,8 +145,7 @@ struct Want {
     wseat: usize,
 }
 
-fn seen(request: &BidRequest) -> Option<Want> {
-    let imps = request.imps.as_slice();
+fn seen(imps: &[Imp], wseat: usize) -> Option<Want> {
     let first = imps.first()?;
     Some(Want {
         imps: imps.len(),
@@ -147,10 +154,11 @@ fn seen(request: &BidRequest) -> Option<Want> {
         floor: first.floor.0,
         deals: first.deals.len(),
         exp: first.exp,
-        wseat: request.wseat.len(),
+        wseat,
     })
 }
 
+/// What a request says, where both readers say so.
 fn view_of(alloc: Global, text: &str) -> Option<Want> {
     let Ok(tree) = read(alloc, text.as_bytes()) else {
         return None;
@@ -158,7 +166,15 @@ fn view_of(alloc: Global, text: &str) -> Option<Want> {
     let Ok(request) = BidRequest::of(alloc, &tree) else {
         return None;
     };
-    seen(&request)
+    let Ok(offered) = OfferedImps::of(alloc, &tree) else {
+        return None;
+    };
+    let wseat = request.wseat.len();
+    let view = seen(request.imps.as_slice(), wseat);
+    if offered.id.as_str() != request.id.as_str() || seen(offered.imps.as_slice(), wseat) != view {
+        return None;
+    }
+    view
 }
 
 const VIEWS: [(&str, Want); 7] = [
