@@ -65,9 +65,9 @@ offered line imp_place imp (price_place, p) =
 abbrev pub imp_bids : PriceLine → ℕ × Imp → List Tree
 imp_bids line (place, imp) = flat_map (offered line place imp) (enumerate_from 0 line.prices)
 
--- the bids for a request
-abbrev pub request_bids : PriceLine → BidRequest → List Tree
-request_bids line request = take MOST_BIDS (flat_map (imp_bids line) (enumerate_from 0 request.imps))
+-- the bids for the impressions of an auction
+abbrev pub auction_bids : PriceLine → List Imp → List Tree
+auction_bids line imps = take MOST_BIDS (flat_map (imp_bids line) (enumerate_from 0 imps))
 
 -- the answer with these bids
 abbrev pub answer_tree : List ℕ → List ℕ → List Tree → Tree
@@ -83,6 +83,10 @@ abbrev pub answer_with : List ℕ → List ℕ → List Tree → Option Tree
 answer_with auction seat [] = None
 answer_with auction seat (b ∷ bs) = Some (answer_tree auction seat (b ∷ bs))
 
--- the answer to a request; none where no price reaches a floor
+-- the answer to an auction of that id with those impressions; none where no price reaches a floor
+abbrev pub answer_for : PriceLine → List ℕ → List Imp → Option Tree
+answer_for line auction imps = answer_with auction line.seat (auction_bids line imps)
+
+-- the answer to a request
 abbrev pub answer_to : PriceLine → BidRequest → Option Tree
-answer_to line request = answer_with request.id line.seat (request_bids line request)
+answer_to line request = answer_for line request.id request.imps

@@ -1,7 +1,7 @@
-//! The answer of a bidder to a request.
+//! The answer of a bidder to an auction of impressions.
 ghost use Rattle.std.specs.Prelude.{◌≡◌, ◌≤◌, ◌++◌, ◌∷◌, [], take, length, map, option_map, IfOk, OnOk};
 ghost use Rattle.adx_json.specs.View.{tree_of, trees_of, members_view};
-ghost use Rattle.bidder_core.specs.Answers.{answer_to, answer_tree as answer_tree_of, bid_tree as bid_tree_of, imp_bids, offer_members as offer_members_of, offered, request_bids};
+ghost use Rattle.bidder_core.specs.Answers.{answer_for, answer_tree as answer_tree_of, bid_tree as bid_tree_of, imp_bids, offer_members as offer_members_of, offered, auction_bids};
 ghost use Rattle.bidder_core.specs.declared.answer.TheConstants.{MOST_BIDS};
 
 use crate::bid_id::id_text;
@@ -10,33 +10,33 @@ use crate::member::{push_list, push_number, push_text};
 use crate::price_line::{Price, PriceLine};
 use adx_json::{Json, Member};
 use adx_units::{Id, OutOfMemory, Text};
-use rtb_request::{BidRequest, Imp};
+use rtb_request::Imp;
 use std::alloc::Global;
 
 /// The most bids of an answer.
 pub const MOST_BIDS: usize = 64;
 
-/// The answer to a request. None exactly where no price reaches a floor.
+/// The answer to an auction of impressions. None exactly where no price reaches a floor.
 pub(crate) fn answer_of(
     alloc: Global,
     line: &PriceLine,
-    request: &BidRequest,
+    auction: &Id,
+    imps: &[Imp],
 ) -> Result<Option<Json>, OutOfMemory>
-    ensures { IfOk result (λ a. option_map tree_of a ≡ answer_to line.now request.now) }
+    ensures { IfOk result (λ a. option_map tree_of a ≡ answer_for line.now auction.now imps.now) }
 {
-    let bids = bids_of(alloc, line, request)?;
+    let bids = bids_of(alloc, line, imps)?;
     if bids.is_empty() {
         return Ok(None);
     }
-    Ok(Some(answer_tree(alloc, &request.id, &line.seat, bids)?))
+    Ok(Some(answer_tree(alloc, auction, &line.seat, bids)?))
 }
 
-/// The bids for a request.
-fn bids_of(alloc: Global, line: &PriceLine, request: &BidRequest) -> Result<Vec<Json>, OutOfMemory>
-    ensures { IfOk result (λ bids. trees_of bids.items ≡ request_bids line.now request.now) }
+/// The bids for the impressions of an auction.
+fn bids_of(alloc: Global, line: &PriceLine, imps: &[Imp]) -> Result<Vec<Json>, OutOfMemory>
+    ensures { IfOk result (λ bids. trees_of bids.items ≡ auction_bids line.now imps.now) }
 {
     let mut bids = Vec::new(alloc);
-    let imps = request.imps.as_slice();
     for (place, imp) in imps.iter().enumerate() {
         push_bids(alloc, &mut bids, line, place, imp)?;
     }

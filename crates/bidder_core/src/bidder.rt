@@ -3,7 +3,7 @@ ghost use Rattle.std.specs.Prelude.{◌≡◌, ◌<◌, [], All, IfOk, OnErr, le
 ghost use Rattle.adx_json.specs.View.{tree_of};
 ghost use Rattle.tree_view.specs.Checks.{Gives};
 ghost use Rattle.deal_floor.specs.Faults.{lacks_memory};
-ghost use Rattle.bidder_core.specs.Answers.{answer_to};
+ghost use Rattle.bidder_core.specs.Answers.{answer_for, answer_to};
 ghost use Rattle.bidder_core.specs.BidIds.{is_made};
 ghost use Rattle.bidder_core.specs.Ledger.{AreOnce, bidder_ruling, bill_count as bill_count_of, billed_in, rows_after};
 ghost use Rattle.bidder_core.specs.PriceLines.{price_line_in};
@@ -18,7 +18,7 @@ use adx_json::Json;
 use adx_units::{Id, OutOfMemory, Units};
 use deal_floor::RosterFault;
 use notice_book::NoticeKind;
-use rtb_request::BidRequest;
+use rtb_request::{BidRequest, OfferedImps};
 use std::alloc::Global;
 use std::marker::Model;
 
@@ -61,7 +61,19 @@ impl Bidder {
     pub fn answer(&self, alloc: Global, request: &BidRequest) -> Result<Option<Json>, OutOfMemory>
         ensures { IfOk result (λ a. option_map tree_of a ≡ answer_to self.now.line request.now) }
     {
-        answer_of(alloc, &self.line, request)
+        answer_of(alloc, &self.line, &request.id, request.imps.as_slice())
+    }
+
+    /// The answer to what a request offers, as `answer` gives it for the request. None exactly where no price reaches a
+    /// floor. The one error is want of memory.
+    pub fn answer_offered(
+        &self,
+        alloc: Global,
+        offered: &OfferedImps,
+    ) -> Result<Option<Json>, OutOfMemory>
+        ensures { IfOk result (λ a. option_map tree_of a ≡ answer_for self.now.line offered.now.id offered.now.imps) }
+    {
+        answer_of(alloc, &self.line, &offered.id, offered.imps.as_slice())
     }
 
     /// Rules on a notice of a bid of an auction, and counts it where it is new. The price is in units, 0 where a loss

@@ -1,10 +1,10 @@
 //! A bidder's price lines with their faults, its answers as bytes, and its ledger, in tables.
 use crate::{Bidder, BidderRuling};
-use adx_json::{read, write};
+use adx_json::{Json, read, write};
 use adx_units::{Id, Units, price_of, whole_up_to};
 use deal_floor::RosterFault;
 use notice_book::{End, NoticeKind};
-use rtb_request::BidRequest;
+use rtb_request::{BidRequest, OfferedImps};
 use std::alloc::Global;
 use std::test::Fail;
 
@@ -101,7 +101,29 @@ fn names_the_first_fault(rt: HostRuntime) -> Result<(), Fail> {
     Ok(())
 }
 
-/// Whether a bidder answers a request with these bytes, or with none where they are empty.
+/// Whether an answer has these bytes, or there is none where they are empty.
+fn is_written(alloc: Global, answer: &Option<Json>, want: &str) -> bool {
+    match answer {
+        None => want.is_empty(),
+        Some(answer) => match write(alloc, answer) {
+            Ok(text) => text.as_str() == want,
+            Err(_) => false,
+        },
+    }
+}
+
+/// Whether a bidder answers what a request offers with these bytes, or with none where they are empty.
+fn is_offer_answered(alloc: Global, bidder: &Bidder, tree: &Json, want: &str) -> bool {
+    let Ok(offered) = OfferedImps::of(alloc, tree) else {
+        return false;
+    };
+    match bidder.answer_offered(alloc, &offered) {
+        Ok(answer) => is_written(alloc, &answer, want),
+        Err(_) => false,
+    }
+}
+
+/// Whether a bidder answers a request with these bytes by both of its calls, or with none where they are empty.
 fn is_answered(alloc: Global, bidder: &Bidder, request: &str, want: &str) -> bool {
     let Ok(tree) = read(alloc, request.as_bytes()) else {
         return false;
@@ -110,11 +132,8 @@ fn is_answered(alloc: Global, bidder: &Bidder, request: &str, want: &str) -> boo
         return false;
     };
     match bidder.answer(alloc, &request) {
-        Ok(None) => want.is_empty(),
-        Ok(Some(answer)) => match write(alloc, &answer) {
-            Ok(text) => text.as_str() == want,
-            Err(_) => false,
-        },
+        Ok(answer) => is_written(alloc, &answer, want)
+            && is_offer_answered(alloc, bidder, &tree, want),
         Err(_) => false,
     }
 }

@@ -1,5 +1,4 @@
-use Rattle.std.proofs.Common.{◌≤◌, ◌++◌, length, take, ap, ◌∙◌, arith}
-use Rattle.std.specs.List.{enumerate_from, flat_map}
+use Rattle.std.proofs.Common.{◌≤◌, ◌++◌, length, arith}
 use Rattle.adx_json.specs.View.{trees_of}
 use Rattle.bidder_core.specs.Answers.{imp_bids}
 use Rattle.bidder_core.specs.declared.answer.TheConstants.{MOST_BIDS}
@@ -14,13 +13,12 @@ loop-place-preserved c =
     let before = trees_of c.loop-place.bids.items in
     record {
       few = few_after MOST_BIDS c.push_bids.new.bids.items (before ++ f (c.loop-place.place, x)) c.in_ok-push_bids.ensures;
-      bids = next_item f MOST_BIDS c.as_slice-imps.result.now c.loop-place.place x before (trees_of c.push_bids.new.bids.items) _ c.loop-place-test.true c.index-imps-place.is c.in_ok-push_bids.ensures c.loop-place.invariant.bids;
+      bids = next_item f MOST_BIDS c.args.imps.now c.loop-place.place x before (trees_of c.push_bids.new.bids.items) _ c.loop-place-test.true c.index-imps-place.is c.in_ok-push_bids.ensures c.loop-place.invariant.bids;
     }
 
 pub returns : goal.returns
 returns c =
     let f = imp_bids c.args.line.now in
-    let end : length c.as_slice-imps.result.now ≤ c.loop-place.place = omega arith in
+    let end : length c.args.imps.now ≤ c.loop-place.place = omega arith in
     let few : length (trees_of c.loop-place.bids.items) ≤ MOST_BIDS = omega (arith, count_is MOST_BIDS c.loop-place.bids.items, c.loop-place.invariant.few) in
-    all_items f MOST_BIDS c.as_slice-imps.result.now c.loop-place.place (trees_of c.loop-place.bids.items) _ end few c.loop-place.invariant.bids
-    ∙ ap (λ xs. take MOST_BIDS (flat_map f (enumerate_from 0 xs))) c.as_slice-imps.ensures
+    all_items f MOST_BIDS c.args.imps.now c.loop-place.place (trees_of c.loop-place.bids.items) _ end few c.loop-place.invariant.bids
