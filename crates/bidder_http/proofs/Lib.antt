@@ -1,3 +1,4 @@
 pub mod Lines
 pub mod Results
 pub mod Served
+pub mod Offered

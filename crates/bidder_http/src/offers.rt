@@ -1,28 +1,29 @@
 //! Requests for bids.
 ghost use Rattle.std.specs.Prelude.{◌≡◌, [], IfOk, string_bytes};
 ghost use Rattle.adx_json.specs.View.{tree_of};
-ghost use Rattle.bidder_http.specs.Offers.{AnswersOffer, AnswersTree, OffersTo};
+ghost use Rattle.bidder_core.specs.Answers.{answer_for};
+ghost use Rattle.bidder_http.specs.Offers.{AnswersOffer, AnswersTree, OffersBy};
 
 use crate::refusals::{plain, push_refusal};
 use adx_json::{Json, JsonFault, push_value, read};
 use adx_units::OutOfMemory;
 use bidder_core::Bidder;
 use http_service::{Answer, Methods};
-use rtb_request::{BidRequest, RequestFault};
+use rtb_request::{OfferedImps, RequestFault};
 use script_lines::Refusal;
 use std::alloc::Global;
 
-/// Answers a request with the bids that reach its floors.
+/// Answers what a request offers with the bids that reach its floors.
 fn answer_bids(
     alloc: Global,
     bidder: &Bidder,
-    request: &BidRequest,
+    offered: &OfferedImps,
     body: &mut String,
 ) -> Result<Answer, OutOfMemory>
     requires { string_bytes body.old ≡ [] }
-    ensures { IfOk result (λ a. OffersTo bidder.now.line request.now a (string_bytes body.new)) }
+    ensures { IfOk result (λ a. OffersBy (answer_for bidder.now.line offered.now.id offered.now.imps) a (string_bytes body.new)) }
 {
-    match bidder.answer(alloc, request)? {
+    match bidder.answer_offered(alloc, offered)? {
         Some(bids) => {
             push_value(body, &bids)?;
             Ok(Answer {
@@ -36,6 +37,7 @@ fn answer_bids(
 }
 
 /// Answers a value, which is a request for bids or is refused.
+#[tactic(auto, using(crate::proofs::Offered::same_fault))]
 fn answer_value(
     alloc: Global,
     bidder: &Bidder,
@@ -45,8 +47,8 @@ fn answer_value(
     requires { string_bytes body.old ≡ [] }
     ensures { IfOk result (λ a. AnswersTree bidder.now.line (tree_of value.now) a (string_bytes body.new)) }
 {
-    match BidRequest::of(alloc, value) {
-        Ok(request) => answer_bids(alloc, bidder, &request, body),
+    match OfferedImps::of(alloc, value) {
+        Ok(offered) => answer_bids(alloc, bidder, &offered, body),
         Err(RequestFault::OutOfMemory) => Err(OutOfMemory),
         Err(fault) => {
             push_refusal(alloc, body, &Refusal::Request { fault })?;
