@@ -1,6 +1,7 @@
 -- The words of a command, what comes of it, and what words that aren't one write. This project's own.
 use Rattle.std.specs.Prelude.{◌≡◌, ◌⊎◌, ℕ, ◌==◌, List, [], ◌∷◌, codes, Bool, false, Option, Some, None, Result}
 use Rattle.adx_io.specs.Streams.{Tape, Took}
+use Rattle.bidder_day.specs.Bidding.{EndsBidder}
 use Rattle.script_day.specs.Days.{ServesDay}
 use Rattle.script_day.specs.Endings.{TookFront}
 use Rattle.script_day.specs.declared.ending.Ending.{Ending}
@@ -37,6 +38,24 @@ pub record RunsDay {D : Type 0} (faults : D → ℕ) (reads : D → Option (List
   pub ending : Result (Unit {0}) Ending
   pub told : status ≡ status_of ending
   pub serves : ServesDay faults reads may_leave moment left_since tape tape_now held held_now old new ending
+
+-- the word of the command that serves a bidder's connection
+abbrev pub bidder_word : List ℕ
+bidder_word = codes "bidder"
+
+-- the words serve a bidder's connection
+abbrev pub IsBidder : List (List ℕ) → Type 0
+IsBidder words = words ≡ bidder_word ∷ []
+
+-- A bidder's run ended so over a source and a sink, told by the exit status.
+pub record RunsBidder (tape tape_now : Option Tape) (held held_now : Option (List ℕ)) (status : ℕ) : Type 0 where
+  pub ending : Result (Unit {0}) Ending
+  pub told : status ≡ status_of ending
+  pub ends : EndsBidder tape tape_now held held_now ending
+
+-- the words are a command's
+abbrev pub IsCommand : List (List ℕ) → Type 0
+IsCommand words = IsDay words ⊎ IsBidder words
 
 -- what words that aren't a command write
 abbrev pub usage_line : List ℕ

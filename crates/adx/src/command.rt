@@ -2,12 +2,13 @@
 ghost use Rattle.std.specs.Prelude.{◌≡◌, ◌≢◌, ◌⊎◌, ◌≤◌};
 ghost use Rattle.adx_io.specs.Streams.{Rises};
 ghost use Rattle.script_day.specs.Days.{HasOneOutput, HasOutputs};
-ghost use Rattle.adx.specs.Commands.{IsDay, RunsDay, TellsUsage};
+ghost use Rattle.adx.specs.Commands.{IsBidder, IsCommand, IsDay, RunsBidder, RunsDay, TellsUsage};
 
-use crate::paths::is_day;
+use crate::paths::{is_bidder, is_day};
 use crate::status::{NO_COMMAND, WRITE_FAULT, status_of};
 use adx_io::{Disk, Sink, Source, put_all};
 use adx_units::Text;
+use bidder_day::serve_prices;
 use script_day::serve_day;
 use std::alloc::Global;
 
@@ -32,13 +33,17 @@ fn tell_usage<K: Sink>(sink: &mut K) -> u8
 /// Runs the command that the words tell, which stand behind the program's name, from the source to
 /// the sink on a disk, and gives the exit status.
 ///
-/// The one command is `day`. It reads a roster line, opens the roster's day on the disk, by the history that the disk's
+/// The command `day` reads a roster line, opens the roster's day on the disk, by the history that the disk's
 /// file stands for, and then reads the lines of a script. It answers each line of the script with a line, and closes
 /// with a table of the campaigns' books. A call's entry is in the journal before its answer is written, and what it
 /// answers is put into the sink before more is asked of the source. A call that a fault of the disk gives up, or that
 /// the journal has no room for, is answered so, and the run goes on.
 ///
-/// The status is 0 where the source was read to its end and no call was given up by the disk; 2 where the words aren't
+/// The command `bidder` reads a price line, and serves the HTTP connection that comes behind it: it answers requests for
+/// bids, counts the notices that it is told, and shows its books and its ledger. The disk isn't touched.
+///
+/// The status is 0 where the source was read to its end, for `bidder` to that of the connection, and no call was given up
+/// by the disk; 2 where the words aren't
 /// a command, and then the sink takes a usage line; 3 where the first line isn't a roster, or the input passes 2^36
 /// bytes, of which one more is taken; 4 where the source failed, and then the sink took the answers to all whole lines
 /// that the source gave; 5 where the sink failed, and 12 where memory was refused, and then the sink took a front of the
@@ -55,8 +60,10 @@ pub fn adx<S: Source, K: Sink, D: Disk>(
     disk: &mut D,
 ) -> u8
     ensures day { IsDay words.now → RunsDay D.faults D.reads D.may_leave D.moment D.left_since (S.tape source.old) (S.tape source.new) (K.held sink.old) (K.held sink.new) disk.old disk.new result }
-    ensures usage { (IsDay words.now → ⊥) → TellsUsage (K.held sink.old) (K.held sink.new) result }
-    ensures unasked { (IsDay words.now → ⊥) → (source.new ≡ source.old) × (disk.new ≡ disk.old) }
+    ensures bidder { IsBidder words.now → RunsBidder (S.tape source.old) (S.tape source.new) (K.held sink.old) (K.held sink.new) result }
+    ensures usage { (IsCommand words.now → ⊥) → TellsUsage (K.held sink.old) (K.held sink.new) result }
+    ensures unasked { (IsCommand words.now → ⊥) → source.new ≡ source.old }
+    ensures untouched { (IsDay words.now → ⊥) → disk.new ≡ disk.old }
     ensures read_fault { result ≡ 4 → Rises (S.faults source.old) (S.faults source.new) }
     ensures read_passed { result ≢ 4 → S.faults source.new ≡ S.faults source.old }
     ensures write_fault { result ≡ 5 → Rises (K.faults sink.old) (K.faults sink.new) }
@@ -74,6 +81,10 @@ pub fn adx<S: Source, K: Sink, D: Disk>(
 {
     if is_day(words) {
         let ended = serve_day(alloc, source, sink, disk);
+        return status_of(ended);
+    }
+    if is_bidder(words) {
+        let ended = serve_prices(alloc, source, sink);
         return status_of(ended);
     }
     tell_usage(sink)

@@ -2,7 +2,8 @@
 //!
 //! The call `adx` of the module `command` does all that the program does, from the words of its command
 //! line and the bytes of a source to those of a sink; its contract is the program's. It stands on
-//! `script_day`, which serves a day of script lines, on `adx_io` and on `adx_units`.
+//! `script_day`, which serves a day of script lines, on `bidder_day`, which serves a bidder's connection, on `adx_io`
+//! and on `adx_units`.
 #![tactic(auto)]
 
 mod command;
@@ -28,12 +29,16 @@ use std::io::ErrorKind;
 use std::process::ExitCode;
 
 /// What `--help` prints.
-const HELP: &str = "adx serves a day of an advertising exchange.
+const HELP: &str = "adx serves a day of an advertising exchange, or a bidder of one.
 
 usage: adx day [--journal FILE]
   reads a roster line and script lines on standard input, and writes an answer to each line and then
   the closing table on standard output
   --journal FILE: the day goes on from the history that FILE keeps, and FILE keeps what it adds
+
+usage: adx bidder
+  reads a price line on standard input and serves the HTTP connection that comes behind it: requests for
+  bids are answered, notices counted, books and ledger shown, on standard output
 ";
 
 /// What `--version` prints.

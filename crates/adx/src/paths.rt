@@ -1,7 +1,7 @@
 //! The files that the words of a command name.
 ghost use Rattle.std.specs.Prelude.{◌≡◌, ◌&&◌, not, IfOk, MatchBool, option_map};
 ghost use Rattle.std.specs.Str.{bytes_eq};
-ghost use Rattle.adx.specs.Commands.{IsDay, IsJournalOf, begins_with_dash, day_word, journal_word};
+ghost use Rattle.adx.specs.Commands.{IsBidder, IsDay, IsJournalOf, begins_with_dash, day_word, journal_word};
 
 use adx_units::{OutOfMemory, Text};
 use std::alloc::Global;
@@ -38,6 +38,16 @@ pub(crate) fn is_day(words: &[Text]) -> bool
     match words {
         [word] => word.as_str() == "day",
         [word, option, file] => names_journal(word.as_str(), option.as_str(), file.as_str()),
+        _ => false,
+    }
+}
+
+/// Whether the words are those of the command `bidder`, which stands alone.
+pub(crate) fn is_bidder(words: &[Text]) -> bool
+    ensures { MatchBool result (IsBidder words.now) (IsBidder words.now → ⊥) }
+{
+    match words {
+        [word] => word.as_str() == "bidder",
         _ => false,
     }
 }

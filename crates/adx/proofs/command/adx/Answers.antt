@@ -34,3 +34,9 @@ returns-clause-outputs g c = has_outputs
 
 pub returns-clause-one_output : goal.returns-clause-one_output
 returns-clause-one_output g c = has_one_output
+
+pub returns-then-is_bidder-clause-outputs : goal.returns-then-is_bidder-clause-outputs
+returns-then-is_bidder-clause-outputs g c = has_outputs
+
+pub returns-then-is_bidder-clause-one_output : goal.returns-then-is_bidder-clause-one_output
+returns-then-is_bidder-clause-one_output g c = has_one_output
