@@ -211,6 +211,14 @@ const FAILS: [(&str, &str, &str, bool); 8] = [
     ("2", "#{\"id\":\"7979d0c7\"}", "NoBid", true),
 ];
 
+/// What the bidder of a lane was asked in a start; None where there was no such start.
+fn asked_of(lanes: &[Lane<MemoryLink>], place: usize, start: u32) -> Option<&[u8]> {
+    match lanes.get(place) {
+        Some(lane) => lane.link.asked(start),
+        None => None,
+    }
+}
+
 #[test]
 fn links_that_fail(rt: HostRuntime) -> Result<(), Fail> {
     let alloc = rt.alloc();
@@ -226,10 +234,79 @@ fn links_that_fail(rt: HostRuntime) -> Result<(), Fail> {
     assert_eq!(rt; at_once, wanted);
     for k in 0..FAILS.len() {
         let asked = if FAILS[k].3 { ASKED } else { "" };
-        assert_eq!(rt; lanes[k].link.asked(0), Some(asked.as_bytes()));
-        assert_eq!(rt; lanes[k].link.asked(1), Some(asked.as_bytes()));
-        assert_eq!(rt; lanes[k].link.asked(2), None);
-        assert!(rt; lanes[k].last.is_none());
+        assert_eq!(rt; asked_of(&lanes, k, 0), Some(asked.as_bytes()));
+        assert_eq!(rt; asked_of(&lanes, k, 1), Some(asked.as_bytes()));
+        assert_eq!(rt; asked_of(&lanes, k, 2), None);
+    }
+    Ok(())
+}
+
+/// A request, what a bidder is sent with it, and what one answers in chunks of 16 bytes.
+const EXAMPLE_ID: &str = "7979d0c7-4a1e-4c6b-9d0e-2f6f1b1c0a11";
+
+const EXAMPLE: &str =
+    "{\"id\":\"7979d0c7-4a1e-4c6b-9d0e-2f6f1b1c0a11\",\"imp\":[{\"id\":\"1\",\"banner\":{\"w\":300,\"h\":250},\"bidfloor\":0.5,\"exp\":300},{\"id\":\"2\",\"banner\":{\"w\":728,\"h\":90}}],\"site\":{\"id\":\"102855\",\"domain\":\"example.com\",\"page\":\"http://example.com/a\"},\"device\":{\"ua\":\"Mozilla/5.0\",\"ip\":\"192.0.2.10\"},\"user\":{\"id\":\"u1\"},\"tmax\":120,\"ext\":{\"x\":1},\"at\":1,\"cur\":[\"USD\"]}";
+
+const EXAMPLE_ASKED: &str =
+    "POST /bid?x=1 HTTP/1.1\r\nHost: bidder.example:8080\r\nContent-Type: application/json\r\nx-openrtb-version: 2.6\r\nContent-Length: 342\r\nConnection: close\r\n\r\n{\"id\":\"7979d0c7-4a1e-4c6b-9d0e-2f6f1b1c0a11\",\"imp\":[{\"id\":\"1\",\"banner\":{\"w\":300,\"h\":250},\"bidfloor\":0.5,\"exp\":300},{\"id\":\"2\",\"banner\":{\"w\":728,\"h\":90}}],\"site\":{\"id\":\"102855\",\"domain\":\"example.com\",\"page\":\"http://example.com/a\"},\"device\":{\"ua\":\"Mozilla/5.0\",\"ip\":\"192.0.2.10\"},\"user\":{\"id\":\"u1\"},\"tmax\":120,\"ext\":{\"x\":1},\"at\":1,\"cur\":[\"USD\"]}";
+
+const EXAMPLE_ANSWER: &str =
+    "HTTP/1.1 200 OK\r\nContent-Type: application/json\r\nTransfer-Encoding: chunked\r\n\r\n10\r\n{\"id\":\"7979d0c7-\r\n10\r\n4a1e-4c6b-9d0e-2\r\n10\r\nf6f1b1c0a11\",\"se\r\n10\r\natbid\":[{\"seat\":\r\n10\r\n\"s1\",\"bid\":[{\"id\r\n10\r\n\":\"k1\",\"impid\":\"\r\n10\r\n1\",\"price\":1.25,\r\n10\r\n\"cid\":\"c1\",\"adm\"\r\n10\r\n:\"<img src=\\\"htt\r\n10\r\np://a.example/i?\r\n10\r\np=${AUCTION_PRIC\r\nb\r\nE}\\\">\"}]}]}\r\n0\r\n\r\n";
+
+/// A start that answers these bytes.
+fn answering(alloc: Global, bytes: &str, start_fails: bool) -> Result<Planned, OutOfMemory> {
+    Ok(Planned {
+        bytes: Text::of(alloc, bytes)?,
+        start_fails,
+        put_fails: false,
+        take_fails: None,
+    })
+}
+
+/// A lane that answers the example twice; or its starts fail.
+fn example_lane(alloc: Global, start_fails: bool) -> Result<Lane<MemoryLink>, OutOfMemory> {
+    let plan = [
+        answering(alloc, EXAMPLE_ANSWER, start_fails)?,
+        answering(alloc, EXAMPLE_ANSWER, start_fails)?,
+    ];
+    lane(alloc, MemoryLink::new(alloc, &plan)?)
+}
+
+/// The price of the only bid of an answer, in units of 10^-6 CPM dollar; 0 where there is none.
+fn price(answer: Option<&BidderAnswer>) -> u64 {
+    let Some(BidderAnswer::Bids(answer)) = answer else {
+        return 0;
+    };
+    match answer.seats.as_slice() {
+        [seat] => match seat.bids.as_slice() {
+            [bid] => bid.price.map_or(0, |units| units.0),
+            _ => 0,
+        },
+        _ => 0,
+    }
+}
+
+#[test]
+fn one_bidder_fails(rt: HostRuntime) -> Result<(), Fail> {
+    let alloc = rt.alloc();
+    let id = Id::of(alloc, EXAMPLE_ID)?.ok_or(OutOfMemory)?;
+    let mut lanes = Vec::new(alloc);
+    for start_fails in [false, true, false] {
+        lanes.push(example_lane(alloc, start_fails)?)?;
+    }
+    let in_turn = gather_in_turn(alloc, &mut lanes, EXAMPLE.as_bytes(), &id)?;
+    let at_once = gather(&rt, alloc, &mut lanes, EXAMPLE.as_bytes(), &id)?;
+    for answers in [&in_turn, &at_once] {
+        assert_eq!(rt;
+            told(alloc, answers.as_slice())?.as_str(),
+            "Bids, LinkFault, Bids"
+        );
+        assert_eq!(rt; price(answers.first()), 1_250_000);
+        assert_eq!(rt; price(answers.last()), 1_250_000);
+    }
+    for start in [0, 1] {
+        assert_eq!(rt; asked_of(&lanes, 0, start), Some(EXAMPLE_ASKED.as_bytes()));
+        assert_eq!(rt; asked_of(&lanes, 1, start), Some(&b""[..]));
     }
     Ok(())
 }
@@ -237,11 +314,37 @@ fn links_that_fail(rt: HostRuntime) -> Result<(), Fail> {
 /// How often a start looks for its neighbour's.
 const LOOKS: u64 = 4_000_000_000;
 
+/// Whether the start of each of two links was called: 1 where it was.
+#[derive(Drop)]
+struct Starts {
+    first: AtomicU64,
+    second: AtomicU64,
+}
+
+impl Starts {
+    /// Says that the start of a link was called, and waits for that of the other; false where it never
+    /// was.
+    fn both(&self, is_first: bool) -> bool {
+        let (own, other) = if is_first {
+            (&self.first, &self.second)
+        } else {
+            (&self.second, &self.first)
+        };
+        own.store(1, Ordering::SeqCst);
+        for _ in 0..LOOKS {
+            if other.load(Ordering::SeqCst) == 1 {
+                return true;
+            }
+        }
+        false
+    }
+}
+
 /// A link whose start waits until its neighbour's start was called, and that answers 204.
 #[derive(Drop)]
 struct Waiting<'a> {
-    own: &'a AtomicU64,
-    other: &'a AtomicU64,
+    starts: &'a Starts,
+    is_first: bool,
     left: &'static [u8],
     faults: u64,
 }
@@ -256,12 +359,9 @@ impl Link for Waiting<'_> {
     ghost course = { λ _. None };
 
     fn start(&mut self, _host: &str, _port: u16) -> Result<(), Failed> {
-        self.own.store(1, Ordering::SeqCst);
-        for _ in 0..LOOKS {
-            if self.other.load(Ordering::SeqCst) == 1 {
-                self.left = b"HTTP/1.1 204 No Content\r\n\r\n";
-                return Ok(());
-            }
+        if self.starts.both(self.is_first) {
+            self.left = b"HTTP/1.1 204 No Content\r\n\r\n";
+            return Ok(());
         }
         self.faults = self.faults.saturating_add(1);
         Err(Failed)
@@ -283,27 +383,23 @@ impl Link for Waiting<'_> {
 #[test]
 fn lanes_at_the_same_time(rt: HostRuntime) -> Result<(), Fail> {
     let alloc = rt.alloc();
-    let (left, right) = (AtomicU64::new(0), AtomicU64::new(0));
+    let starts = Starts {
+        first: AtomicU64::new(0),
+        second: AtomicU64::new(0),
+    };
     let id = Id::of(alloc, AUCTION)?.ok_or(OutOfMemory)?;
     let mut lanes = Vec::new(alloc);
-    lanes.push(lane(
-        alloc,
-        Waiting {
-            own: &left,
-            other: &right,
-            left: b"",
-            faults: 0,
-        },
-    )?)?;
-    lanes.push(lane(
-        alloc,
-        Waiting {
-            own: &right,
-            other: &left,
-            left: b"",
-            faults: 0,
-        },
-    )?)?;
+    for is_first in [true, false] {
+        lanes.push(lane(
+            alloc,
+            Waiting {
+                starts: &starts,
+                is_first,
+                left: b"",
+                faults: 0,
+            },
+        )?)?;
+    }
     let answers = gather(&rt, alloc, &mut lanes, b"{}", &id)?;
     assert_eq!(rt; told(alloc, answers.as_slice())?.as_str(), "NoBid, NoBid");
     Ok(())
