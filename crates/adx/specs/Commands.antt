@@ -1,10 +1,13 @@
 -- The words of a command, what comes of it, and what words that aren't one write. This project's own.
-use Rattle.std.specs.Prelude.{◌≡◌, ◌⊎◌, ℕ, ◌==◌, List, [], ◌∷◌, codes, Bool, false, Option, Some, None, Result}
+use Rattle.std.specs.Prelude.{◌≡◌, ◌⊎◌, ℕ, ◌-◌, ◌^◌, ◌==◌, List, [], ◌∷◌, codes, Bool, false, Option, Some, None, Result}
+use Rattle.adx_units.specs.Number.{whole_up_to}
 use Rattle.adx_io.specs.Streams.{Tape, Took}
 use Rattle.bidder_day.specs.Bidding.{EndsBidder}
 use Rattle.script_day.specs.Days.{ServesDay}
 use Rattle.script_day.specs.Endings.{TookFront}
 use Rattle.script_day.specs.declared.ending.Ending.{Ending}
+use Rattle.adx_books.specs.GeneratedEnds.{ServesGenerated}
+use Rattle.adx_books.specs.declared.generator.TheConstants.{MOST_ASKS}
 use Rattle.adx.specs.Statuses.{status_of}
 
 -- the word of the command that serves a day, and that of the file of its journal
@@ -33,6 +36,31 @@ abbrev pub IsJournalOf : List (List ℕ) → Option (List ℕ) → Type 0
 IsJournalOf words (Some file) = NamesJournal words file
 IsJournalOf words None = (file : List ℕ) → NamesJournal words file → ⊥
 
+-- the word of the command that generates a day, and those of its options
+abbrev pub gen_word : List ℕ
+gen_word = codes "gen"
+
+abbrev pub seed_word : List ℕ
+seed_word = codes "--seed"
+
+abbrev pub asks_word : List ℕ
+asks_word = codes "--asks"
+
+-- the words generate a day of so many asks by this seed: each option stands once, in any order, and its number is
+-- decimal, without a sign or a leading zero, and within its limit
+pub record IsGenerated (words : List (List ℕ)) (seed asks : ℕ) : Type 0 where
+  pub seed_text : List ℕ
+  pub asks_text : List ℕ
+  pub are :
+      (words ≡ gen_word ∷ seed_word ∷ seed_text ∷ asks_word ∷ asks_text ∷ [])
+      ⊎ (words ≡ gen_word ∷ asks_word ∷ asks_text ∷ seed_word ∷ seed_text ∷ [])
+  pub by_seed : whole_up_to (2 ^ 64 - 1) seed_text ≡ Some seed
+  pub by_asks : whole_up_to MOST_ASKS asks_text ≡ Some asks
+
+-- the words are those of a generated day
+abbrev pub IsGenerator : List (List ℕ) → Type 0
+IsGenerator words = (seed asks : ℕ) × IsGenerated words seed asks
+
 -- A day ended so over a source, a sink and a disk, told by the exit status.
 pub record RunsDay {D : Type 0} (faults : D → ℕ) (reads : D → Option (List ℕ)) (may_leave : D → List ℕ → Type 0) (moment : D → ℕ) (left_since : D → ℕ → List ℕ → Type 0) (tape tape_now : Option Tape) (held held_now : Option (List ℕ)) (old new : D) (status : ℕ) : Type 0 where
   pub ending : Result (Unit {0}) Ending
@@ -53,9 +81,15 @@ pub record RunsBidder (tape tape_now : Option Tape) (held held_now : Option (Lis
   pub told : status ≡ status_of ending
   pub ends : EndsBidder tape tape_now held held_now ending
 
+-- A generated day ended so over a sink and a disk, told by the exit status.
+pub record RunsGenerated {D : Type 0} (faults : D → ℕ) (reads : D → Option (List ℕ)) (may_leave : D → List ℕ → Type 0) (moment : D → ℕ) (left_since : D → ℕ → List ℕ → Type 0) (seed asks : ℕ) (held held_now : Option (List ℕ)) (old new : D) (status : ℕ) : Type 0 where
+  pub ending : Result (Unit {0}) Ending
+  pub told : status ≡ status_of ending
+  pub serves : ServesGenerated faults reads may_leave moment left_since seed asks held held_now old new ending
+
 -- the words are a command's
 abbrev pub IsCommand : List (List ℕ) → Type 0
-IsCommand words = IsDay words ⊎ IsBidder words
+IsCommand words = IsDay words ⊎ (IsBidder words ⊎ IsGenerator words)
 
 -- what words that aren't a command write
 abbrev pub usage_line : List ℕ

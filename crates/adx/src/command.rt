@@ -1,11 +1,13 @@
 //! The top call, from the words of a command to its exit status.
-ghost use Rattle.std.specs.Prelude.{◌≡◌, ◌≢◌, ◌⊎◌, ◌≤◌};
+ghost use Rattle.std.specs.Prelude.{◌≡◌, ◌≢◌, ◌⊎◌, ◌≤◌, ℕ};
 ghost use Rattle.adx_io.specs.Streams.{Rises};
 ghost use Rattle.script_day.specs.Days.{HasOneOutput, HasOutputs};
-ghost use Rattle.adx.specs.Commands.{IsBidder, IsCommand, IsDay, RunsBidder, RunsDay, TellsUsage};
+ghost use Rattle.adx.specs.Commands.{IsBidder, IsCommand, IsDay, IsGenerated, IsGenerator, RunsBidder, RunsDay, RunsGenerated, TellsUsage};
 
+use crate::generator::generator_in_words;
 use crate::paths::{is_bidder, is_day};
 use crate::status::{NO_COMMAND, WRITE_FAULT, status_of};
+use adx_books::serve_generated;
 use adx_io::{Disk, Sink, Source, put_all};
 use adx_units::Text;
 use bidder_day::serve_prices;
@@ -42,6 +44,9 @@ fn tell_usage<K: Sink>(sink: &mut K) -> u8
 /// The command `bidder` reads a price line, and serves the HTTP connection that comes behind it: it answers requests for
 /// bids, counts the notices that it is told, and shows its books and its ledger. The disk isn't touched.
 ///
+/// The command `gen` reads nothing. It takes the calls of a generated day on the disk, of so many asks by the words of a
+/// seed, and writes the closing table. It ends at once where the disk fails, with status 6, and then the sink takes nothing.
+///
 /// The status is 0 where the source was read to its end, for `bidder` to that of the connection, and no call was given up
 /// by the disk; 2 where the words aren't
 /// a command, and then the sink takes a usage line; 3 where the first line isn't a roster, or the input passes 2^36
@@ -61,9 +66,10 @@ pub fn adx<S: Source, K: Sink, D: Disk>(
 ) -> u8
     ensures day { IsDay words.now → RunsDay D.faults D.reads D.may_leave D.moment D.left_since (S.tape source.old) (S.tape source.new) (K.held sink.old) (K.held sink.new) disk.old disk.new result }
     ensures bidder { IsBidder words.now → RunsBidder (S.tape source.old) (S.tape source.new) (K.held sink.old) (K.held sink.new) result }
+    ensures generated { (seed asks : ℕ) → IsGenerated words.now seed asks → RunsGenerated D.faults D.reads D.may_leave D.moment D.left_since seed asks (K.held sink.old) (K.held sink.new) disk.old disk.new result }
     ensures usage { (IsCommand words.now → ⊥) → TellsUsage (K.held sink.old) (K.held sink.new) result }
-    ensures unasked { (IsCommand words.now → ⊥) → source.new ≡ source.old }
-    ensures untouched { (IsDay words.now → ⊥) → disk.new ≡ disk.old }
+    ensures unasked { (IsDay words.now → ⊥) → (IsBidder words.now → ⊥) → source.new ≡ source.old }
+    ensures untouched { (IsDay words.now → ⊥) → (IsGenerator words.now → ⊥) → disk.new ≡ disk.old }
     ensures read_fault { result ≡ 4 → Rises (S.faults source.old) (S.faults source.new) }
     ensures read_passed { result ≢ 4 → S.faults source.new ≡ S.faults source.old }
     ensures write_fault { result ≡ 5 → Rises (K.faults sink.old) (K.faults sink.new) }
@@ -85,6 +91,10 @@ pub fn adx<S: Source, K: Sink, D: Disk>(
     }
     if is_bidder(words) {
         let ended = serve_prices(alloc, source, sink);
+        return status_of(ended);
+    }
+    if let Some(generator) = generator_in_words(words) {
+        let ended = serve_generated(alloc, generator, sink, disk);
         return status_of(ended);
     }
     tell_usage(sink)

@@ -2,11 +2,14 @@
 //!
 //! The call `adx` of the module `command` does all that the program does, from the words of its command
 //! line and the bytes of a source to those of a sink; its contract is the program's. It stands on
-//! `script_day`, which serves a day of script lines, on `bidder_day`, which serves a bidder's connection, on `adx_io`
-//! and on `adx_units`.
+//! `script_day`, which serves a day of script lines, on `bidder_day`, which serves a bidder's connection, on `adx_books`,
+//! which generates a day, on `adx_io` and on `adx_units`.
 #![tactic(auto)]
 
 mod command;
+#[cfg(test)]
+mod generated_tests;
+mod generator;
 #[cfg(test)]
 mod journal_tests;
 mod length_disk;
@@ -39,6 +42,9 @@ usage: adx day [--journal FILE]
 usage: adx bidder
   reads a price line on standard input and serves the HTTP connection that comes behind it: requests for
   bids are answered, notices counted, books and ledger shown, on standard output
+
+usage: adx gen --seed N --asks M
+  takes the calls of a generated day, of M asks by the words of the seed N, and writes the closing table
 ";
 
 /// What `--version` prints.

@@ -40,3 +40,14 @@ returns-then-is_bidder-clause-outputs g c = has_outputs
 
 pub returns-then-is_bidder-clause-one_output : goal.returns-then-is_bidder-clause-one_output
 returns-then-is_bidder-clause-one_output g c = has_one_output
+
+pub returns-in-Some-clause-disk_later : goal.returns-in-Some-clause-disk_later
+returns-in-Some-clause-disk_later g c =
+    let s = c.serve_generated-ended.ensures.ends in
+    day_later g.D.Disk.faults g.D.Disk.reads g.D.Disk.may_leave g.D.Disk.moment g.D.Disk.left_since s.course c.args.disk.now c.serve_generated-ended.new.disk s.on_disk
+
+pub returns-in-Some-clause-outputs : goal.returns-in-Some-clause-outputs
+returns-in-Some-clause-outputs g c = has_outputs
+
+pub returns-in-Some-clause-one_output : goal.returns-in-Some-clause-one_output
+returns-in-Some-clause-one_output g c = has_one_output

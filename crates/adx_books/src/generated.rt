@@ -1,0 +1,139 @@
+//! A generated day on a disk, and its closing table.
+ghost use Rattle.std.specs.Prelude.{◌≡◌, ◌≢◌, ◌≤◌, length, Err};
+ghost use Rattle.adx_io.specs.Streams.{Rises};
+ghost use Rattle.adx_io.specs.declared.stop.Stop.TheVariants.{WriteFault};
+ghost use Rattle.adx_desk.specs.Rosters.{desk_terms};
+ghost use Rattle.script_day.specs.declared.ending.Ending.TheVariants.{DiskFault as FaultOfDisk, Stopped};
+ghost use Rattle.script_lines.specs.Rosters.{IsRosterLine};
+ghost use Rattle.adx_books.specs.Generated.{generated_line};
+ghost use Rattle.adx_books.specs.GeneratedEnds.{EndsUntaken, ServesGenerated};
+ghost use Rattle.adx_books.specs.Taking.{PutsOutput, RunsCalls};
+ghost use Rattle.adx_books.specs.declared.generator.TheConstants.{MOST_ASKS as most_asks};
+
+use crate::calls::take_day;
+use crate::generator::Generator;
+use crate::roster::generated_roster;
+use adx_desk::{Desk, DeskFault};
+use adx_io::{Disk, Sink, Stop, put_all};
+use deal_floor::Roster;
+use script_day::{Ending, ending_of, push_books, push_unopened};
+use std::alloc::Global;
+
+/// Puts the output into the sink.
+fn put_output<K: Sink>(sink: &mut K, out: &str) -> Result<(), Ending>
+    ensures puts { PutsOutput (K.held sink.old) (K.held sink.new) out.now result }
+    ensures write_fault { result ≡ Err (Stopped WriteFault) → Rises (K.faults sink.old) (K.faults sink.new) }
+    ensures write_passed { result ≢ Err (Stopped WriteFault) → K.faults sink.new ≡ K.faults sink.old }
+    ensures write_later { K.faults sink.old ≤ K.faults sink.new }
+    ensures same { K.place sink.new ≡ K.place sink.old }
+{
+    match put_all(sink, out.as_bytes()) {
+        Ok(()) => Ok(()),
+        Err(_) => Err(Ending::Stopped(Stop::WriteFault)),
+    }
+}
+
+/// Takes all calls of a generated day, and puts its closing table into the sink.
+fn run_generated<K: Sink, D: Disk>(
+    alloc: Global,
+    roster: &Roster,
+    desk: &mut Desk<D>,
+    generator: Generator,
+    sink: &mut K,
+) -> Result<(), Ending>
+    requires few { generator.asks ≤ most_asks }
+    requires terms { desk.old.desk.terms ≡ desk_terms roster.now }
+    requires campaigns { length desk.old.desk.terms.day.budgets ≡ 16 }
+    ensures runs { RunsCalls D.faults D.may_leave D.moment D.left_since desk.old desk.new roster.entry.now generator.seed generator.asks (K.held sink.old) (K.held sink.new) result }
+    ensures lasts { D.lasts desk.old.disk desk.new.disk }
+    ensures write_fault { result ≡ Err (Stopped WriteFault) → Rises (K.faults sink.old) (K.faults sink.new) }
+    ensures write_passed { result ≢ Err (Stopped WriteFault) → K.faults sink.new ≡ K.faults sink.old }
+    ensures write_later { K.faults sink.old ≤ K.faults sink.new }
+    ensures same { K.place sink.new ≡ K.place sink.old }
+{
+    take_day(alloc, desk, generator)?;
+    let mut out = String::new(alloc);
+    push_books(&mut out, desk, roster)?;
+    put_output(sink, out.as_str())
+}
+
+/// Ends a day that wasn't opened: after a refusal of the file with a line that says why.
+fn give_up<K: Sink>(alloc: Global, fault: &DeskFault, sink: &mut K) -> Result<(), Ending>
+    ensures ends { EndsUntaken fault.now (K.held sink.old) (K.held sink.new) result }
+    ensures write_fault { result ≡ Err (Stopped WriteFault) → Rises (K.faults sink.old) (K.faults sink.new) }
+    ensures write_passed { result ≢ Err (Stopped WriteFault) → K.faults sink.new ≡ K.faults sink.old }
+    ensures write_later { K.faults sink.old ≤ K.faults sink.new }
+    ensures same { K.place sink.new ≡ K.place sink.old }
+{
+    match ending_of(fault) {
+        Ending::NoHistory => {
+            let mut out = String::new(alloc);
+            push_unopened(&mut out, fault)?;
+            put_output(sink, out.as_str())?;
+            Err(Ending::NoHistory)
+        }
+        other => Err(other),
+    }
+}
+
+/// Serves a generated day of a roster: opens it on its disk, takes its calls, and puts its closing table.
+fn serve_roster<K: Sink, D: Disk>(
+    alloc: Global,
+    roster: &Roster,
+    generator: Generator,
+    sink: &mut K,
+    disk: &mut D,
+) -> Result<(), Ending>
+    requires few { generator.asks ≤ most_asks }
+    requires line { IsRosterLine generated_line roster.now }
+    ensures ends { ServesGenerated D.faults D.reads D.may_leave D.moment D.left_since generator.seed generator.asks (K.held sink.old) (K.held sink.new) disk.old disk.new result }
+    ensures lasts { D.lasts disk.old disk.new }
+    ensures write_fault { result ≡ Err (Stopped WriteFault) → Rises (K.faults sink.old) (K.faults sink.new) }
+    ensures write_passed { result ≢ Err (Stopped WriteFault) → K.faults sink.new ≡ K.faults sink.old }
+    ensures write_later { K.faults sink.old ≤ K.faults sink.new }
+    ensures same { K.place sink.new ≡ K.place sink.old }
+{
+    match Desk::open(alloc, &mut *disk, roster) {
+        Ok(desk) => {
+            let mut desk = desk;
+            let ended = run_generated(alloc, roster, &mut desk, generator, sink);
+            let _ = desk.close();
+            ended
+        }
+        Err(refused) => {
+            let (fault, _) = refused;
+            give_up(alloc, &fault, sink)
+        }
+    }
+}
+
+/// Serves a generated day on a disk, and puts its closing table into the sink.
+///
+/// The day is that of a roster line of 16 campaigns, opened by the history that the disk's file stands for. It takes so many
+/// asks by the words of SplitMix64 from the seed (Steele, Lea, Flood, OOPSLA 2014), eight offers for each, behind each
+/// award a bill, a loss, a bill twice or nothing, and behind each hundredth ask a tick. An ask for which the journal has
+/// no room is given up, and the day goes on.
+///
+/// `Ok`: all calls were taken, and the sink took the closing table. `DiskFault`: the disk failed while the day was opened or
+/// in a call, which was the last, and the sink took nothing. `NoHistory`: the disk's file stands for no history of the
+/// roster, and the sink took a line that says why. `Stopped`: the sink failed, whose count rose then, and took a front of
+/// the output; or memory was refused, and it took nothing.
+pub fn serve_generated<K: Sink, D: Disk>(
+    alloc: Global,
+    generator: Generator,
+    sink: &mut K,
+    disk: &mut D,
+) -> Result<(), Ending>
+    requires few { generator.asks ≤ most_asks }
+    ensures ends { ServesGenerated D.faults D.reads D.may_leave D.moment D.left_since generator.seed generator.asks (K.held sink.old) (K.held sink.new) disk.old disk.new result }
+    ensures lasts { D.lasts disk.old disk.new }
+    ensures disk_fault { result ≡ Err FaultOfDisk → Rises (D.faults disk.old) (D.faults disk.new) }
+    ensures disk_passed { result ≢ Err FaultOfDisk → D.faults disk.new ≡ D.faults disk.old }
+    ensures write_fault { result ≡ Err (Stopped WriteFault) → Rises (K.faults sink.old) (K.faults sink.new) }
+    ensures write_passed { result ≢ Err (Stopped WriteFault) → K.faults sink.new ≡ K.faults sink.old }
+    ensures write_later { K.faults sink.old ≤ K.faults sink.new }
+    ensures same { K.place sink.new ≡ K.place sink.old }
+{
+    let roster = generated_roster(alloc)?;
+    serve_roster(alloc, &roster, generator, sink, disk)
+}
