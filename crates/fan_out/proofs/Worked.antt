@@ -5,7 +5,7 @@ use Rattle.std.proofs.Common.{sym, ap, subst, inl, inr, arith}
 use Rattle.std.proofs.lemmas.List.{length-append}
 use Rattle.adx_units.specs.declared.memory.OutOfMemory.{OutOfMemory}
 use Rattle.adx_io.specs.Streams.{WhereTold}
-use Rattle.adx_io.specs.Links.{Course, Exchange, Exchanges, FailsStart, after_start, exchanges_in, next_start}
+use Rattle.adx_links.specs.Links.{Course, Exchange, Exchanges, FailsStart, after_start, exchanges_in, next_start}
 use Rattle.http_bodies.specs.Steps.{ReadsBy}
 use Rattle.http_connection.specs.State.{ConnState}
 use Rattle.http_grammar.specs.declared.fault.HttpFault.{HttpFault}

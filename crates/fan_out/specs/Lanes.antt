@@ -3,7 +3,7 @@ use Rattle.std.specs.Prelude.{◌≡◌, ◌≢◌, ◌⊎◌, ℕ, ◌≤◌, L
 use Rattle.std.specs.Borrow.{GName}
 use Rattle.adx_units.specs.declared.memory.OutOfMemory.{OutOfMemory}
 use Rattle.adx_io.specs.Streams.{WhereTold, Rises}
-use Rattle.adx_io.specs.Links.{Course, Exchanges, FailsStart, after_start, exchanges_in, next_start}
+use Rattle.adx_links.specs.Links.{Course, Exchanges, FailsStart, after_start, exchanges_in, next_start}
 use Rattle.link_exchange.specs.Exchanging.{OneMore, AnswersFront}
 use Rattle.deal_floor.specs.declared.place.Place.{Place}
 use Rattle.fan_out.specs.declared.answer.BidderAnswer.{BidderAnswer}

@@ -7,7 +7,7 @@ ghost use Rattle.fan_out.specs.Lasts.{AreTaken, EachLeaves, emptied};
 
 use crate::answer::BidderAnswer;
 use crate::lane::{Lane, work};
-use adx_io::Link;
+use adx_links::Link;
 use adx_units::{Id, OutOfMemory};
 use std::alloc::Global;
 use std::marker::{Send, Sync};

@@ -9,7 +9,7 @@ use crate::answer::{BidderAnswer, Refusal};
 use crate::auction::Auction;
 use crate::head::head_of;
 use adx_http::{Conn, HttpFault};
-use adx_io::Link;
+use adx_links::Link;
 use adx_units::{Id, OutOfMemory};
 use deal_floor::Place;
 use link_exchange::exchange;

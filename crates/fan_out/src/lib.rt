@@ -3,7 +3,7 @@
 //! `gather` sends one request to every lane's bidder and gives one answer per lane, in their order, each
 //! a function of the bytes that its own bidder answered; `gather_in_turn` does the same without threads.
 //! A fault of one bidder takes out that bidder alone.
-//! Stands on link_exchange, adx_http, rtb_response and deal_floor.
+//! Stands on link_exchange, adx_links, adx_http, rtb_response and deal_floor.
 #![tactic(auto)]
 
 mod answer;

@@ -1,7 +1,8 @@
 //! Bidders that answer well, badly and not at all, asked at the same time and one after the other.
 use crate::{ANSWER_LIMIT, BidderAnswer, Lane, gather, gather_in_turn};
 use adx_http::Conn;
-use adx_io::{Failed, Link, MemoryLink, Planned};
+use adx_io::Failed;
+use adx_links::{Link, MemoryLink, Planned};
 use adx_units::{Id, OutOfMemory, Text};
 use deal_floor::Place;
 use std::alloc::Global;

@@ -3,7 +3,7 @@ use Rattle.std.proofs.Common.{◌≡◌, inl, inr, ℕ, ◌+◌, ◌<◌, List, 
 use Rattle.std.proofs.lemmas.List.{take-append-drop}
 use Rattle.std.proofs.Math.Seq.{take-append_seam, take-append-add}
 use Rattle.adx_io.specs.Streams.{WhereTold}
-use Rattle.adx_io.specs.Links.{Exchange, Exchanges, Begins, begun, exchanges_in, asking, Asks, Connection, Course, Puts, FailsPut, after_put}
+use Rattle.adx_links.specs.Links.{Exchange, Exchanges, Begins, begun, exchanges_in, asking, Asks, Connection, Course, Puts, FailsPut, after_put}
 use Rattle.adx_io.specs.declared.failed.Failed.{Failed}
 use Rattle.link_exchange.specs.Exchanging.{AskedIn, AsksAll, OneMore, StandsAs, tape_of}
 

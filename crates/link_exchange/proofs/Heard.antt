@@ -2,7 +2,7 @@
 use Rattle.std.proofs.Common.{◌≡◌, ℕ, List, [], ◌++◌, refl, sym, ap, ◌∙◌, append_assoc, append-nil, Option, Some, None, option_map, Result, Ok, Err}
 use Rattle.adx_io.specs.Streams.{Tape, Moved, WhereTold, put_of}
 use Rattle.adx_io.specs.declared.failed.Failed.{Failed}
-use Rattle.adx_io.specs.Links.{Exchange, Exchanges, answering, Answers, Connection, Course, Takes, TakesFrom}
+use Rattle.adx_links.specs.Links.{Exchange, Exchanges, answering, Answers, Connection, Course, Takes, TakesFrom}
 use Rattle.http_buffer.specs.State.{Passes}
 use Rattle.link_exchange.specs.Exchanging.{Hears, TakesOver}
 

@@ -3,7 +3,7 @@ use Rattle.std.proofs.Common.{◌≡◌, inl, inr, ℕ, List, [], ◌∷◌, ◌
 use Rattle.std.proofs.Math.Seq.{take-length}
 use Rattle.adx_io.specs.Streams.{Tape, WhereTold}
 use Rattle.adx_io.specs.declared.failed.Failed.{Failed}
-use Rattle.adx_io.specs.Links.{Exchange, Exchanges, exchanges_in, answering, Answers, Course, next_start}
+use Rattle.adx_links.specs.Links.{Exchange, Exchanges, exchanges_in, answering, Answers, Course, next_start}
 use Rattle.http_buffer.specs.State.{Passes}
 use Rattle.http_connection.specs.Answers.{AnswersResponse, GivesResponse}
 use Rattle.http_connection.specs.State.{ConnState}

@@ -2,7 +2,7 @@
 use Rattle.std.specs.Prelude.{◌≡◌, ◌⊎◌, ℕ, List, [], ◌∷◌, ◌++◌, take, false, Option, Some, None, option_map, Result, Ok, Err, ⊤}
 use Rattle.adx_io.specs.declared.failed.Failed.{Failed}
 use Rattle.adx_io.specs.Streams.{Tape, WhereTold}
-use Rattle.adx_io.specs.Links.{Exchange, Exchanges, exchanges_in, begun, asking, Asks, Answers, Connection, Course, next_start, after_start}
+use Rattle.adx_links.specs.Links.{Exchange, Exchanges, exchanges_in, begun, asking, Asks, Answers, Connection, Course, next_start, after_start}
 use Rattle.http_buffer.specs.State.{Passes}
 use Rattle.http_connection.specs.Messages.{ResponseRead, IsResponseThen, RefusesResponse}
 use Rattle.http_connection.specs.State.{ConnState}

@@ -1,10 +1,11 @@
 //! What is asked of a host.
 ghost use Rattle.std.specs.Prelude.{◌≡◌, ◌<◌, ◌++◌, length, take, IfSome, IsErr, IsTrue};
-ghost use Rattle.adx_io.specs.Links.{FailsPut, FailsStart, next_start};
+ghost use Rattle.adx_links.specs.Links.{FailsPut, FailsStart, next_start};
 ghost use Rattle.adx_io.specs.Streams.{HasCause, WhereTold};
 ghost use Rattle.link_exchange.specs.Exchanging.{AsksAll, AskedIn, StandsAs, WaitsForAnswer};
 
-use adx_io::{Failed, Link};
+use adx_io::Failed;
+use adx_links::Link;
 
 /// Calls a host at a port, and asks it the head and then the body, whole. `Failed` comes only where the
 /// link failed, and then some front of them was asked, or the start may have left nothing at all.

@@ -1,6 +1,6 @@
 //! One exchange.
 ghost use Rattle.std.specs.Prelude.{◌≡◌, ◌<◌, ◌++◌, length, IfOk, IfSome, IsTrue, Err};
-ghost use Rattle.adx_io.specs.Links.{FailsStart, next_start};
+ghost use Rattle.adx_links.specs.Links.{FailsStart, next_start};
 ghost use Rattle.adx_io.specs.Streams.{WhereTold};
 ghost use Rattle.http_bodies.specs.Steps.{ReadsBy};
 ghost use Rattle.http_grammar.specs.declared.fault.HttpFault.{HttpFault};
@@ -9,7 +9,7 @@ ghost use Rattle.link_exchange.specs.Exchanging.{Answered, AnswersFront, Exchang
 use crate::asking::ask;
 use crate::hearer::Hearer;
 use crate::link_end::{Lent, LinkEnd};
-use adx_io::Link;
+use adx_links::Link;
 use http_connection::{Conn, HttpFault};
 use std::marker::Brand;
 

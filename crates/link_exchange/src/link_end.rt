@@ -2,13 +2,14 @@
 ghost use Rattle.std.specs.Prelude.{◌≡◌};
 ghost use Rattle.link_exchange.specs.Exchanging.{Hears};
 
-use adx_io::{Failed, Link, Source};
+use adx_io::{Failed, Source};
+use adx_links::Link;
 use std::marker::{Brand, Model, PhantomData};
 
 /// What a link told when it was lent. Each lending picks it.
 pub(crate) trait Lent {
     ghost use Rattle.std.specs.Prelude.{Option};
-    ghost use Rattle.adx_io.specs.Links.{Course, Exchanges};
+    ghost use Rattle.adx_links.specs.Links.{Course, Exchanges};
 
     ghost talk: { Option Exchanges };
 

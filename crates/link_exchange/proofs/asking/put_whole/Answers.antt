@@ -2,7 +2,7 @@
 use Rattle.std.proofs.Common.{[], ◌++◌, length, sym, subst, ap, ◌∙◌, append_assoc, append-nil, arith, take, length-append}
 use Rattle.std.proofs.lemmas.Bool.Decides.{nat_tests}
 use Rattle.std.proofs.lemmas.List.{take-append-drop}
-use Rattle.adx_io.specs.Links.{Asks}
+use Rattle.adx_links.specs.Links.{Asks}
 use Rattle.adx_io.specs.Streams.{WhereTold}
 use Rattle.link_exchange.proofs.Asked.{asks_both, some_front, stands_on, still_unasked}
 use Rattle.link_exchange.proofs.asking.put_whole.Goals as goal

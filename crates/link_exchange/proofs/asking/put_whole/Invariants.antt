@@ -1,6 +1,6 @@
 -- A front was asked and the rest is left; where the plan lets the put fail, all is left.
 use Rattle.std.proofs.Common.{◌≡◌, ℕ, ◌++◌, List, length, IfSome}
-use Rattle.adx_io.specs.Links.{Asks, FailsPut}
+use Rattle.adx_links.specs.Links.{Asks, FailsPut}
 use Rattle.adx_io.specs.Streams.{WhereTold}
 use Rattle.link_exchange.specs.Exchanging.{StandsAs}
 use Rattle.link_exchange.proofs.asking.put_whole.Given as goal

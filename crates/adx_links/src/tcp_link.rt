@@ -2,10 +2,10 @@
 ghost use Rattle.std.specs.Prelude.{◌≡◌, ◌≤◌, ◌<◌, length, None, Some, IfOk, IsErr, IsSome, OnOk, OnErr, IfSome};
 ghost use Rattle.std.specs.Io.KnownBytes.{ReadConsumes, WriteAppends};
 ghost use Rattle.adx_io.specs.Streams.{HasCause, own_place};
-ghost use Rattle.adx_io.specs.TcpLinks.{BothStand, link_faults, stream_of};
+ghost use Rattle.adx_links.specs.TcpLinks.{BothStand, link_faults, stream_of};
 
-use crate::failed::Failed;
 use crate::link::Link;
+use adx_io::Failed;
 use std::io;
 use std::io::{Read, Write};
 use std::net::{Net, OpenStream, SocketAddr, TcpStream, ToSocketAddrs};
@@ -39,7 +39,7 @@ impl<R: Net> TcpLink<R> {
 
 impl<R: Net> Link for TcpLink<R> {
     ghost use Rattle.std.specs.Prelude.{None};
-    ghost use Rattle.adx_io.specs.TcpLinks.{link_faults};
+    ghost use Rattle.adx_links.specs.TcpLinks.{link_faults};
 
     ghost faults = { link_faults };
 

@@ -1,9 +1,9 @@
 //! Other hosts that are called and answer.
 ghost use Rattle.std.specs.Prelude.{◌≡◌, ◌≤◌, ◌<◌, ℕ, List, length, Option, None, IfOk, IfSome, IsErr};
 ghost use Rattle.adx_io.specs.Streams.{HasCause, WhereTold, put_of};
-ghost use Rattle.adx_io.specs.Links.{Answers, Asks, Begins, Connects, Course, Exchanges, FailsPut, FailsStart, FailsTake, Puts, Takes};
+ghost use Rattle.adx_links.specs.Links.{Answers, Asks, Begins, Connects, Course, Exchanges, FailsPut, FailsStart, FailsTake, Puts, Takes};
 
-use crate::failed::Failed;
+use adx_io::Failed;
 
 /// One connection at a time to other hosts: each start calls a host, and what is asked and answered
 /// after it goes over that connection.
@@ -11,7 +11,7 @@ pub trait Link {
     ghost use Rattle.std.specs.Prelude.{ℕ, List, Option};
     ghost use Rattle.std.specs.Borrow.{GName};
     ghost use Rattle.adx_io.specs.Streams.{own_place};
-    ghost use Rattle.adx_io.specs.Links.{Course, Exchanges};
+    ghost use Rattle.adx_links.specs.Links.{Course, Exchanges};
 
     /// How often the link has failed; it never falls.
     ghost faults: { Self → ℕ };

@@ -1,14 +1,13 @@
 //! A link in memory, whose starts go by a plan.
 ghost use Rattle.adx_io.specs.Fakes.{counted, failure};
-ghost use Rattle.adx_io.specs.Links.{Answers, Asks, Begins, Connects, Exchange, FailsPut, FailsStart, FailsTake, Puts, Takes, TakesFrom, after_put, begun, exchanges_in, next_start};
-ghost use Rattle.adx_io.specs.MemoryLinks.{MemoryLinkState, Opens, RunningState, closed, course_of, exchange_of, exchanges_of, given_of, no_content, running_of};
+ghost use Rattle.adx_links.specs.Links.{Answers, Asks, Begins, Connects, Exchange, FailsPut, FailsStart, FailsTake, Puts, Takes, TakesFrom, after_put, begun, exchanges_in, next_start};
+ghost use Rattle.adx_links.specs.MemoryLinks.{MemoryLinkState, Opens, RunningState, closed, course_of, exchange_of, exchanges_of, given_of, no_content, running_of};
 ghost use Rattle.adx_io.specs.Streams.{Gives, HasCause, Rises, own_place, put_of};
 ghost use Rattle.std.specs.Prelude.{◌≡◌, ◌⊎◌, ◌↔◌, ◌≤◌, ◌<◌, ◌+◌, List, ℕ, true, false, vec_len, vec_capacity, take, drop, min, ◌∷◌, ◌++◌, [], length, map, slice_get, Option, Some, None, option_map, is_some, IsErr, IsTrue, OnOk, OnErr, IfOk, if◌then◌else◌};
 
-use crate::failed::Failed;
-use crate::line_buffer::copy_front;
 use crate::link::Link;
 use crate::planned::Planned;
+use adx_io::{Failed, copy_front};
 use adx_units::{OutOfMemory, Text};
 use std::alloc::Global;
 use std::marker::Model;
@@ -26,7 +25,7 @@ struct Ended {
 }
 
 impl Model for Ended {
-    ghost use Rattle.adx_io.specs.Links.{Exchange};
+    ghost use Rattle.adx_links.specs.Links.{Exchange};
 
     ghost Value = { Exchange };
 
@@ -47,7 +46,7 @@ struct Running {
 
 impl Model for Running {
     ghost use Rattle.std.specs.Prelude.{◌≤◌, take, drop, vec_len};
-    ghost use Rattle.adx_io.specs.MemoryLinks.{RunningState};
+    ghost use Rattle.adx_links.specs.MemoryLinks.{RunningState};
 
     ghost Value = { RunningState };
 
@@ -157,7 +156,7 @@ pub struct MemoryLink {
 
 impl Model for MemoryLink {
     ghost use Rattle.std.specs.Prelude.{◌≡◌, ◌≤◌, ◌<◌, drop, is_some, true, vec_len, vec_capacity};
-    ghost use Rattle.adx_io.specs.MemoryLinks.{MemoryLinkState};
+    ghost use Rattle.adx_links.specs.MemoryLinks.{MemoryLinkState};
 
     ghost Value = { MemoryLinkState };
 
@@ -296,7 +295,7 @@ fn add_within(past: &mut Vec<Ended>, ended: Ended)
 
 impl Link for MemoryLink {
     ghost use Rattle.std.specs.Prelude.{Some};
-    ghost use Rattle.adx_io.specs.MemoryLinks.{MemoryLinkState, exchanges_of, course_of};
+    ghost use Rattle.adx_links.specs.MemoryLinks.{MemoryLinkState, exchanges_of, course_of};
     ghost use Rattle.adx_io.specs.Streams.{own_place};
 
     ghost faults = { λ l. l.faults };

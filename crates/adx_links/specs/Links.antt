@@ -1,7 +1,7 @@
 -- A link: a host is called, bytes are asked of it, and it answers. This project's own.
 use Rattle.std.specs.Prelude.{◌≡◌, ◌⊎◌, ◌==◌, ◌-◌, ℕ, List, [], ◌∷◌, ◌++◌, get_or, drop, Bool, false, if◌then◌else◌, IsTrue, Option, Some, None, option_map, option_to_list, Result, Ok, Err, ⊤}
 use Rattle.adx_io.specs.declared.failed.Failed.{Failed}
-use Rattle.adx_io.specs.declared.planned.Planned.{Planned}
+use Rattle.adx_links.specs.declared.planned.Planned.{Planned}
 use Rattle.adx_io.specs.Streams.{Tape, WhereTold, Moved}
 
 -- what one start led to: whom it called, and the bytes asked and answered since

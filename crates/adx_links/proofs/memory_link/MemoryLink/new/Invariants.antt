@@ -1,5 +1,5 @@
 use Rattle.std.proofs.Common.{◌≡◌, take}
-use Rattle.adx_io.proofs.memory_link.MemoryLink.new.Given as goal
+use Rattle.adx_links.proofs.memory_link.MemoryLink.new.Given as goal
 
 abbrev pub invariant-loop-planned : goal.invariant-loop-planned
 invariant-loop-planned l = l.kept.items ≡ take l.planned-index l.plan

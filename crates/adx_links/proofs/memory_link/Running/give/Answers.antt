@@ -1,9 +1,9 @@
 -- The bytes that were copied are the next ones of the answer.
 use Rattle.std.proofs.Common.{◌≡◌, ap, ◌∙◌, ◌+◌, subst, arith, length, take, drop}
 use Rattle.adx_io.specs.Streams.{Gives}
-use Rattle.adx_io.specs.MemoryLinks.{RunningState}
+use Rattle.adx_links.specs.MemoryLinks.{RunningState}
 use Rattle.adx_io.proofs.Moved.{Gives-next, nothing_left}
-use Rattle.adx_io.proofs.memory_link.Running.give.Goals as goal
+use Rattle.adx_links.proofs.memory_link.Running.give.Goals as goal
 
 pub returns-clause-gives : goal.returns-clause-gives
 returns-clause-gives c =

@@ -1,6 +1,6 @@
 -- The connection that a link over sockets has, and its count of faults. This project's own.
 use Rattle.std.specs.Prelude.{ℕ, Option, Some, None, ⊤}
-use Rattle.adx_io.specs.declared.tcp_link.TcpLink.{TcpLink}
+use Rattle.adx_links.specs.declared.tcp_link.TcpLink.{TcpLink}
 
 abbrev pub stream_of : {R S L : Type 0} → TcpLink R S L → Option S
 stream_of l = l.stream

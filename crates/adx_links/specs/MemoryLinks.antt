@@ -1,9 +1,9 @@
 -- A link in memory, whose starts go by a plan. This project's own.
 use Rattle.std.specs.Prelude.{◌≡◌, ◌⊎◌, ℕ, List, [], ◌∷◌, ◌++◌, length, min, false, Option, Some, None, option_map, unwrap_or, Result, Ok, Err}
 use Rattle.adx_io.specs.declared.failed.Failed.{Failed}
-use Rattle.adx_io.specs.declared.planned.Planned.{Planned}
-use Rattle.adx_io.specs.declared.memory_link.TheConstants.{NO_CONTENT}
-use Rattle.adx_io.specs.Links.{Connection, Course, Exchange, Exchanges, Plan, after_start, begun, connection_of, exchanges_in, next_start}
+use Rattle.adx_links.specs.declared.planned.Planned.{Planned}
+use Rattle.adx_links.specs.declared.memory_link.TheConstants.{NO_CONTENT}
+use Rattle.adx_links.specs.Links.{Connection, Course, Exchange, Exchanges, Plan, after_start, begun, connection_of, exchanges_in, next_start}
 
 -- a start past the end of the plan answers that there is no content
 abbrev pub no_content : Planned

@@ -1,0 +1,3 @@
+pub mod Links
+pub mod TcpLinks
+pub mod MemoryLinks
