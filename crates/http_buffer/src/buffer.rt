@@ -1,5 +1,5 @@
 //! The memory of a connection as two lists of bytes.
-ghost use Rattle.std.specs.Prelude.{◌≡◌, ◌≤◌, ◌<◌, ◌+◌, ◌++◌, ℕ, List, [], length, take, drop, IfOk, Ok, true, false};
+ghost use Rattle.std.specs.Prelude.{◌≡◌, ◌≤◌, ◌<◌, ◌+◌, ◌++◌, ℕ, List, [], length, take, drop, IfOk, OnErr, Ok, true, false};
 ghost use Rattle.adx_io.specs.Streams.{HasCause};
 ghost use Rattle.http_buffer.specs.State.{Takes, IsAtEnd};
 
@@ -109,6 +109,7 @@ impl Buffer {
         ensures some { result ≡ Ok true → length self.old.pending < length self.new.pending }
         ensures none { result ≡ Ok false → self.new.pending ≡ self.old.pending }
         ensures ended { result ≡ Ok false → IsAtEnd (S.tape source.new) }
+        ensures unread { OnErr result (self.new.pending ≡ self.old.pending) }
         ensures fits { length self.new.kept + length self.new.pending ≤ self.new.room }
         ensures cause { HasCause (S.faults source.old) (S.faults source.new) result }
         ensures same { S.place source.new ≡ S.place source.old }

@@ -1,5 +1,5 @@
 //! Where the head of a message ends in a buffer.
-ghost use Rattle.std.specs.Prelude.{◌≡◌, ◌≤◌, ◌<◌, ◌+◌, ◌-◌, ◌^◌, ℕ, length, take, drop, IfOk, Ok};
+ghost use Rattle.std.specs.Prelude.{◌≡◌, ◌≤◌, ◌<◌, ◌+◌, ◌-◌, ◌^◌, ℕ, length, take, drop, IfOk, OnErr, Ok};
 ghost use Rattle.adx_io.specs.Streams.{HasCause};
 ghost use Rattle.http_buffer.specs.State.{Takes, IsAtEnd};
 ghost use Rattle.http_buffer.specs.HeadEnds.{is_empty_line, FindsHead};
@@ -93,12 +93,13 @@ pub fn head_in(bytes: &[u8]) -> HeadEnd
 }
 
 /// Takes bytes until a head ends in the pending bytes, until `HEAD_LIMIT` bytes hold none, or to the
-/// source's end. No byte is searched twice.
+/// source's end. No byte is searched twice. Where the source fails no head ends in what came.
 pub fn head_end<S: Source>(buffer: &mut Buffer, source: &mut S) -> Result<HeadEnd, Failed>
     requires { length buffer.old.kept + HEAD_LIMIT ≤ buffer.old.room }
     ensures takes { Takes buffer.old buffer.new (S.tape source.old) (S.tape source.new) }
     ensures found { IfOk result (FindsHead buffer.new.pending) }
     ensures ended { result ≡ Ok HeadEnd.Open → IsAtEnd (S.tape source.new) }
+    ensures unread { OnErr result (FindsHead buffer.new.pending HeadEnd.Open) }
     ensures cause { HasCause (S.faults source.old) (S.faults source.new) result }
     ensures same { S.place source.new ≡ S.place source.old }
 {

@@ -1,5 +1,5 @@
 //! Lines and counts of bytes that a buffer takes from a source.
-ghost use Rattle.std.specs.Prelude.{◌≡◌, ◌≤◌, ◌<◌, ◌+◌, ◌++◌, ℕ, List, ◌∷◌, length, take, drop, IfOk, Ok, true, false, MatchOption};
+ghost use Rattle.std.specs.Prelude.{◌≡◌, ◌≤◌, ◌<◌, ◌+◌, ◌++◌, ℕ, List, ◌∷◌, length, take, drop, IfOk, OnErr, Ok, true, false, MatchOption};
 ghost use Rattle.adx_io.specs.Streams.{HasCause};
 ghost use Rattle.http_buffer.specs.State.{Takes, IsAtEnd};
 ghost use Rattle.http_buffer.specs.Lines.{IsLine, IsFeed, FindsLine};
@@ -53,7 +53,8 @@ pub fn line_in(bytes: &[u8], from: usize, bound: usize) -> Line
 }
 
 /// Takes bytes until a line ends behind the place `from` of the pending bytes, until `bound` pending
-/// bytes are there, or to the source's end. No byte is searched twice.
+/// bytes are there, or to the source's end. No byte is searched twice. Where the source fails no line
+/// ends in what came.
 pub fn line_end<S: Source>(
     buffer: &mut Buffer,
     source: &mut S,
@@ -65,6 +66,7 @@ pub fn line_end<S: Source>(
     ensures takes { Takes buffer.old buffer.new (S.tape source.old) (S.tape source.new) }
     ensures found { IfOk result (FindsLine from bound buffer.new.pending) }
     ensures ended { result ≡ Ok Line.Open → IsAtEnd (S.tape source.new) }
+    ensures unread { OnErr result (FindsLine from bound buffer.new.pending Line.Open) }
     ensures cause { HasCause (S.faults source.old) (S.faults source.new) result }
     ensures same { S.place source.new ≡ S.place source.old }
 {
@@ -94,6 +96,7 @@ pub fn need<S: Source>(buffer: &mut Buffer, source: &mut S, count: usize) -> Res
     ensures there { result ≡ Ok true → count ≤ length buffer.new.pending }
     ensures wanting { result ≡ Ok false → length buffer.new.pending < count }
     ensures ended { result ≡ Ok false → IsAtEnd (S.tape source.new) }
+    ensures unread { OnErr result (length buffer.new.pending < count) }
     ensures cause { HasCause (S.faults source.old) (S.faults source.new) result }
     ensures same { S.place source.new ≡ S.place source.old }
 {

@@ -47,3 +47,10 @@ returns-in-Ok-Open-clause-found g c =
     let t = c.in-Ok-Open.ensures.takes in
     let s = scanned_grows c.lines.at c.lines.walk c.lines.buffer.pending c.line_end.new.buffer.pending t.piece i.scanned t.pending in
     no_head_yet c.lines.at c.lines.walk c.line_end.new.buffer.pending s i.unfinished (rw c.in-Ok-Open.field-0-is at c.in-Ok-Open.ensures.found)
+
+pub returns-in-Err-clause-unread : goal.returns-in-Err-clause-unread
+returns-in-Err-clause-unread g c =
+    let i = c.lines.invariant in
+    let t = c.in-Err.ensures.takes in
+    let s = scanned_grows c.lines.at c.lines.walk c.lines.buffer.pending c.line_end.new.buffer.pending t.piece i.scanned t.pending in
+    no_head_yet c.lines.at c.lines.walk c.line_end.new.buffer.pending s i.unfinished c.in-Err.ensures.unread
