@@ -1,9 +1,9 @@
 -- Bodies that are read by a length, or to the end of the source.
-use Rattle.std.proofs.Common.{◌≡◌, ℕ, ◌+◌, ◌<◌, ◌≤◌, List, [], ◌++◌, length, take, drop, Option, Some, None, Ok, Err, refl, sym, ap, subst, ◌∙◌, append_assoc, append-nil, arith, length-append, length-drop}
+use Rattle.std.proofs.Common.{◌≡◌, ℕ, ◌+◌, ◌<◌, ◌≤◌, List, ◌++◌, length, take, drop, Option, sym, ap, ◌∙◌, append_assoc, append-nil, arith, length-append}
 use Rattle.std.proofs.lemmas.List.{take-append-drop, length-take-le, take_all, drop_all}
 use Rattle.adx_io.specs.Streams.{Tape, WhereTold}
 use Rattle.http_buffer.specs.State.{BufferState, Takes, IsAtEnd}
-use Rattle.http_bodies.specs.Steps.{coming, BodyGives}
+use Rattle.http_bodies.specs.Steps.{coming}
 use Rattle.http_bodies.specs.BodyForms.{IsBodyThen, FailsBody}
 use Rattle.http_bodies.specs.declared.bodies.Body.{Body}
 use Rattle.http_grammar.specs.declared.fault.HttpFault.{HttpFault}

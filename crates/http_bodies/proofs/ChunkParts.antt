@@ -1,15 +1,15 @@
 -- A chunk's line, its data and what is wrong with them.
-use Rattle.std.proofs.Common.{◌≡◌, ◌≢◌, ℕ, ◌+◌, ◌<◌, ◌≤◌, List, [], ◌∷◌, ◌++◌, length, take, drop, Bool, true, false, Option, Some, None, refl, sym, ap, subst, ◌∙◌, append_assoc, append-nil, arith, length-append, length-drop, inl, inr}
+use Rattle.std.proofs.Common.{◌≡◌, ℕ, ◌+◌, ◌≤◌, List, [], ◌∷◌, ◌++◌, length, take, drop, true, false, Option, refl, sym, ap, subst, ◌∙◌, append_assoc, append-nil, arith, length-append, length-drop, inl, inr}
 use Rattle.std.specs.Str.{bytes_eq}
 use Rattle.std.proofs.lemmas.Slice.Eq.{bytes_eq-Decides}
-use Rattle.std.proofs.lemmas.List.{take-append-drop, length-take-le, take_at, nil_from_length}
+use Rattle.std.proofs.lemmas.List.{length-take-le, take_at, nil_from_length}
 use Rattle.adx_io.specs.Streams.{Tape, WhereTold}
 use Rattle.httparse.specs.Ascii.{crlf_bytes}
-use Rattle.httparse.specs.Grammar.{ChunkLine, IsChunkLine, print_chunk_line, chunk_size}
+use Rattle.httparse.specs.Grammar.{ChunkLine, print_chunk_line}
 use Rattle.httparse.specs.Spans.{IsChunkLineAt}
 use Rattle.httparse.proofs.ChunkLemmas.{chunk_line_unique}
 use Rattle.http_buffer.specs.State.{BufferState, Takes, IsAtEnd}
-use Rattle.http_buffer.specs.Lines.{IsLine, ended, EndsAt, IsTooLong, IsOpen}
+use Rattle.http_buffer.specs.Lines.{ended, EndsAt, IsTooLong, IsOpen}
 use Rattle.http_buffer.specs.declared.head.TheConstants.{HEAD_LIMIT}
 use Rattle.http_bodies.specs.Chunks.{BeginsChunk, IsBadLine, IsOpenLine, EndsBadly}
 use Rattle.http_bodies.specs.Steps.{coming, IsLineOf, IsNoLine, ends_behind}

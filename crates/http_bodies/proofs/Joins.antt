@@ -1,17 +1,17 @@
 -- Chunks that are joined one after another.
-use Rattle.std.proofs.Common.{◌≡◌, ℕ, ◌+◌, ◌-◌, ◌<◌, ◌≤◌, List, [], ◌∷◌, ◌++◌, length, All, Option, Result, Ok, Err, refl, sym, ap, subst, ◌∙◌, append_assoc, append-nil, arith, length-append, inl, inr}
+use Rattle.std.proofs.Common.{◌≡◌, ℕ, ◌+◌, ◌-◌, ◌<◌, ◌≤◌, List, [], ◌∷◌, ◌++◌, length, Option, Result, Ok, Err, refl, sym, ap, subst, ◌∙◌, append_assoc, append-nil, arith, length-append, inl, inr}
 use Rattle.std.specs.List.{flat_map}
 use Rattle.std.proofs.lemmas.List.{flat_map_more}
 use Rattle.std.proofs.lemmas.List.Elements.{All-append, All-nil, All-cons}
 use Rattle.adx_io.specs.Streams.{Tape, WhereTold, Rises}
 use Rattle.httparse.specs.Ascii.{crlf_bytes}
-use Rattle.httparse.specs.Grammar.{ChunkLine, IsChunkLine, print_chunk_line, chunk_size}
-use Rattle.http_buffer.specs.State.{BufferState}
+use Rattle.httparse.specs.Grammar.{print_chunk_line}
+use Rattle.http_buffer.specs.State.{BufferState, Passes}
 use Rattle.http_grammar.specs.declared.fault.HttpFault.{HttpFault}
-use Rattle.http_bodies.specs.Chunks.{Chunk, IsChunk, print_chunk, joined, HasChunks, BeginsChunk, FailsAt, FailsChunks, ChunkFault, IsTrailer, IsChunkedThen}
-use Rattle.http_bodies.specs.Steps.{coming, LineGives, DataGives, TrailerGives, BodyGives, ReadsBy}
+use Rattle.http_bodies.specs.Chunks.{Chunk, IsChunk, print_chunk, joined, HasChunks, BeginsChunk, FailsAt, FailsChunks, ChunkFault, IsTrailer, IsOpenTrailer, IsChunkedThen}
+use Rattle.http_bodies.specs.Steps.{Advances, HasGiven, coming, LineGives, DataGives, TrailerGives, BodyGives, ReadsBy}
 use Rattle.http_bodies.specs.declared.bodies.Body.{Body}
-use Rattle.http_bodies.proofs.Told.{told_map, told_then, told_same}
+use Rattle.http_bodies.proofs.Told.{told_map, told_then, told_same, IsOfFronts, front_is, given_then}
 
 -- these chunks were read, whose bytes were joined
 abbrev pub HasJoined : ℕ → List ℕ → List ℕ → List ℕ → Type 0
@@ -77,18 +77,40 @@ fails limit room before at old mid new fault j w =
     told_then old mid new (λ o m. HasJoined limit j.b (coming before o) (coming at m)) (λ m n. FailsAt limit (length j.b) (coming at m) fault) (λ o n. FailsChunks limit (coming before o) fault)
     (λ o m n h f. record { chunks = h.0; behind = coming at m; before = h.1; fails = subst (λ l. FailsAt limit (length l) (coming at m) fault) (sym h.2) f }) j.told w
 
-pub line_fails : (limit room : ℕ) (before at now : BufferState) (old mid new : Option Tape) (fault : HttpFault) → IsJoining limit room before at old mid → LineGives at now mid new (Err fault)
+-- chunks and lines are what they were, whatever follows the rest
+joined_fronts : (limit : ℕ) (b : List ℕ) → IsOfFronts (λ bytes rest. HasJoined limit b bytes rest)
+joined_fronts limit b = λ bytes rest old new h.
+    (h.0, record { each = HasChunks.each h.1; within = HasChunks.within h.1; bytes_are = front_is bytes (flat_map print_chunk h.0) rest old new (HasChunks.bytes_are h.1) }, h.2)
+
+line_fronts : (size : ℕ) → IsOfFronts (λ bytes rest. BeginsChunk bytes size rest)
+line_fronts size = λ bytes rest old new c. record {
+  line = BeginsChunk.line c;
+  is_line = BeginsChunk.is_line c;
+  short = BeginsChunk.short c;
+  size_is = BeginsChunk.size_is c;
+  bytes_are = front_is bytes (print_chunk_line (BeginsChunk.line c)) rest old new (BeginsChunk.bytes_are c);
+}
+
+-- what came behind the chunks ends within one
+unread : (limit room : ℕ) (before at : BufferState) (old mid new : Option Tape) → (j : IsJoining limit room before at old mid) → Advances old mid
+    → HasGiven at mid new (λ bytes. FailsAt limit (length (IsJoining.b j)) bytes ChunkFault.cut) → HasGiven before old new (λ bytes. FailsChunks limit bytes ChunkFault.cut)
+unread limit room before at old mid new j a w =
+    given_then before at old mid new (λ bytes rest. HasJoined limit j.b bytes rest) (λ bytes. FailsAt limit (length j.b) bytes ChunkFault.cut) (λ bytes. FailsChunks limit bytes ChunkFault.cut) (joined_fronts limit j.b)
+    (λ bytes rest h f. record { chunks = h.0; behind = rest; before = h.1; fails = subst (λ l. FailsAt limit (length l) rest ChunkFault.cut) (sym h.2) f }) a j.told w
+
+pub line_fails : (limit room : ℕ) (before at now : BufferState) (old mid new : Option Tape) (fault : HttpFault) → IsJoining limit room before at old mid → Advances old mid → LineGives at now mid new (Err fault)
     → BodyGives limit Body.Chunked before now old new (Err fault)
-line_fails limit room before at now old mid new HttpFault.Cut j l =
+line_fails limit room before at now old mid new HttpFault.Cut j a l =
     fails limit room before at old mid new ChunkFault.cut j (told_map mid new _ (λ m n. FailsAt limit (length j.b) (coming at m) ChunkFault.cut) (λ m n o. inl o) l)
-line_fails limit room before at now old mid new HttpFault.BadChunk j l =
+line_fails limit room before at now old mid new HttpFault.BadChunk j a l =
     fails limit room before at old mid new ChunkFault.bad j (told_map mid new _ (λ m n. FailsAt limit (length j.b) (coming at m) ChunkFault.bad) (λ m n o. inl o) l)
-line_fails limit room before at now old mid new HttpFault.ReadFault j l = l
-line_fails limit room before at now old mid new HttpFault.BodyTooLong j l = absurd l
-line_fails limit room before at now old mid new HttpFault.BadHead j l = l
-line_fails limit room before at now old mid new HttpFault.HeadTooLong j l = l
-line_fails limit room before at now old mid new HttpFault.LengthRequired j l = l
-line_fails limit room before at now old mid new HttpFault.Coding j l = l
+line_fails limit room before at now old mid new HttpFault.ReadFault j a l =
+    unread limit room before at old mid new j a (told_map mid new _ (λ m n. (piece : List ℕ) × Passes piece m n × FailsAt limit (length j.b) (at.pending ++ piece) ChunkFault.cut) (λ m n g. (g.0, g.1, inl g.2)) l)
+line_fails limit room before at now old mid new HttpFault.BodyTooLong j a l = absurd l
+line_fails limit room before at now old mid new HttpFault.BadHead j a l = l
+line_fails limit room before at now old mid new HttpFault.HeadTooLong j a l = l
+line_fails limit room before at now old mid new HttpFault.LengthRequired j a l = l
+line_fails limit room before at now old mid new HttpFault.Coding j a l = l
 
 pub too_long : (limit room size : ℕ) (before at line : BufferState) (old mid new : Option Tape) → IsJoining limit room before at old mid → LineGives at line mid new (Ok size) → 0 < size → room < size
     → BodyGives limit Body.Chunked before line old new (Err HttpFault.BodyTooLong)
@@ -99,27 +121,31 @@ too_long limit room size before at line old mid new j l some more =
     (λ m n b. (size, coming line n, b, some, omega (arith, c, more))) l.1)
 
 pub data_fails : (limit room size : ℕ) (before at line now : BufferState) (old mid m2 new : Option Tape) (fault : HttpFault) → IsJoining limit room before at old mid
-    → LineGives at line mid m2 (Ok size) → 0 < size → size ≤ room → DataGives size line now m2 new (Err fault) → BodyGives limit Body.Chunked before now old new (Err fault)
-data_fails limit room size before at line now old mid m2 new HttpFault.Cut j l some fits d =
+    → Advances old mid → LineGives at line mid m2 (Ok size) → Advances mid m2 → 0 < size → size ≤ room → DataGives size line now m2 new (Err fault) → BodyGives limit Body.Chunked before now old new (Err fault)
+data_fails limit room size before at line now old mid m2 new HttpFault.Cut j a l v some fits d =
     let c = j.count in
     fails limit room before at old mid new ChunkFault.cut j
     (told_then mid m2 new (λ m k. BeginsChunk (coming at m) size (coming line k)) (λ k n. length (coming line k) < size + 2) (λ m n. FailsAt limit (length j.b) (coming at m) ChunkFault.cut)
     (λ m k n b e. inr (inr (size, coming line k, b, some, omega (arith, c, fits), e))) l.1 d)
-data_fails limit room size before at line now old mid m2 new HttpFault.BadChunk j l some fits d =
+data_fails limit room size before at line now old mid m2 new HttpFault.BadChunk j a l v some fits d =
     let c = j.count in
     fails limit room before at old mid new ChunkFault.bad j
     (told_then mid m2 new (λ m k. BeginsChunk (coming at m) size (coming line k)) _ (λ m n. FailsAt limit (length j.b) (coming at m) ChunkFault.bad)
     (λ m k n b e. inr (inr (size, coming line k, b, some, omega (arith, c, fits), e))) l.1 d)
-data_fails limit room size before at line now old mid m2 new HttpFault.ReadFault j l some fits d = d
-data_fails limit room size before at line now old mid m2 new HttpFault.BodyTooLong j l some fits d = absurd d
-data_fails limit room size before at line now old mid m2 new HttpFault.BadHead j l some fits d = d
-data_fails limit room size before at line now old mid m2 new HttpFault.HeadTooLong j l some fits d = d
-data_fails limit room size before at line now old mid m2 new HttpFault.LengthRequired j l some fits d = d
-data_fails limit room size before at line now old mid m2 new HttpFault.Coding j l some fits d = d
+data_fails limit room size before at line now old mid m2 new HttpFault.ReadFault j a l v some fits d =
+    let c = j.count in
+    unread limit room before at old mid new j a
+    (given_then at line mid m2 new (λ bytes rest. BeginsChunk bytes size rest) (λ bytes. length bytes < size + 2) (λ bytes. FailsAt limit (length j.b) bytes ChunkFault.cut) (line_fronts size)
+    (λ bytes rest b e. inr (inr (size, rest, b, some, omega (arith, c, fits), e))) v l.1 d)
+data_fails limit room size before at line now old mid m2 new HttpFault.BodyTooLong j a l v some fits d = absurd d
+data_fails limit room size before at line now old mid m2 new HttpFault.BadHead j a l v some fits d = d
+data_fails limit room size before at line now old mid m2 new HttpFault.HeadTooLong j a l v some fits d = d
+data_fails limit room size before at line now old mid m2 new HttpFault.LengthRequired j a l v some fits d = d
+data_fails limit room size before at line now old mid m2 new HttpFault.Coding j a l v some fits d = d
 
 pub trailer_ends : (limit room size : ℕ) (before at line now : BufferState) (old mid m2 new : Option Tape) (r : Result Unit HttpFault) → IsJoining limit room before at old mid
-    → LineGives at line mid m2 (Ok size) → size ≡ 0 → TrailerGives line now m2 new r → BodyGives limit Body.Chunked before now old new r
-trailer_ends limit room size before at line now old mid m2 new (Ok done) j l none t = (
+    → Advances old mid → LineGives at line mid m2 (Ok size) → Advances mid m2 → size ≡ 0 → TrailerGives line now m2 new r → BodyGives limit Body.Chunked before now old new r
+trailer_ends limit room size before at line now old mid m2 new (Ok done) j a l v none t = (
   j.b,
   t.0 ∙ l.0 ∙ j.kept,
   told_then old mid new (λ o m. HasJoined limit j.b (coming before o) (coming at m))
@@ -141,20 +167,23 @@ trailer_ends limit room size before at line now old mid m2 new (Ok done) j l non
       (λ m n. (behind : List ℕ) × BeginsChunk (coming at m) 0 behind × ((trailer : List ℕ) × IsTrailer trailer × (behind ≡ trailer ++ coming now n)))
       (λ m k n b e. (coming line k, subst (λ z. BeginsChunk (coming at m) z (coming line k)) none b, e)) l.1 t.1),
 )
-trailer_ends limit room size before at line now old mid m2 new (Err HttpFault.Cut) j l none t =
+trailer_ends limit room size before at line now old mid m2 new (Err HttpFault.Cut) j a l v none t =
     fails limit room before at old mid new ChunkFault.cut j
     (told_then mid m2 new (λ m k. BeginsChunk (coming at m) size (coming line k)) _ (λ m n. FailsAt limit (length j.b) (coming at m) ChunkFault.cut)
     (λ m k n b e. inr (inl (coming line k, subst (λ z. BeginsChunk (coming at m) z (coming line k)) none b, e))) l.1 t)
-trailer_ends limit room size before at line now old mid m2 new (Err HttpFault.BadChunk) j l none t =
+trailer_ends limit room size before at line now old mid m2 new (Err HttpFault.BadChunk) j a l v none t =
     fails limit room before at old mid new ChunkFault.bad j
     (told_then mid m2 new (λ m k. BeginsChunk (coming at m) size (coming line k)) _ (λ m n. FailsAt limit (length j.b) (coming at m) ChunkFault.bad)
     (λ m k n b e. inr (inl (coming line k, subst (λ z. BeginsChunk (coming at m) z (coming line k)) none b, e))) l.1 t)
-trailer_ends limit room size before at line now old mid m2 new (Err HttpFault.ReadFault) j l none t = t
-trailer_ends limit room size before at line now old mid m2 new (Err HttpFault.BodyTooLong) j l none t = absurd t
-trailer_ends limit room size before at line now old mid m2 new (Err HttpFault.BadHead) j l none t = t
-trailer_ends limit room size before at line now old mid m2 new (Err HttpFault.HeadTooLong) j l none t = t
-trailer_ends limit room size before at line now old mid m2 new (Err HttpFault.LengthRequired) j l none t = t
-trailer_ends limit room size before at line now old mid m2 new (Err HttpFault.Coding) j l none t = t
+trailer_ends limit room size before at line now old mid m2 new (Err HttpFault.ReadFault) j a l v none t =
+    unread limit room before at old mid new j a
+    (given_then at line mid m2 new (λ bytes rest. BeginsChunk bytes size rest) IsOpenTrailer (λ bytes. FailsAt limit (length j.b) bytes ChunkFault.cut) (line_fronts size)
+    (λ bytes rest b e. inr (inl (rest, subst (λ z. BeginsChunk bytes z rest) none b, e))) v l.1 t)
+trailer_ends limit room size before at line now old mid m2 new (Err HttpFault.BodyTooLong) j a l v none t = absurd t
+trailer_ends limit room size before at line now old mid m2 new (Err HttpFault.BadHead) j a l v none t = t
+trailer_ends limit room size before at line now old mid m2 new (Err HttpFault.HeadTooLong) j a l v none t = t
+trailer_ends limit room size before at line now old mid m2 new (Err HttpFault.LengthRequired) j a l v none t = t
+trailer_ends limit room size before at line now old mid m2 new (Err HttpFault.Coding) j a l v none t = t
 
 -- the count stood before the step that failed
 pub reads_fault : (T U : Type 0) (a b c : ℕ) (fault : HttpFault) → b ≡ a → ReadsBy {T = T} b c (Err fault) → ReadsBy {T = U} a c (Err fault)

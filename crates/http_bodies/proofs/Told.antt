@@ -1,8 +1,9 @@
 -- Relations of what a source told, one step after another.
-use Rattle.std.proofs.Common.{◌≡◌, ℕ, List, [], ◌++◌, Option, Some, None, refl, sym, ap, ◌∙◌, append_assoc, append-nil}
+use Rattle.std.proofs.Common.{◌≡◌, ℕ, List, [], ◌++◌, Option, Some, None, refl, sym, ap, subst, ◌∙◌, append_assoc, append-nil}
+use Rattle.std.proofs.lemmas.List.{append_cancel_right}
 use Rattle.adx_io.specs.Streams.{Tape, WhereTold}
 use Rattle.http_buffer.specs.State.{BufferState, Passes, Takes, IsAtEnd}
-use Rattle.http_bodies.specs.Steps.{Advances, coming}
+use Rattle.http_bodies.specs.Steps.{Advances, HasGiven, coming}
 
 pub told_map : {T : Type 0} (old new : Option T) (P Q : T → T → Type 0) → ((o n : T) → P o n → Q o n) → WhereTold old new P → WhereTold old new Q
 told_map None new P Q f w = w
@@ -48,3 +49,39 @@ advances_both a b c v w =
 
 pub advances_none : (a : Option Tape) → Advances a a
 advances_none a = told_same a (λ o n. (piece : List ℕ) × Passes piece o n) (λ t. ([], record { taken = sym (append-nil t.taken); left = refl }))
+
+-- what holds of the pending bytes holds of those that were pending before with those that were given
+pub given : (before mid : BufferState) (old new : Option Tape) (P : List ℕ → Type 0) → Takes before mid old new → P mid.pending → HasGiven before old new P
+given before mid old new P t p =
+    told_map old new (Passes t.piece) (λ o n. (piece : List ℕ) × Passes piece o n × P (before.pending ++ piece)) (λ o n x. (t.piece, x, subst P t.pending p)) t.told
+
+-- it holds of the bytes and the rest, whatever follows them
+abbrev pub IsOfFronts : (List ℕ → List ℕ → Type 0) → Type 0
+IsOfFronts R = (bytes rest old new : List ℕ) → R (bytes ++ old) (rest ++ old) → R (bytes ++ new) (rest ++ new)
+
+-- a front is what it was, whatever follows the rest
+pub front_is : (bytes front rest old new : List ℕ) → bytes ++ old ≡ front ++ (rest ++ old) → bytes ++ new ≡ front ++ (rest ++ new)
+front_is bytes front rest old new e =
+    let same : bytes ≡ front ++ rest = append_cancel_right bytes (front ++ rest) old (e ∙ sym (append_assoc front rest old)) in
+    ap (λ l. l ++ new) same ∙ append_assoc front rest new
+
+-- what was given behind a step
+pub given_then : (before mid : BufferState) (old m new : Option Tape) (R : List ℕ → List ℕ → Type 0) (P Q : List ℕ → Type 0) → IsOfFronts R → ((bytes rest : List ℕ) → R bytes rest → P rest → Q bytes)
+    → Advances old m → WhereTold old m (λ o k. R (coming before o) (coming mid k)) → HasGiven mid m new P → HasGiven before old new Q
+given_then before mid None None new R P Q f g a r w = w
+given_then before mid None (Some k) new R P Q f g a r w = absurd (cc)
+given_then before mid (Some o) None new R P Q f g a r w = absurd a
+given_then before mid (Some o) (Some k) None R P Q f g a r w = absurd w
+given_then before mid (Some o) (Some k) (Some n) R P Q f g a r w =
+    let front = before.pending ++ a.0 in
+    let all : before.pending ++ o.left ≡ front ++ k.left = ap (λ l. before.pending ++ l) (Passes.left a.1) ∙ sym (append_assoc before.pending a.0 k.left) in
+    let step : R (front ++ w.0) (mid.pending ++ w.0) = f front mid.pending k.left w.0 (subst (λ l. R l (mid.pending ++ k.left)) all r) in
+    (a.0 ++ w.0, passes_both a.0 w.0 o k n a.1 w.1, subst Q (append_assoc before.pending a.0 w.0) (g (front ++ w.0) (mid.pending ++ w.0) step w.2))
+
+same_fronts : IsOfFronts (λ bytes rest. bytes ≡ rest)
+same_fronts = λ bytes rest old new e. ap (λ l. l ++ new) (append_cancel_right bytes rest old e)
+
+-- what was given where some bytes were taken before
+pub given_carried : (start mid : BufferState) (old m new : Option Tape) (P : List ℕ → Type 0) → Takes start mid old m → HasGiven mid m new P → HasGiven start old new P
+given_carried start mid old m new P t w =
+    given_then start mid old m new (λ bytes rest. bytes ≡ rest) P P same_fronts (λ bytes rest e p. subst P (sym e) p) (advances start mid old m t) (flow start mid old m t) w

@@ -1,7 +1,7 @@
 -- The lines of a trailer.
-use Rattle.std.proofs.Common.{◌≡◌, ◌≢◌, ℕ, ◌+◌, ◌-◌, ◌<◌, ◌≤◌, List, [], ◌∷◌, ◌++◌, length, take, drop, All, Bool, true, false, Option, refl, sym, ap, subst, ◌∙◌, append_assoc, append-nil, arith, length-append, length-drop, inl, inr}
+use Rattle.std.proofs.Common.{◌≡◌, ℕ, ◌+◌, ◌-◌, ◌<◌, ◌≤◌, List, [], ◌∷◌, ◌++◌, length, take, drop, All, Bool, true, false, Option, refl, sym, ap, subst, ◌∙◌, append_assoc, append-nil, arith, length-append, inl, inr}
 use Rattle.std.specs.List.{flat_map}
-use Rattle.std.proofs.lemmas.List.{take-append-drop, length-take-le, take_at, drop_at, drop-append-le, flat_map_more}
+use Rattle.std.proofs.lemmas.List.{take_at, drop_at, drop-append-le, flat_map_more}
 use Rattle.std.proofs.lemmas.List.Elements.{All-append, All-nil, All-cons, All-head, All-tail}
 use Rattle.adx_io.specs.Streams.{Tape, WhereTold}
 use Rattle.http_buffer.specs.State.{BufferState, Takes, IsAtEnd}
@@ -10,7 +10,7 @@ use Rattle.http_buffer.specs.HeadEnds.{is_empty_line, IsFull}
 use Rattle.http_buffer.specs.declared.head.TheConstants.{HEAD_LIMIT}
 use Rattle.http_buffer.proofs.Ranges.{part_is}
 use Rattle.http_buffer.proofs.HeadWalk.{among, empty_is_line, fulls_are_lines}
-use Rattle.http_bodies.specs.Chunks.{IsTrailer, HasNoTrailer, IsBadTrailer, IsOpenTrailer}
+use Rattle.http_bodies.specs.Chunks.{IsTrailer, IsBadTrailer, IsOpenTrailer}
 use Rattle.http_bodies.specs.declared.chunks.TheConstants.{LINE_COUNT_LIMIT}
 use Rattle.http_bodies.specs.Steps.{coming}
 use Rattle.http_bodies.proofs.Told.{told_map, told_end, flow}

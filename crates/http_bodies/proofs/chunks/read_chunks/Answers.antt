@@ -7,16 +7,16 @@ use Rattle.http_bodies.proofs.chunks.read_chunks.Goals as goal
 pub returns-then-size-eq0-clause-gives : goal.returns-then-size-eq0-clause-gives
 returns-then-size-eq0-clause-gives g c =
     trailer_ends c.args.limit c.chunks.room c.in-Ok.size c.args.buffer.now c.chunks.buffer c.read_chunk_line.new.buffer c.read_trailer.new.buffer _ _ _ _ c.read_trailer.result
-    c.chunks.invariant.joining c.in-Ok.ensures.gives c.if-size-eq0.true c.read_trailer.ensures.gives
+    c.chunks.invariant.joining c.chunks.invariant.advances c.in-Ok.ensures.gives c.in-Ok.ensures.advances c.if-size-eq0.true c.read_trailer.ensures.gives
 
 pub returns-in-Err-read_chunk_data-clause-gives : goal.returns-in-Err-read_chunk_data-clause-gives
 returns-in-Err-read_chunk_data-clause-gives g c =
     data_fails c.args.limit c.chunks.room c.in-Ok.size c.args.buffer.now c.chunks.buffer c.read_chunk_line.new.buffer c.read_chunk_data.new.buffer _ _ _ _ c.in-Err-read_chunk_data.cause
-    c.chunks.invariant.joining c.in-Ok.ensures.gives (omega (arith, c.if-size-eq0.false)) (omega (arith, c.if-size-room.false)) c.in-Err-read_chunk_data.ensures.gives
+    c.chunks.invariant.joining c.chunks.invariant.advances c.in-Ok.ensures.gives c.in-Ok.ensures.advances (omega (arith, c.if-size-eq0.false)) (omega (arith, c.if-size-room.false)) c.in-Err-read_chunk_data.ensures.gives
 
 pub returns-in-Err-clause-gives : goal.returns-in-Err-clause-gives
 returns-in-Err-clause-gives g c =
-    line_fails c.args.limit c.chunks.room c.args.buffer.now c.chunks.buffer c.read_chunk_line.new.buffer _ _ _ c.in-Err.fault c.chunks.invariant.joining c.in-Err.ensures.gives
+    line_fails c.args.limit c.chunks.room c.args.buffer.now c.chunks.buffer c.read_chunk_line.new.buffer _ _ _ c.in-Err.fault c.chunks.invariant.joining c.chunks.invariant.advances c.in-Err.ensures.gives
 
 pub chunks-preserved : goal.chunks-preserved
 chunks-preserved g c =

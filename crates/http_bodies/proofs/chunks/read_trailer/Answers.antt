@@ -1,9 +1,11 @@
 -- The lines that were read are a trailer, or the front of one.
-use Rattle.std.proofs.Common.{Ok, ap, ◌∙◌, arith}
+use Rattle.std.proofs.Common.{Ok, Some, refl, ap, subst, ◌∙◌, append-nil, arith}
 use Rattle.http_buffer.specs.Lines.{EndsAt}
 use Rattle.http_buffer.specs.declared.head.TheConstants.{HEAD_LIMIT}
 use Rattle.http_buffer.proofs.Taking.{takes_both}
-use Rattle.http_bodies.proofs.Told.{advances}
+use Rattle.http_bodies.specs.Chunks.{IsOpenTrailer}
+use Rattle.http_bodies.proofs.Told.{advances, given}
+use Rattle.http_bodies.proofs.AtHand.{held, spent, still}
 use Rattle.http_bodies.proofs.Trailers.{run_grows, run_line, line_is, trailer_found, trailer_many, trailer_long, trailer_open}
 use Rattle.http_bodies.proofs.chunks.read_trailer.Goals as goal
 
@@ -69,3 +71,13 @@ returns-in-Ok-Open-clause-gives g c =
     let all = takes_both c.args.buffer.now c.lines.buffer c.line_end.new.buffer _ _ _ i.takes t in
     let s = run_grows c.lines.at c.lines.lines c.lines.buffer.pending p t.piece i.run t.pending in
     trailer_open c.lines.at c.lines.lines c.args.buffer.now c.line_end.new.buffer _ _ all s i.few (rw c.in-Ok-Open.field-0-is at c.in-Ok-Open.ensures.found) (c.in-Ok-Open.ensures.ended (ap Ok c.in-Ok-Open.field-0-is))
+
+pub returns-in-Err-clause-gives : goal.returns-in-Err-clause-gives
+returns-in-Err-clause-gives g c =
+    let i = c.lines.invariant in
+    let t = c.in-Err.ensures.takes in
+    let p = c.line_end.new.buffer.pending in
+    let all = takes_both c.args.buffer.now c.lines.buffer c.line_end.new.buffer _ _ _ i.takes t in
+    let s = run_grows c.lines.at c.lines.lines c.lines.buffer.pending p t.piece i.run t.pending in
+    given c.args.buffer.now c.line_end.new.buffer _ _ IsOpenTrailer all
+    (subst IsOpenTrailer (append-nil p) (trailer_open c.lines.at c.lines.lines (held p) (held p) (Some spent) (Some spent) (still p) s i.few c.in-Err.ensures.unread refl))
