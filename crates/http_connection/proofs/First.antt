@@ -14,7 +14,7 @@ use Rattle.http_grammar.specs.declared.parts.FirstRequest.{FirstRequest}
 use Rattle.http_grammar.specs.declared.parts.RequestParts.{RequestParts}
 use Rattle.http_bodies.specs.declared.chunks.TheConstants.{LINE_COUNT_LIMIT}
 use Rattle.http_bodies.specs.Steps.{ReadsBy}
-use Rattle.http_connection.specs.Messages.{RefusesRequest}
+use Rattle.http_connection.specs.Messages.{RefusesRequest, IsUnfinishedRequest}
 use Rattle.http_connection.specs.Found.{HasHead, HasRequestHead, FaultGives}
 use Rattle.http_connection.proofs.Printed.{request_ends, request_front}
 use Rattle.http_connection.proofs.Requests.{head_refused}
@@ -76,7 +76,7 @@ first_fails limit bytes first fault b is =
     inr (h, first_reads limit bytes first b, subst (grammar.Judges limit bytes h) is (grammar.BeginsWithRequest.judges b))
 
 pub first_refused : (limit : ℕ) (start : BufferState) (old : Option Tape) (first : FirstRequest) (fault : HttpFault) → grammar.BeginsWithRequest LINE_COUNT_LIMIT limit start.pending first → first.len ≤ HEAD_LIMIT
-    → first.parts ≡ Err fault → FaultGives RefusesRequest limit start old old fault
+    → first.parts ≡ Err fault → FaultGives RefusesRequest IsUnfinishedRequest limit start old old fault
 first_refused limit start old first fault b least is =
     head_refused limit first.len start old fault (first_has limit start.pending first b least) (first_fails limit start.pending first fault b is)
 

@@ -11,7 +11,7 @@ use Rattle.http_bodies.specs.Steps.{coming}
 use Rattle.http_connection.specs.declared.conn.TheConstants.{PIECE}
 use Rattle.http_connection.specs.Messages.{FailsWithoutHead}
 use Rattle.http_connection.specs.Found.{HasHead, FaultGives}
-use Rattle.http_bodies.proofs.Told.{told_map, told_then, told_end, flow}
+use Rattle.http_bodies.proofs.Told.{told_map, told_then, told_end, flow, given_carried}
 use Rattle.http_bodies.proofs.BodyParts.{keeping, parts_of}
 
 -- what begins the bytes at hand begins all that come
@@ -49,16 +49,16 @@ kept_parts start now end b none within is =
     (ap (take end) all ∙ take_at head b end long, ap (drop end) all ∙ drop_at head b end long, omega (arith, size, long, length-append head b))
 
 -- a refusal, whatever the fault
-pub refused : (refuses : ℕ → List ℕ → HttpFault → Type 0) (limit : ℕ) (before : BufferState) (old new : Option Tape) (fault : HttpFault) → WhereTold old new (λ o n. refuses limit (coming before o) fault)
-    → FaultGives refuses limit before old new fault
-refused refuses limit before old new HttpFault.ReadFault w = tt
-refused refuses limit before old new HttpFault.BadHead w = w
-refused refuses limit before old new HttpFault.HeadTooLong w = w
-refused refuses limit before old new HttpFault.LengthRequired w = w
-refused refuses limit before old new HttpFault.BodyTooLong w = w
-refused refuses limit before old new HttpFault.BadChunk w = w
-refused refuses limit before old new HttpFault.Cut w = w
-refused refuses limit before old new HttpFault.Coding w = w
+pub refused : (refuses : ℕ → List ℕ → HttpFault → Type 0) (unfinished : ℕ → List ℕ → Type 0) (limit : ℕ) (before : BufferState) (old new : Option Tape) (fault : HttpFault) → WhereTold old new (λ o n. refuses limit (coming before o) fault)
+    → (fault ≡ HttpFault.ReadFault → ⊥) → FaultGives refuses unfinished limit before old new fault
+refused refuses unfinished limit before old new HttpFault.ReadFault w other = absurd (other refl)
+refused refuses unfinished limit before old new HttpFault.BadHead w other = w
+refused refuses unfinished limit before old new HttpFault.HeadTooLong w other = w
+refused refuses unfinished limit before old new HttpFault.LengthRequired w other = w
+refused refuses unfinished limit before old new HttpFault.BodyTooLong w other = w
+refused refuses unfinished limit before old new HttpFault.BadChunk w other = w
+refused refuses unfinished limit before old new HttpFault.Cut w other = w
+refused refuses unfinished limit before old new HttpFault.Coding w other = w
 
 -- what is refused of all bytes that come stays refused where some of them were still to be taken
 carried : (refuses : ℕ → List ℕ → HttpFault → Type 0) (limit : ℕ) (start mid : BufferState) (old m new : Option Tape) (fault : HttpFault) → Takes start mid old m
@@ -67,16 +67,16 @@ carried refuses limit start mid old m new fault t w =
     told_then old m new (λ o k. coming start o ≡ coming mid k) (λ k n. refuses limit (coming mid k) fault) (λ o n. refuses limit (coming start o) fault)
     (λ o k n e r. subst (λ (bytes : List ℕ). refuses limit bytes fault) (sym e) r) (flow start mid old m t) w
 
-pub fault_carried : (refuses : ℕ → List ℕ → HttpFault → Type 0) (limit : ℕ) (start mid : BufferState) (old m new : Option Tape) (fault : HttpFault) → Takes start mid old m
-    → FaultGives refuses limit mid m new fault → FaultGives refuses limit start old new fault
-fault_carried refuses limit start mid old m new HttpFault.ReadFault t w = tt
-fault_carried refuses limit start mid old m new HttpFault.BadHead t w = carried refuses limit start mid old m new HttpFault.BadHead t w
-fault_carried refuses limit start mid old m new HttpFault.HeadTooLong t w = carried refuses limit start mid old m new HttpFault.HeadTooLong t w
-fault_carried refuses limit start mid old m new HttpFault.LengthRequired t w = carried refuses limit start mid old m new HttpFault.LengthRequired t w
-fault_carried refuses limit start mid old m new HttpFault.BodyTooLong t w = carried refuses limit start mid old m new HttpFault.BodyTooLong t w
-fault_carried refuses limit start mid old m new HttpFault.BadChunk t w = carried refuses limit start mid old m new HttpFault.BadChunk t w
-fault_carried refuses limit start mid old m new HttpFault.Cut t w = carried refuses limit start mid old m new HttpFault.Cut t w
-fault_carried refuses limit start mid old m new HttpFault.Coding t w = carried refuses limit start mid old m new HttpFault.Coding t w
+pub fault_carried : (refuses : ℕ → List ℕ → HttpFault → Type 0) (unfinished : ℕ → List ℕ → Type 0) (limit : ℕ) (start mid : BufferState) (old m new : Option Tape) (fault : HttpFault) → Takes start mid old m
+    → FaultGives refuses unfinished limit mid m new fault → FaultGives refuses unfinished limit start old new fault
+fault_carried refuses unfinished limit start mid old m new HttpFault.ReadFault t w = given_carried start mid old m new (unfinished limit) t w
+fault_carried refuses unfinished limit start mid old m new HttpFault.BadHead t w = carried refuses limit start mid old m new HttpFault.BadHead t w
+fault_carried refuses unfinished limit start mid old m new HttpFault.HeadTooLong t w = carried refuses limit start mid old m new HttpFault.HeadTooLong t w
+fault_carried refuses unfinished limit start mid old m new HttpFault.LengthRequired t w = carried refuses limit start mid old m new HttpFault.LengthRequired t w
+fault_carried refuses unfinished limit start mid old m new HttpFault.BodyTooLong t w = carried refuses limit start mid old m new HttpFault.BodyTooLong t w
+fault_carried refuses unfinished limit start mid old m new HttpFault.BadChunk t w = carried refuses limit start mid old m new HttpFault.BadChunk t w
+fault_carried refuses unfinished limit start mid old m new HttpFault.Cut t w = carried refuses limit start mid old m new HttpFault.Cut t w
+fault_carried refuses unfinished limit start mid old m new HttpFault.Coding t w = carried refuses limit start mid old m new HttpFault.Coding t w
 
 -- so many bytes hold no head, whatever follows
 pub never_head : (start mid : BufferState) (old new : Option Tape) → Takes start mid old new → NeverHasHead mid.pending

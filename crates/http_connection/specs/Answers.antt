@@ -6,7 +6,7 @@ use Rattle.http_grammar.specs.declared.fault.HttpFault.{HttpFault}
 use Rattle.httparse.specs.Grammar.{status_code}
 use Rattle.http_connection.specs.State.{ConnState}
 use Rattle.http_bodies.specs.Steps.{Advances}
-use Rattle.http_connection.specs.Messages.{Request, IsRequestThen, RefusesRequest, ResponseRead, IsResponseThen, RefusesResponse}
+use Rattle.http_connection.specs.Messages.{Request, IsRequestThen, RefusesRequest, IsUnfinishedRequest, ResponseRead, IsResponseThen, RefusesResponse, IsUnfinishedResponse}
 use Rattle.http_connection.specs.declared.conn.Message.{Message}
 use Rattle.http_connection.specs.declared.conn.Response.{Response}
 
@@ -25,12 +25,14 @@ GivesMessage limit bytes (Err HttpFault.ReadFault) rest = ⊤
 GivesMessage limit bytes (Err fault) rest = RefusesRequest limit bytes fault
 
 -- After a fault the answer is `Cut`, and nothing changes. Else the answer is a function of the bytes held and those that
--- the source has left, where it tells them.
+-- the source has left, where it tells them. Where the source fails, the bytes held and those that it gave are unfinished:
+-- no whole message stands in them, and none that is refused.
 pub record AnswersMessage (before now : ConnState) (old new : Option Tape) (result : Result (Option Message) HttpFault) : Type 0 where
   pub limit : now.limit ≡ before.limit
   pub failed : before.failed ≡ true → (result ≡ Err HttpFault.Cut) × (now ≡ before) × (new ≡ old)
   pub sound : before.failed ≡ false → now.failed ≡ is_err result
   pub told : before.failed ≡ false → WhereTold old new (λ o n. GivesMessage before.limit (before.held ++ o.left) result (now.held ++ n.left))
+  pub unread : result ≡ Err HttpFault.ReadFault → WhereTold old new (λ o n. (given : List ℕ) × (o.left ≡ given ++ n.left) × IsUnfinishedRequest before.limit (before.held ++ given))
   pub advances : Advances old new
 
 pub record ShowsResponse (m : Response) (r : ResponseRead) : Type 0 where
@@ -47,4 +49,5 @@ pub record AnswersResponse (before now : ConnState) (old new : Option Tape) (res
   pub failed : before.failed ≡ true → (result ≡ Err HttpFault.Cut) × (now ≡ before) × (new ≡ old)
   pub sound : before.failed ≡ false → now.failed ≡ is_err result
   pub told : before.failed ≡ false → WhereTold old new (λ o n. GivesResponse before.limit (before.held ++ o.left) result (now.held ++ n.left))
+  pub unread : result ≡ Err HttpFault.ReadFault → WhereTold old new (λ o n. (given : List ℕ) × (o.left ≡ given ++ n.left) × IsUnfinishedResponse before.limit (before.held ++ given))
   pub advances : Advances old new

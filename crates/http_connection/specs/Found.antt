@@ -1,5 +1,5 @@
 -- What was found of a message before it is lent; private clauses alone cite this file.
-use Rattle.std.specs.Prelude.{◌≡◌, ◌⊎◌, ℕ, ◌<◌, ◌≤◌, List, [], length, take, drop, Option, Some, None, Result, Ok, Err, ⊤}
+use Rattle.std.specs.Prelude.{◌≡◌, ◌⊎◌, ℕ, ◌<◌, ◌≤◌, List, [], length, take, drop, Option, Some, None, Result, Ok, Err}
 use Rattle.adx_io.specs.Streams.{Tape, WhereTold}
 use Rattle.httparse.specs.Spans.{span_bytes}
 use Rattle.httparse.specs.Grammar.{status_code}
@@ -9,8 +9,8 @@ use Rattle.http_grammar.specs.declared.parts.RequestParts.{RequestParts}
 use Rattle.http_grammar.specs.declared.fault.HttpFault.{HttpFault}
 use Rattle.http_buffer.specs.HeadEnds.{HeadEndsAt, NeverHasHead, HasNoHeadYet}
 use Rattle.http_bodies.specs.declared.chunks.TheConstants.{LINE_COUNT_LIMIT}
-use Rattle.http_bodies.specs.Steps.{coming}
-use Rattle.http_connection.specs.Messages.{Request, IsRequestThen, RefusesRequest, ResponseRead, IsResponseThen, RefusesResponse}
+use Rattle.http_bodies.specs.Steps.{HasGiven, coming}
+use Rattle.http_connection.specs.Messages.{Request, IsRequestThen, RefusesRequest, IsUnfinishedRequest, ResponseRead, IsResponseThen, RefusesResponse, IsUnfinishedResponse}
 use Rattle.http_connection.specs.declared.conn.Found.{Found}
 
 -- the bytes begin with a head that is so long, whose lines are few
@@ -25,7 +25,7 @@ HeadGives bytes (Ok (Some end)) = HasHead bytes end
 HeadGives bytes (Ok None) = bytes ≡ []
 HeadGives bytes (Err HttpFault.HeadTooLong) = NeverHasHead bytes ⊎ ((end lines : ℕ) × HeadEndsAt bytes end lines × (LINE_COUNT_LIMIT < lines))
 HeadGives bytes (Err HttpFault.Cut) = HasNoHeadYet bytes × (0 < length bytes)
-HeadGives bytes (Err HttpFault.ReadFault) = ⊤
+HeadGives bytes (Err HttpFault.ReadFault) = HasNoHeadYet bytes
 HeadGives bytes (Err HttpFault.BadHead) = ⊥
 HeadGives bytes (Err HttpFault.LengthRequired) = ⊥
 HeadGives bytes (Err HttpFault.BodyTooLong) = ⊥
@@ -50,21 +50,22 @@ pub record IsWithin (f : Found) (kept : List ℕ) : Type 0 where
   pub start : f.target.start ≤ f.target.end
   pub end : f.target.end ≤ f.head
 
-abbrev pub FaultGives : (ℕ → List ℕ → HttpFault → Type 0) → ℕ → BufferState → Option Tape → Option Tape → HttpFault → Type 0
-FaultGives refuses limit before old new HttpFault.ReadFault = ⊤
-FaultGives refuses limit before old new HttpFault.BadHead = WhereTold old new (λ o n. refuses limit (coming before o) HttpFault.BadHead)
-FaultGives refuses limit before old new HttpFault.HeadTooLong = WhereTold old new (λ o n. refuses limit (coming before o) HttpFault.HeadTooLong)
-FaultGives refuses limit before old new HttpFault.LengthRequired = WhereTold old new (λ o n. refuses limit (coming before o) HttpFault.LengthRequired)
-FaultGives refuses limit before old new HttpFault.BodyTooLong = WhereTold old new (λ o n. refuses limit (coming before o) HttpFault.BodyTooLong)
-FaultGives refuses limit before old new HttpFault.BadChunk = WhereTold old new (λ o n. refuses limit (coming before o) HttpFault.BadChunk)
-FaultGives refuses limit before old new HttpFault.Cut = WhereTold old new (λ o n. refuses limit (coming before o) HttpFault.Cut)
-FaultGives refuses limit before old new HttpFault.Coding = WhereTold old new (λ o n. refuses limit (coming before o) HttpFault.Coding)
+-- what is wrong holds of all bytes that come; where the source fails, what came is unfinished
+abbrev pub FaultGives : (ℕ → List ℕ → HttpFault → Type 0) → (ℕ → List ℕ → Type 0) → ℕ → BufferState → Option Tape → Option Tape → HttpFault → Type 0
+FaultGives refuses unfinished limit before old new HttpFault.ReadFault = HasGiven before old new (unfinished limit)
+FaultGives refuses unfinished limit before old new HttpFault.BadHead = WhereTold old new (λ o n. refuses limit (coming before o) HttpFault.BadHead)
+FaultGives refuses unfinished limit before old new HttpFault.HeadTooLong = WhereTold old new (λ o n. refuses limit (coming before o) HttpFault.HeadTooLong)
+FaultGives refuses unfinished limit before old new HttpFault.LengthRequired = WhereTold old new (λ o n. refuses limit (coming before o) HttpFault.LengthRequired)
+FaultGives refuses unfinished limit before old new HttpFault.BodyTooLong = WhereTold old new (λ o n. refuses limit (coming before o) HttpFault.BodyTooLong)
+FaultGives refuses unfinished limit before old new HttpFault.BadChunk = WhereTold old new (λ o n. refuses limit (coming before o) HttpFault.BadChunk)
+FaultGives refuses unfinished limit before old new HttpFault.Cut = WhereTold old new (λ o n. refuses limit (coming before o) HttpFault.Cut)
+FaultGives refuses unfinished limit before old new HttpFault.Coding = WhereTold old new (λ o n. refuses limit (coming before o) HttpFault.Coding)
 
 abbrev pub RequestGives : ℕ → BufferState → BufferState → Option Tape → Option Tape → Result (Option Found) HttpFault → Type 0
 RequestGives limit before now old new (Ok (Some f)) =
     IsWithin f now.kept × WhereTold old new (λ o n. (r : Request) × IsRequestThen limit (coming before o) r (coming now n) × FoundShows f now.kept r)
 RequestGives limit before now old new (Ok None) = WhereTold old new (λ o n. (coming before o ≡ []) × (coming now n ≡ []))
-RequestGives limit before now old new (Err fault) = FaultGives RefusesRequest limit before old new fault
+RequestGives limit before now old new (Err fault) = FaultGives RefusesRequest IsUnfinishedRequest limit before old new fault
 
 -- a status, and a response in what is kept, whose head is so long
 pub record StatusShows (status head : ℕ) (kept : List ℕ) (r : ResponseRead) : Type 0 where
@@ -74,4 +75,4 @@ pub record StatusShows (status head : ℕ) (kept : List ℕ) (r : ResponseRead) 
 abbrev pub ResponseGives : ℕ → BufferState → BufferState → Option Tape → Option Tape → Result (ℕ × ℕ) HttpFault → Type 0
 ResponseGives limit before now old new (Ok f) =
     (f.1 ≤ length now.kept) × WhereTold old new (λ o n. (r : ResponseRead) × IsResponseThen limit (coming before o) r (coming now n) × StatusShows f.0 f.1 now.kept r)
-ResponseGives limit before now old new (Err fault) = FaultGives RefusesResponse limit before old new fault
+ResponseGives limit before now old new (Err fault) = FaultGives RefusesResponse IsUnfinishedResponse limit before old new fault

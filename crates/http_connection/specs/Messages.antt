@@ -10,6 +10,7 @@ use Rattle.http_grammar.specs.declared.framing.Framing.{Framing}
 use Rattle.http_grammar.specs.declared.fault.HttpFault.{HttpFault}
 use Rattle.http_bodies.specs.declared.chunks.TheConstants.{LINE_COUNT_LIMIT}
 use Rattle.http_bodies.specs.BodyForms.{body_of_request, body_of_response, IsBodyThen, FailsBody}
+use Rattle.http_bodies.specs.declared.bodies.Body.{Body}
 
 -- no head ends in the bytes: they are too long for one, or cut
 abbrev pub FailsWithoutHead : List ℕ → HttpFault → Type 0
@@ -49,6 +50,10 @@ RefusesRequest limit bytes fault =
     FailsWithoutHead bytes fault
     ⊎ ((head behind : List ℕ) × (begins : BeginsWithHead bytes head behind) × FailsRequestAt limit (length begins.lines) head behind fault)
 
+-- no byte, or the front of a request: the bytes would be cut if none followed
+abbrev pub IsUnfinishedRequest : ℕ → List ℕ → Type 0
+IsUnfinishedRequest limit bytes = (bytes ≡ []) ⊎ RefusesRequest limit bytes HttpFault.Cut
+
 -- a response's head and its body
 pub record ResponseRead : Type 0 where
   pub head : ResponseHead
@@ -79,6 +84,12 @@ RefusesResponse limit bytes fault =
     FailsWithoutHead bytes fault
     ⊎ (((head behind : List ℕ) × (begins : BeginsWithHead bytes head behind) × FailsResponseAt limit (length begins.lines) head behind fault)
     ⊎ ((bytes ≡ []) × (fault ≡ HttpFault.Cut)))
+
+-- the front of a response: the bytes would be cut if none followed, or be a response whose body goes to their end
+abbrev pub IsUnfinishedResponse : ℕ → List ℕ → Type 0
+IsUnfinishedResponse limit bytes =
+    RefusesResponse limit bytes HttpFault.Cut
+    ⊎ ((m : ResponseRead) × (all : IsResponseThen limit bytes m []) × (body_of_response (IsResponseThen.framing all) ≡ Body.ToEnd))
 
 -- the bytes are these requests one after the other, and then the rest
 abbrev pub AreRequests : ℕ → List ℕ → List Request → List ℕ → Type 0

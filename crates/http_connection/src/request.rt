@@ -1,5 +1,5 @@
 //! The steps of a request: its head, what the head says, its body.
-ghost use Rattle.std.specs.Prelude.{◌≡◌, ◌≤◌, ◌<◌, ◌+◌, ◌*◌, [], length, Ok, false};
+ghost use Rattle.std.specs.Prelude.{◌≡◌, ◌≤◌, ◌<◌, ◌+◌, ◌*◌, [], length, OnErr, Ok, false};
 ghost use Rattle.adx_io.specs.Streams.{HasCause};
 ghost use Rattle.http_buffer.specs.State.{Takes, IsAtEnd};
 ghost use Rattle.http_bodies.specs.Steps.{Advances, ReadsBy};
@@ -127,6 +127,7 @@ fn some_pending<S: Source>(buffer: &mut Buffer, source: &mut S) -> Result<bool, 
     ensures takes { Takes buffer.old buffer.new (S.tape source.old) (S.tape source.new) }
     ensures none { result ≡ Ok false → buffer.new.pending ≡ [] }
     ensures ended { result ≡ Ok false → IsAtEnd (S.tape source.new) }
+    ensures unread { OnErr result (buffer.new.pending ≡ []) }
     ensures cause { HasCause (S.faults source.old) (S.faults source.new) result }
     ensures same { S.place source.new ≡ S.place source.old }
 {
