@@ -1,5 +1,4 @@
 pub mod Pages
-pub mod Bodies
 pub mod Offers
 pub mod Told
 pub mod Notices

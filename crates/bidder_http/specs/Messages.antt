@@ -8,7 +8,7 @@ use Rattle.http_connection.specs.Messages.{Request}
 use Rattle.http_grammar.specs.Requests.{verb_of_method}
 use Rattle.http_grammar.specs.declared.verb.Verb.{Verb}
 use Rattle.http_service.specs.declared.answer.Answer.{Answer}
-use Rattle.bidder_http.specs.Bodies.{disallowed, plain, refused_body}
+use Rattle.http_service.specs.Bodies.{disallowed, plain, refused_body}
 use Rattle.bidder_http.specs.Books.{books_text, ledger_text}
 use Rattle.bidder_http.specs.Notices.{AnswersNotice}
 use Rattle.bidder_http.specs.Offers.{AnswersOffer}

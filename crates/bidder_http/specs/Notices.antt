@@ -13,7 +13,7 @@ use Rattle.bidder_core.specs.Seen.{BidderState}
 use Rattle.bidder_core.specs.declared.ledger.LedgerRow.{LedgerRow}
 use Rattle.bidder_core.specs.declared.ruling.BidderRuling.{BidderRuling}
 use Rattle.http_service.specs.declared.answer.Answer.{Answer}
-use Rattle.bidder_http.specs.Bodies.{plain, refused_body}
+use Rattle.http_service.specs.Bodies.{plain, refused_body}
 
 -- a text of 1 to 128 bytes names an auction
 abbrev pub auction_by : Option (List ℕ) → Option (List ℕ)

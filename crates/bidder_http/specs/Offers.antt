@@ -15,7 +15,7 @@ use Rattle.bidder_core.specs.Answers.{answer_to}
 use Rattle.bidder_core.specs.declared.price_line.PriceLine.{PriceLine}
 use Rattle.http_service.specs.declared.answer.Answer.{Answer}
 use Rattle.http_service.specs.declared.answer.Methods.{Methods}
-use Rattle.bidder_http.specs.Bodies.{plain, refused_body}
+use Rattle.http_service.specs.Bodies.{plain, refused_body}
 
 -- an answer with bids says its version of OpenRTB
 abbrev pub offered : Answer

@@ -3,10 +3,10 @@ ghost use Rattle.std.specs.Prelude.{◌≡◌, ◌<◌, ◌++◌, OnOk, decimal,
 ghost use Rattle.std.specs.List.{flat_map};
 ghost use Rattle.bidder_http.specs.Books.{book_line, books_text, kind_text, ledger_line, ledger_text, row_names};
 
-use crate::refusals::push;
 use adx_json::{push_number, push_text};
 use adx_units::OutOfMemory;
 use bidder_core::{Bidder, LedgerRow, Price};
+use http_service::push_body;
 use itoa::Buffer;
 use notice_book::NoticeKind;
 
@@ -15,7 +15,7 @@ fn push_sum(out: &mut String, sum: u128) -> Result<(), OutOfMemory>
     ensures { OnOk result (string_bytes out.new ≡ string_bytes out.old ++ decimal sum) }
 {
     let mut buffer = Buffer::new();
-    push(out, buffer.format(sum))
+    push_body(out, buffer.format(sum))
 }
 
 /// Writes the line of the price in that place.
@@ -28,13 +28,13 @@ fn push_book(
     requires { place < length bidder.now.line.prices }
     ensures { OnOk result (string_bytes out.new ≡ string_bytes out.old ++ book_line bidder.now.rows (place, price.now)) }
 {
-    push(out, "{\"cid\":")?;
+    push_body(out, "{\"cid\":")?;
     push_text(out, price.cid.as_str())?;
-    push(out, ",\"billed\":")?;
+    push_body(out, ",\"billed\":")?;
     push_sum(out, bidder.billed(place))?;
-    push(out, ",\"count\":")?;
+    push_body(out, ",\"count\":")?;
     push_number(out, bidder.bill_count(place))?;
-    push(out, "}\n")
+    push_body(out, "}\n")
 }
 
 /// Writes a line for each price.
@@ -53,9 +53,9 @@ fn push_kind(out: &mut String, kind: NoticeKind) -> Result<(), OutOfMemory>
     ensures { OnOk result (string_bytes out.new ≡ string_bytes out.old ++ kind_text kind) }
 {
     match kind {
-        NoticeKind::Win => push(out, "\"win\""),
-        NoticeKind::Bill => push(out, "\"bill\""),
-        NoticeKind::Loss => push(out, "\"loss\""),
+        NoticeKind::Win => push_body(out, "\"win\""),
+        NoticeKind::Bill => push_body(out, "\"bill\""),
+        NoticeKind::Loss => push_body(out, "\"loss\""),
     }
 }
 
@@ -63,9 +63,9 @@ fn push_kind(out: &mut String, kind: NoticeKind) -> Result<(), OutOfMemory>
 fn push_names(out: &mut String, row: &LedgerRow) -> Result<(), OutOfMemory>
     ensures { OnOk result (string_bytes out.new ≡ string_bytes out.old ++ row_names row.now) }
 {
-    push(out, "{\"auction\":")?;
+    push_body(out, "{\"auction\":")?;
     push_text(out, row.auction.as_str())?;
-    push(out, ",\"bid\":")?;
+    push_body(out, ",\"bid\":")?;
     push_text(out, row.bid.as_str())?;
     Ok(())
 }
@@ -75,11 +75,11 @@ fn push_row(out: &mut String, row: &LedgerRow) -> Result<(), OutOfMemory>
     ensures { OnOk result (string_bytes out.new ≡ string_bytes out.old ++ ledger_line row.now) }
 {
     push_names(out, row)?;
-    push(out, ",\"kind\":")?;
+    push_body(out, ",\"kind\":")?;
     push_kind(out, row.kind)?;
-    push(out, ",\"price\":")?;
+    push_body(out, ",\"price\":")?;
     push_number(out, row.price.0)?;
-    push(out, "}\n")
+    push_body(out, "}\n")
 }
 
 /// Writes a line for each notice that was counted.

@@ -7,13 +7,12 @@ ghost use Rattle.bidder_core.specs.declared.ledger.LedgerRow.{LedgerRow};
 ghost use Rattle.bidder_http.specs.Told.{row_of};
 ghost use Rattle.bidder_http.specs.Notices.{AnswersNotice, TellsNotice, auction_in, notice_in, price_by, price_in, priced, ruled_answer, ruled_body, ruling_on};
 
-use crate::refusals::{plain, push_refused};
 use adx_http::query_value;
 use adx_units::{Id, OutOfMemory, Text, Units, price_of};
 use answer_lines::push_answer;
 use bidder_core::{Bidder, BidderRuling};
 use day_rules::Answer as DayAnswer;
-use http_service::Answer;
+use http_service::{Answer, plain, push_refused};
 use notice_book::NoticeKind;
 use std::alloc::Global;
 

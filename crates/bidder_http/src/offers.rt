@@ -4,11 +4,11 @@ ghost use Rattle.adx_json.specs.View.{tree_of};
 ghost use Rattle.bidder_core.specs.Answers.{answer_for};
 ghost use Rattle.bidder_http.specs.Offers.{AnswersOffer, AnswersTree, OffersBy};
 
-use crate::refusals::{plain, push_refusal};
+use crate::refusals::push_refusal;
 use adx_json::{Json, JsonFault, push_value, read};
 use adx_units::OutOfMemory;
 use bidder_core::Bidder;
-use http_service::{Answer, Methods};
+use http_service::{Answer, Methods, plain};
 use rtb_request::{OfferedImps, RequestFault};
 use script_lines::Refusal;
 use std::alloc::Global;

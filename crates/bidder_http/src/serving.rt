@@ -11,12 +11,11 @@ use crate::books::{push_books, push_ledger};
 use crate::notice::answer_notice;
 use crate::offers::answer_offer;
 use crate::page::{Page, page_of};
-use crate::refusals::{disallowed, plain, push_refused};
 use adx_http::{ConnEnd, Message, Verb, read_target};
 use adx_io::{Sink, Source};
 use adx_units::OutOfMemory;
 use bidder_core::Bidder;
-use http_service::{Answer, Service, serve_messages};
+use http_service::{Answer, Service, disallowed, plain, push_refused, serve_messages};
 use std::alloc::Global;
 
 /// Answers what a page is asked that is served.

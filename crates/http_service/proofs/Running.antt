@@ -4,14 +4,15 @@ use Rattle.std.proofs.lemmas.List.Elements.{All-nil}
 use Rattle.adx_io.specs.Streams.{Tape, WhereTold, Took}
 use Rattle.adx_io.proofs.Moved.{took_none, took_both}
 use Rattle.http_bodies.proofs.Told.{told_same, told_then}
-use Rattle.http_connection.specs.Messages.{Request, IsRequestThen, AreRequests, RefusesRequest}
+use Rattle.http_connection.specs.Messages.{Request, IsRequestThen, AreRequests, RefusesRequest, IsUnfinishedRequest}
 use Rattle.http_connection.specs.declared.conn.ConnEnd.{ConnEnd}
 use Rattle.http_grammar.specs.Requests.{is_kept}
 use Rattle.http_grammar.specs.declared.fault.HttpFault.{HttpFault}
-use Rattle.http_service.specs.Connections.{Answering, GivingUp, GoOn, Brings, IsAny, Served, TookFront, Refuses, EndsWith, HasCauses, Replies}
+use Rattle.http_service.specs.Connections.{Answering, GivingUp, GoOn, Brings, Gave, IsAny, Served, TookFront, Refuses, EndsWith, HasCauses, Replies}
 use Rattle.http_service.specs.Replies.{refusal_bytes, reply_to}
-use Rattle.http_service.specs.Steps.{Answers, BringsOne, Finds, Runs, StepCauses, StepGives, WritesRefusal}
+use Rattle.http_service.specs.Steps.{Answers, BringsOne, Finds, FindsGiven, Runs, StepCauses, StepGives, WritesRefusal}
 use Rattle.http_service.specs.declared.limits.TheConstants.{MESSAGE_LIMIT}
+use Rattle.http_service.proofs.Fronts.{requests_front}
 use Rattle.http_service.proofs.Lists.{requests_more, replies_more, kept_more, one_more}
 
 -- no message came yet
@@ -37,6 +38,16 @@ brings_found limit ms ahead tape mid tape_now Rest are found =
     (λ o b n r f.
     let e : ahead ++ b.left ≡ (ahead ++ f.0) ++ n.left = ap (λ (l : List ℕ). ahead ++ l) f.1 ∙ sym (append_assoc ahead f.0 n.left) in
     (ahead ++ f.0, subst (λ (l : List ℕ). AreRequests limit o.left ms l) e r, subst Rest e f.2))
+    are found
+
+gave_found : (limit : ℕ) (ms : List Request) (ahead : List ℕ) (tape mid tape_now : Option Tape) (Rest : List ℕ → Type 0) → WhereTold tape mid (λ o n. AreRequests limit o.left ms (ahead ++ n.left)) → FindsGiven ahead mid tape_now Rest → Gave limit tape tape_now ms Rest
+gave_found limit ms ahead tape mid tape_now Rest are found =
+    told_then tape mid tape_now (λ o n. AreRequests limit o.left ms (ahead ++ n.left)) (λ o n. (given : List ℕ) × (o.left ≡ given ++ n.left) × Rest (ahead ++ given))
+    (λ o n. (given : List ℕ) × (rest : List ℕ) × (o.left ≡ given ++ n.left) × AreRequests limit given ms rest × Rest rest)
+    (λ o b n r f.
+    let e : ahead ++ b.left ≡ (ahead ++ f.0) ++ n.left = ap (λ (l : List ℕ). ahead ++ l) f.1 ∙ sym (append_assoc ahead f.0 n.left) in
+    let front = requests_front limit o.left (ahead ++ f.0) n.left ms (subst (λ (l : List ℕ). AreRequests limit o.left ms l) e r) in
+    (front.0, ahead ++ f.0, front.1, front.2, f.2))
     are found
 
 brings_any : (limit : ℕ) (ms : List Request) (ahead : List ℕ) (tape tape_now : Option Tape) → WhereTold tape tape_now (λ o n. AreRequests limit o.left ms (ahead ++ n.left)) → Brings limit tape tape_now ms IsAny
@@ -126,7 +137,7 @@ runs_end answers gives_up limit count ahead ahead_now tape mid tape_now held hel
   Runs.ms r,
   served_same answers (Runs.ms r) held held_mid held_now s between now (Runs.served r) g.0 g.1,
   goes_on answers limit count ahead tape mid held held_mid s between r below,
-  brings_found limit (Runs.ms r) ahead tape mid tape_now IsAny (Runs.brings r) g.2,
+  gave_found limit (Runs.ms r) ahead tape mid tape_now (IsUnfinishedRequest limit) (Runs.brings r) g.2,
 )
 runs_end answers gives_up limit count ahead ahead_now tape mid tape_now held held_mid held_now s between now ConnEnd.WriteFault r below (inl g) =
     inl

@@ -1,5 +1,5 @@
 -- What one step of a connection gives, of what its calls say.
-use Rattle.std.proofs.Common.{◌≡◌, inl, inr, ℕ, List, [], ◌++◌, Bool, true, false, Option, Some, None, Result, Ok, Err, refl, sym, ◌∙◌, subst}
+use Rattle.std.proofs.Common.{◌≡◌, inl, inr, ℕ, List, [], ◌++◌, Bool, true, false, Option, Some, None, Result, Ok, Err, refl, sym, ap, ◌∙◌, subst}
 use Rattle.adx_io.specs.Streams.{Tape, WhereTold}
 use Rattle.http_buffer.specs.State.{Passes}
 use Rattle.http_bodies.specs.Steps.{Advances}
@@ -115,11 +115,6 @@ finds_refusal : (c c_now : ConnState) (tape tape_now : Option Tape) (fault : Htt
 finds_refusal c c_now tape tape_now fault sound a other =
     finds c.held tape tape_now (λ bytes rest. GivesMessage c.limit bytes (Err fault) rest) (λ rest. RefusesRequest c.limit rest fault) (λ n. c_now.held ++ n.left) (λ bytes rest g. refused_bytes c.limit fault bytes rest g other) (AnswersMessage.advances a) (AnswersMessage.told a sound)
 
-finds_any : (ahead : List ℕ) (old new : Option Tape) → Advances old new → Finds ahead old new (λ rest. Unit {0})
-finds_any ahead None new a = a
-finds_any ahead (Some o) None a = a
-finds_any ahead (Some o) (Some n) a = (a.0, Passes.left a.1, tt)
-
 -- only a fault that isn't the source's has a reply
 has_no_reply : (fault : HttpFault) (status : ℕ) → fault_status fault ≡ Some status → fault ≡ HttpFault.ReadFault → ⊥
 has_no_reply fault status answered is = absurd (let e : fault_status HttpFault.ReadFault ≡ Some status = subst (λ (f : HttpFault). fault_status f ≡ Some status) is answered in cc)
@@ -137,7 +132,7 @@ fault_step answers gives_up c c_now tape tape_now held held_now s fault ConnEnd.
 fault_step answers gives_up c c_now tape tape_now held held_now s fault (ConnEnd.Refused f) sound a ends =
     subst (λ (g : HttpFault). StepGives answers gives_up c.limit c.held c_now.held tape tape_now held held_now s s (Some (ConnEnd.Refused g))) (sym ends.0)
     (refl, ends.1, finds_refusal c c_now tape tape_now fault sound a (has_no_reply fault (WritesRefusal.status ends.1) (WritesRefusal.answered ends.1)))
-fault_step answers gives_up c c_now tape tape_now held held_now s fault ConnEnd.ReadFault sound a ends = (refl, ends.1, finds_any c.held tape tape_now (AnswersMessage.advances a))
+fault_step answers gives_up c c_now tape tape_now held held_now s fault ConnEnd.ReadFault sound a ends = (refl, ends.1, AnswersMessage.unread a (ap Err ends.0))
 fault_step answers gives_up c c_now tape tape_now held held_now s fault ConnEnd.WriteFault sound a ends =
     inr (fault, refl, ends, finds_refusal c c_now tape tape_now fault sound a (has_no_reply fault (WritesRefusal.status ends) (WritesRefusal.answered ends)))
 fault_step answers gives_up c c_now tape tape_now held held_now s fault ConnEnd.Spent sound a ends = absurd ends

@@ -3,7 +3,7 @@
 -- what it answers to a message in a state. This project's own: how many messages a connection may bring, and the ends.
 use Rattle.std.specs.Prelude.{◌≡◌, ◌≢◌, ◌⊎◌, ℕ, ◌<◌, ◌≤◌, List, [], ◌∷◌, ◌++◌, length, All, true, false, Option, Some}
 use Rattle.adx_io.specs.Streams.{Tape, WhereTold, Took, Rises}
-use Rattle.http_connection.specs.Messages.{Request, AreRequests, RefusesRequest}
+use Rattle.http_connection.specs.Messages.{Request, AreRequests, RefusesRequest, IsUnfinishedRequest}
 use Rattle.http_connection.specs.declared.conn.ConnEnd.{ConnEnd}
 use Rattle.http_grammar.specs.Requests.{is_kept}
 use Rattle.http_grammar.specs.declared.fault.HttpFault.{HttpFault}
@@ -50,6 +50,12 @@ abbrev pub Brings : ℕ → Option Tape → Option Tape → List Request → (Li
 Brings limit tape tape_now ms Rest =
     WhereTold tape tape_now (λ before now. (beyond : List ℕ) × AreRequests limit before.left ms (beyond ++ now.left) × Rest (beyond ++ now.left))
 
+-- the bytes that the source gave, where it tells them, are these messages, and then a rest of which this is so; what is
+-- left comes behind that
+abbrev pub Gave : ℕ → Option Tape → Option Tape → List Request → (List ℕ → Type 0) → Type 0
+Gave limit tape tape_now ms Rest =
+    WhereTold tape tape_now (λ before now. (given : List ℕ) × (rest : List ℕ) × (before.left ≡ given ++ now.left) × AreRequests limit given ms rest × Rest rest)
+
 -- nothing is said of the rest
 abbrev pub IsAny : List ℕ → Type 0
 IsAny rest = Unit {0}
@@ -91,7 +97,8 @@ abbrev pub GaveUp : {S : Type 0} → GivingUp S → ℕ → Option Tape → Opti
 GaveUp gives_up limit tape tape_now ms s now =
     ((ms ≡ []) × (now ≡ s) × (tape_now ≡ tape)) ⊎ ((m : Request) × gives_up s m now × Brings limit tape tape_now (ms ++ m ∷ []) IsAny)
 
--- how a connection ended, what its source brought, what its sink took, and in which state the service was left
+-- How a connection ended, what its source brought, what its sink took, and in which state the service was left. Where the
+-- source failed, all whole messages that it gave were answered, and what it gave behind them is the front of one or nothing.
 abbrev pub EndsWith : {S : Type 0} → Answering S → GivingUp S → ℕ → Option Tape → Option Tape → Option (List ℕ) → Option (List ℕ) → S → S → ConnEnd → Type 0
 EndsWith answers gives_up limit tape tape_now held held_now s now ConnEnd.Closed =
     (ms : List Request) × Served answers ms held held_now s now
@@ -101,7 +108,7 @@ EndsWith answers gives_up limit tape tape_now held held_now s now ConnEnd.Cut =
 EndsWith answers gives_up limit tape tape_now held held_now s now (ConnEnd.Refused fault) =
     Refuses answers Took limit tape tape_now held held_now s now fault
 EndsWith answers gives_up limit tape tape_now held held_now s now ConnEnd.ReadFault =
-    (ms : List Request) × Served answers ms held held_now s now × GoOn ms × Brings limit tape tape_now ms IsAny
+    (ms : List Request) × Served answers ms held held_now s now × GoOn ms × Gave limit tape tape_now ms (IsUnfinishedRequest limit)
 EndsWith answers gives_up limit tape tape_now held held_now s now ConnEnd.WriteFault =
     FailsWriting answers limit tape tape_now held held_now s now
     ⊎ ((fault : HttpFault) × Refuses answers TookFront limit tape tape_now held held_now s now fault)

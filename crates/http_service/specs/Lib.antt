@@ -1,3 +1,4 @@
+pub mod Bodies
 pub mod Replies
 pub mod Connections
 pub mod Steps

@@ -3,7 +3,7 @@ use Rattle.std.specs.Prelude.{◌≡◌, ◌⊎◌, ℕ, List, [], ◌++◌, len
 use Rattle.adx_io.specs.Streams.{Tape, WhereTold, Took}
 use Rattle.http_bodies.specs.Steps.{ReadsBy}
 use Rattle.http_connection.specs.declared.conn.Message.{Message}
-use Rattle.http_connection.specs.Messages.{Request, IsRequestThen, AreRequests, RefusesRequest}
+use Rattle.http_connection.specs.Messages.{Request, IsRequestThen, AreRequests, RefusesRequest, IsUnfinishedRequest}
 use Rattle.http_connection.specs.declared.conn.ConnEnd.{ConnEnd}
 use Rattle.http_grammar.specs.Requests.{is_kept}
 use Rattle.http_grammar.specs.declared.fault.HttpFault.{HttpFault}
@@ -53,6 +53,10 @@ BringsOne limit ahead ahead_now tape tape_now m = WhereTold tape tape_now (λ be
 abbrev pub Finds : List ℕ → Option Tape → Option Tape → (List ℕ → Type 0) → Type 0
 Finds ahead tape tape_now Rest = WhereTold tape tape_now (λ before now. (piece : List ℕ) × (before.left ≡ piece ++ now.left) × Rest (ahead ++ before.left))
 
+-- of the bytes that were held and those that the source gave, where it tells them, this is so
+abbrev pub FindsGiven : List ℕ → Option Tape → Option Tape → (List ℕ → Type 0) → Type 0
+FindsGiven ahead tape tape_now Rest = WhereTold tape tape_now (λ before now. (given : List ℕ) × (before.left ≡ given ++ now.left) × Rest (ahead ++ given))
+
 -- what came of the next message of a connection: it was replied, and more may come (None); or the connection ended so
 abbrev pub StepGives : {S : Type 0} → Answering S → GivingUp S → ℕ → List ℕ → List ℕ → Option Tape → Option Tape → Option (List ℕ) → Option (List ℕ) → S → S → Option ConnEnd → Type 0
 StepGives answers gives_up limit ahead ahead_now tape tape_now held held_now s now None =
@@ -65,7 +69,7 @@ StepGives answers gives_up limit ahead ahead_now tape tape_now held held_now s n
 StepGives answers gives_up limit ahead ahead_now tape tape_now held held_now s now (Some (ConnEnd.Refused fault)) =
     (now ≡ s) × WritesRefusal Took held held_now fault × Finds ahead tape tape_now (λ rest. RefusesRequest limit rest fault)
 StepGives answers gives_up limit ahead ahead_now tape tape_now held held_now s now (Some ConnEnd.ReadFault) =
-    (now ≡ s) × (held_now ≡ held) × Finds ahead tape tape_now (λ rest. Unit {0})
+    (now ≡ s) × (held_now ≡ held) × FindsGiven ahead tape tape_now (IsUnfinishedRequest limit)
 StepGives answers gives_up limit ahead ahead_now tape tape_now held held_now s now (Some ConnEnd.WriteFault) =
     ((m : Request) × BringsOne limit ahead ahead_now tape tape_now m × MessageEnds answers gives_up held held_now s now m (Some ConnEnd.WriteFault))
     ⊎ ((fault : HttpFault) × (now ≡ s) × WritesRefusal TookFront held held_now fault × Finds ahead tape tape_now (λ rest. RefusesRequest limit rest fault))

@@ -3,10 +3,11 @@
 //! `serve_messages` reads the messages of a source and puts what a service answers to each into a sink before it reads
 //! the next. A contract names the messages, what they were replied, the state that the service is left in, and why no
 //! more were read; it speaks of any service, whose answers are a relation of its own.
-//! Stands on `adx_io` for sources and sinks and on `adx_http` for messages and replies.
+//! Stands on `adx_io` for sources and sinks, on `adx_http` for messages and replies and on `adx_json` for texts.
 #![tactic(auto)]
 
 mod answer;
+mod bodies;
 mod limits;
 mod refusal;
 mod reply;
@@ -14,6 +15,9 @@ mod service;
 mod serving;
 
 pub use answer::{Answer, Methods};
+pub use bodies::{disallowed, plain, push_body, push_refused};
 pub use limits::{MESSAGE_LIMIT, REQUEST_LIMIT};
+pub use refusal::write_refusal;
+pub use reply::write_answer;
 pub use service::Service;
 pub use serving::serve_messages;
