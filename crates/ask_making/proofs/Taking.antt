@@ -1,7 +1,7 @@
 -- Bids that are taken, one behind the other.
-use Rattle.std.proofs.Common.{◌≡◌, ◌≤◌, ◌<◌, ℕ, ◌+◌, List, [], ◌∷◌, ◌++◌, take, get_or, length, length-take, map, Option, refl, sym, ap, ap₂, ◌∙◌, ◌*◌, subst, append-nil, arith}
+use Rattle.std.proofs.Common.{◌≡◌, ◌≤◌, ◌<◌, ℕ, ◌+◌, List, [], ◌∷◌, ◌++◌, take, get_or, length, length-take, map, Option, option_map, option_copied, refl, sym, ap, ap₂, ◌∙◌, ◌*◌, subst, append-nil, Bor, arith}
 use Rattle.std.specs.List.{enumerate_from, flat_map, sum_by}
-use Rattle.std.proofs.lemmas.List.{length-map, map-append, length-append, take_more}
+use Rattle.std.proofs.lemmas.List.{length-map, map-append, length-append, get_or-map, take_more}
 use Rattle.std.proofs.lemmas.List.Sums.{sum_by-cons}
 use Rattle.std.proofs.lemmas.Grind.{flat_map-append}
 use Rattle.std.proofs.lemmas.List.Elements.{All-append, All-cons, All-nil}
@@ -76,6 +76,22 @@ pub taken_on : (r : BidRequest) (cs : List Campaign) (answers : List (Option Bid
     → i < length answers → a ≡ get_or answers i a → AreOf r cs (all_bids (take i answers) ++ bids_of (i, a)) offers kept → AreOf r cs (all_bids (take (i + 1) answers)) offers kept
 taken_on r cs answers i a offers kept low is h =
     subst (λ bids. AreOf r cs bids offers kept) (ap (λ b. all_bids (take i answers) ++ bids_of (i, b)) is ∙ sym (answered_more answers i a low)) h
+
+-- a bidder's bids more, where its answer is lent out of the one that is owned
+pub owned_on : (r : BidRequest) (cs : List Campaign) (answers : List (Option BidAnswer)) (i : ℕ) (a : Option BidAnswer) (b : Option (Bor BidAnswer)) (offers : List Offer) (kept : List Kept)
+    → i < length answers → a ≡ get_or answers i a → option_copied b ≡ a → AreOf r cs (all_bids (take i answers) ++ bids_of (i, option_map (λ x. x.now) b)) offers kept
+    → AreOf r cs (all_bids (take (i + 1) answers)) offers kept
+owned_on r cs answers i a b offers kept low is lent h =
+    taken_on r cs answers i a offers kept low is (subst (λ x. AreOf r cs (all_bids (take i answers) ++ bids_of (i, x)) offers kept) lent h)
+
+-- a bidder's bids more, where its answer is lent
+pub lent_on : (r : BidRequest) (cs : List Campaign) (answers : List (Option (Bor BidAnswer))) (i : ℕ) (a : Option (Bor BidAnswer)) (offers : List Offer) (kept : List Kept)
+    → i < length answers → a ≡ get_or answers i a
+    → AreOf r cs (all_bids (take i (map (option_map (λ x. x.now)) answers)) ++ bids_of (i, option_map (λ x. x.now) a)) offers kept
+    → AreOf r cs (all_bids (take (i + 1) (map (option_map (λ x. x.now)) answers))) offers kept
+lent_on r cs answers i a offers kept low is h =
+    let f = option_map (λ (x : Bor BidAnswer). x.now) in
+    taken_on r cs (map f answers) i (f a) offers kept (subst (λ n. i < n) (sym (length-map answers f)) low) (ap f is ∙ sym (get_or-map f answers i a (f a) low)) h
 
 pub one_more : (i n : ℕ) → i < n → i + 1 ≤ n
 one_more i n low = omega (arith, low)

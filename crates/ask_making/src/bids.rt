@@ -1,5 +1,5 @@
 //! The bids that were taken so far: each as an offer, and with its texts.
-ghost use Rattle.std.specs.Prelude.{◌≡◌, ◌<◌, ◌≤◌, ◌+◌, ◌^◌, ◌++◌, ◌∷◌, [], ℕ, List, length, OnOk, IfOk};
+ghost use Rattle.std.specs.Prelude.{◌≡◌, ◌<◌, ◌≤◌, ◌+◌, ◌^◌, ◌++◌, ◌∷◌, [], ℕ, List, length, option_map, OnOk, IfOk};
 ghost use Rattle.std.specs.List.{flat_map};
 ghost use Rattle.rtb_response.specs.declared.bid_answer.SeatBid.{SeatBid as Seat};
 ghost use Rattle.ask_making.specs.Making.{SeatedBid, seated, bids_of_seat, bids_of, offer_of as offer_by_rules, kept_of};
@@ -44,12 +44,12 @@ impl Bids {
         alloc: Global,
         sale: Sale<'_>,
         bidder: u32,
-        answer: &Option<BidAnswer>,
+        answer: Option<&BidAnswer>,
     ) -> Result<(), OutOfMemory>
         requires few { length self.old.offers.items + MOST_BIDS < 2 ^ 32 }
         ensures few { OnOk result (length self.new.offers.items ≤ length self.old.offers.items + MOST_BIDS) }
         ensures taken { OnOk result ((bids : List SeatedBid) → AreOf sale.entry.request.now sale.entry.roster.now.campaigns bids self.old.offers.items self.old.kept.items
-            → AreOf sale.entry.request.now sale.entry.roster.now.campaigns (bids ++ bids_of (bidder, answer.now)) self.new.offers.items self.new.kept.items) }
+            → AreOf sale.entry.request.now sale.entry.roster.now.campaigns (bids ++ bids_of (bidder, option_map (λ x. x.now) answer.entry)) self.new.offers.items self.new.kept.items) }
     {
         match answer {
             Some(answer) => {

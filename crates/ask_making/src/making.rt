@@ -1,5 +1,5 @@
 //! The ask of a request and its answers.
-ghost use Rattle.std.specs.Prelude.{◌≡◌, ◌≤◌, ◌<◌, ◌^◌, length, map, IfOk};
+ghost use Rattle.std.specs.Prelude.{◌≡◌, ◌≤◌, ◌<◌, ◌^◌, length, map, option_map, IfOk};
 ghost use Rattle.day_rules.specs.Asks.{IsWellFormed, IsUndecided};
 ghost use Rattle.ask_making.specs.Making.{ask_of};
 
@@ -30,8 +30,37 @@ pub fn make_ask(
     let sale = Sale { request, roster };
     let mut bids = Bids::new(alloc);
     for (bidder, answer) in answers.iter().enumerate() {
-        bids.take_answer(alloc, sale, bidder as u32, answer)?;
+        bids.take_answer(alloc, sale, bidder as u32, answer.as_ref())?;
     }
+    ask_with(alloc, request, bids, now)
+}
+
+/// The same ask, by answers that are lent.
+pub fn make_ask_lent(
+    alloc: Global,
+    request: &BidRequest,
+    roster: &Roster,
+    answers: &[Option<&BidAnswer>],
+    now: u64,
+) -> Result<Ask, OutOfMemory>
+    requires answers { length answers.now ≤ length roster.now.bidders }
+    requires now { now < 2 ^ 63 }
+    ensures gives { IfOk result (λ a. a ≡ ask_of request.now roster.entry.now.campaigns (map (option_map (λ x. x.now)) answers.entry.now) now) }
+    ensures well_formed { IfOk result (IsWellFormed (length roster.entry.now.campaigns)) }
+    ensures undecided { IfOk result IsUndecided }
+{
+    let sale = Sale { request, roster };
+    let mut bids = Bids::new(alloc);
+    for (bidder, answer) in answers.iter().enumerate() {
+        bids.take_answer(alloc, sale, bidder as u32, *answer)?;
+    }
+    ask_with(alloc, request, bids, now)
+}
+
+/// The ask of a request with these bids.
+fn ask_with(alloc: Global, request: &BidRequest, bids: Bids, now: u64) -> Result<Ask, OutOfMemory>
+    ensures { IfOk result (λ a. a ≡ record { auction = request.now.id; digest = request.now.digest; now = now; first = 0; imps = map (λ i. i.id) request.now.imps; offers = bids.offers.items; kept = bids.kept.items }) }
+{
     Ok(Ask {
         auction: request.id.copy(alloc)?,
         digest: request.digest,

@@ -1,5 +1,5 @@
 //! Requests and answers with the asks that they make.
-use crate::make_ask;
+use crate::{make_ask, make_ask_lent};
 use adx_json::{push_number, read};
 use adx_units::{Id, Offer, OutOfMemory};
 use day_rules::{Ask, Kept};
@@ -125,23 +125,28 @@ fn roster_of(alloc: Global, text: &str) -> Result<Roster, Fail> {
     Ok(roster)
 }
 
+fn text_of(alloc: Global, ask: &Ask) -> Result<String, OutOfMemory> {
+    let mut text = String::new(alloc);
+    push_ask(&mut text, ask)?;
+    Ok(text)
+}
+
 #[test]
 fn asks_have_all_bids_with_their_texts(rt: HostRuntime) -> Result<(), Fail> {
     let alloc = rt.alloc();
     let roster = roster_of(alloc, ROSTER)?;
-    let most = roster.bidders.len();
+    if roster.bidders.as_slice().len() < 2 {
+        return Err(Fail::from(OutOfMemory));
+    }
     for (request, first, second, want) in ASKS {
         let request = request_of(alloc, request)?;
-        let mut answers = Vec::new(alloc);
-        answers.push(answer_of(alloc, &request.id, first)?)?;
-        answers.push(answer_of(alloc, &request.id, second)?)?;
-        if answers.len() > most {
-            return Err(Fail::from(OutOfMemory));
-        }
-        let ask = make_ask(alloc, &request, &roster, answers.as_slice(), 7)?;
-        let mut got = String::new(alloc);
-        push_ask(&mut got, &ask)?;
-        assert_eq!(rt; got.as_str(), want);
+        let first = answer_of(alloc, &request.id, first)?;
+        let second = answer_of(alloc, &request.id, second)?;
+        let lent = [first.as_ref(), second.as_ref()];
+        let ask = make_ask_lent(alloc, &request, &roster, &lent, 7)?;
+        assert_eq!(rt; text_of(alloc, &ask)?.as_str(), want);
+        let ask = make_ask(alloc, &request, &roster, &[first, second], 7)?;
+        assert_eq!(rt; text_of(alloc, &ask)?.as_str(), want);
     }
     Ok(())
 }

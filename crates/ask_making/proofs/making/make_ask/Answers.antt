@@ -1,7 +1,8 @@
-use Rattle.std.proofs.Common.{◌∙◌, ap, map}
-use Rattle.rtb_request.specs.declared.imp.Imp.{Imp}
+use Rattle.std.proofs.Common.{◌<◌, ◌^◌, ap, sym, subst}
+use Rattle.std.proofs.lemmas.Result.{IfOk-weaker}
+use Rattle.day_rules.specs.declared.ask.Ask.{Ask}
 use Rattle.ask_making.proofs.Formed.{well_formed, undecided}
-use Rattle.ask_making.proofs.Taking.{few_in_all, few_more, one_more, taken_on}
+use Rattle.ask_making.proofs.Taking.{few_in_all, few_more, one_more, owned_on}
 use Rattle.ask_making.proofs.making.make_ask.Goals as goal
 
 pub loop-bidder-preserved : goal.loop-bidder-preserved
@@ -11,14 +12,18 @@ loop-bidder-preserved c =
     record {
       within = one_more _ _ c.loop-bidder-test.true;
       few = few_more c.loop-bidder.bidder _ _ before.few took.few;
-      taken = taken_on c.args.request.now c.args.roster.now.campaigns c.args.answers.now c.loop-bidder.bidder c.index-answers-bidder.result _ _ c.loop-bidder-test.true c.index-answers-bidder.is (took.taken _ before.taken);
+      taken = owned_on c.args.request.now c.args.roster.now.campaigns c.args.answers.now c.loop-bidder.bidder c.index-answers-bidder.result _ _ _ c.loop-bidder-test.true c.index-answers-bidder.is c.as_ref.ensures.value (took.taken _ before.taken);
     }
 
 pub returns-clause-well_formed : goal.returns-clause-well_formed
 returns-clause-well_formed c =
-    well_formed c.args.request.now c.args.roster.now.campaigns _ _ _ c.loop-bidder.invariant.taken _
-    (c.in_ok-imp_ids.ensures {u = tt} ∙ ap (map (λ (i : Imp). i.id)) c.as_slice.ensures) c.from.ensures c.from-2.ensures c.requires.now
-    (few_in_all c.loop-bidder.bidder _ _ _ c.loop-bidder.invariant.few c.loop-bidder.invariant.within c.requires.answers c.args.roster.now.few_bidders)
+    IfOk-weaker _ _ _
+    (λ a is. well_formed c.args.request.now c.args.roster.now.campaigns _ _ _ c.loop-bidder.invariant.taken a (ap (λ (x : Ask). x.imps) is) (ap (λ (x : Ask). x.offers) is) (ap (λ (x : Ask). x.kept) is) (subst (λ n. n < 2 ^ 63) (sym (ap (λ (x : Ask). x.now) is)) c.requires.now)
+    (few_in_all c.loop-bidder.bidder _ _ _ c.loop-bidder.invariant.few c.loop-bidder.invariant.within c.requires.answers c.args.roster.now.few_bidders))
+    c.ask_with.ensures
 
 pub returns-clause-undecided : goal.returns-clause-undecided
-returns-clause-undecided c = undecided c.args.request.now c.args.roster.now.campaigns _ _ _ c.loop-bidder.invariant.taken _ c.from.ensures
+returns-clause-undecided c =
+    IfOk-weaker _ _ _
+    (λ (a : Ask) is. undecided c.args.request.now c.args.roster.now.campaigns _ _ _ c.loop-bidder.invariant.taken a.offers (ap (λ (x : Ask). x.offers) is))
+    c.ask_with.ensures
