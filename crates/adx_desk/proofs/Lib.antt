@@ -3,8 +3,10 @@ pub mod Holding
 pub mod Keeping
 pub mod Serving
 pub mod Spelled
-pub mod Inside
 pub mod Sizes
+pub mod Inside
+pub mod Calls
+pub mod InTurn
 pub mod Asked
 pub mod Ending
 pub mod Rises

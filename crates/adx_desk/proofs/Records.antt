@@ -1,17 +1,14 @@
 -- Records behind records, and what a file with them stands for.
-use Rattle.std.proofs.Common.{◌≡◌, inl, inr, ℕ, ◌+◌, ◌≤◌, List, [], ◌∷◌, ◌++◌, length, All, refl, sym, ◌∙◌, ap, subst, arith}
+use Rattle.std.proofs.Common.{◌≡◌, inl, inr, ℕ, ◌+◌, List, [], ◌∷◌, ◌++◌, All, refl, sym, ◌∙◌, ap, arith}
 use Rattle.std.proofs.lemmas.Grind.{flat_map-append}
 use Rattle.std.proofs.lemmas.List.{append-nil, map-append}
 use Rattle.std.proofs.lemmas.List.Elements.{All-cons, All-head, All-nil, All-push, All-tail}
 use Rattle.std.specs.List.{flat_map}
-use Rattle.day_journal.specs.Faults.{greatest_size}
-use Rattle.day_journal.specs.Places.{IsPayload, StandsFor, opened}
+use Rattle.day_journal.specs.Places.{IsPayload, StandsFor}
 use Rattle.day_entries.specs.Spelling.{Fits, entry_bytes}
 use Rattle.day_rules.specs.declared.entry.Entry.{Entry}
-use Rattle.day_rules.specs.Legal.{IsLegal, MayFollow}
-use Rattle.day_rules.proofs.Histories.{legal_push}
+use Rattle.day_rules.specs.Legal.{IsLegal}
 use Rattle.adx_desk.specs.Desks.{MayStandBehind}
-use Rattle.adx_desk.specs.Held.{held}
 use Rattle.adx_desk.specs.Histories.{AreRecords, DeskTerms, HasRoom, IsHistoryOf, IsRecord, entries_bytes}
 
 -- one entry is a record
@@ -63,12 +60,3 @@ no_empty file payloads (inl un) = absurd (cons_not_nil payloads un.1)
     cons_not_nil [] h = cc
     cons_not_nil (p ∷ ps) h = cc
 no_empty file payloads (inr open_) = omega (arith, (last_payload payloads [] open_.0).some)
-
--- an entry that may follow, as a record behind the history
-pub new_stands_behind : (terms : DeskTerms) (payloads : List (List ℕ)) (history : List Entry) (e : Entry) → IsLegal terms.day history → MayFollow terms.day history e → Fits e
-    → length (opened (payloads ++ entry_bytes e ∷ [])) + 1 + held (history ++ e ∷ []) ≤ greatest_size → MayStandBehind terms payloads history (e ∷ [])
-new_stands_behind terms payloads history e legal follows fits room = record {
-  is_record = one_record e fits;
-  legal = legal_push terms.day history e legal follows;
-  room = subst (λ (p : List ℕ). HasRoom (payloads ++ p ∷ []) (history ++ e ∷ [])) (sym (one_bytes e)) room;
-}

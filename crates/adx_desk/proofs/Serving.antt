@@ -1,56 +1,90 @@
 -- What a call leaves, by its parts.
-use Rattle.std.proofs.Common.{◌≡◌, ◌⊎◌, inl, ℕ, ◌≤◌, List, [], ◌∷◌, ◌++◌, Option, Some, None, refl, sym, ap, subst}
+use Rattle.std.proofs.Common.{◌≡◌, ◌⊎◌, inl, ℕ, List, [], ◌∷◌, ◌++◌, Option, Some, None, refl, sym, ap, subst, arith}
 use Rattle.std.specs.Prelude.{Result, Ok, Err, IfErr}
+use Rattle.std.proofs.lemmas.List.{append-nil}
 use Rattle.adx_io.specs.Disks.{LeavesOnly}
-use Rattle.day_journal.specs.Faults.{greatest_size}
 use Rattle.day_journal.specs.Tails.{JournalState, Keeps}
 use Rattle.day_journal.specs.Tails.{WithAtMostOne as WithOnePayload}
-use Rattle.day_entries.specs.Spelling.{Fits, entry_bytes}
 use Rattle.day_rules.specs.declared.entry.Entry.{Entry}
-use Rattle.day_rules.specs.Legal.{MayFollow}
 use Rattle.adx_desk.specs.declared.fault.DeskFault.{DeskFault}
 use Rattle.adx_desk.specs.Desks.{DeskState, OnDisk, added_by}
-use Rattle.adx_desk.specs.Endings.{size_with}
-use Rattle.adx_desk.specs.Serving.{Serves}
-use Rattle.adx_desk.proofs.Keeping.{after_fault, keeps_doubted, keeps_pushed, moments_pushed, moments_same}
+use Rattle.adx_desk.specs.Histories.{entries_bytes}
+use Rattle.adx_desk.specs.Serving.{Serves, ServesAll}
+use Rattle.adx_desk.proofs.Keeping.{MayAdd, after_fault, keeps_doubted, keeps_pushed, moments_pushed, moments_same}
 
 along : {A B : Type 0} (P : A → B → Type 0) {a b : A} {c d : B} → a ≡ b → c ≡ d → P a c → P b d
 along P {a} {b} {c} {d} p q h = subst (λ x. P x d) p (subst (P a) q h)
 
 module _ {D : Type 0} (may_leave : D → List ℕ → Type 0) (moment : D → ℕ) (left_since : D → ℕ → List ℕ → Type 0) where
-  -- an entry that was acknowledged
-  pub serves_added : {T : Type 0} (x : T) (desk : DeskState) (old new : D) (journal : JournalState) (faults : ℕ) (e : Entry)
-      → MayFollow desk.terms.day desk.history e → Fits e → size_with desk e ≤ greatest_size
-      → ((payloads : List (List ℕ)) (t : List ℕ) → Keeps (may_leave old) desk.journal payloads t → LeavesOnly moment left_since old new (WithOnePayload payloads t (entry_bytes e)))
-      → ((payloads : List (List ℕ)) (t a : List ℕ) → Keeps (may_leave old) desk.journal payloads t → Keeps (may_leave new) journal (payloads ++ entry_bytes e ∷ []) a)
-      → Serves {T = T} may_leave moment left_since (record { desk = desk; disk = old; since = 0 }) (record { desk = record { terms = desk.terms; history = desk.history ++ e ∷ []; journal = journal; faults = faults }; disk = new; since = 0 }) (Some e) (Ok x)
-  serves_added {T} x desk old new journal faults e follows fits room run kept = record {
+  -- a record that was acknowledged
+  pub serves_added : {T : Type 0} (x : T) (desk : DeskState) (old new : D) (journal : JournalState) (faults : ℕ) (es : List Entry) → MayAdd desk es
+      → ((payloads : List (List ℕ)) (t : List ℕ) → Keeps (may_leave old) desk.journal payloads t → LeavesOnly moment left_since old new (WithOnePayload payloads t (entries_bytes es)))
+      → ((payloads : List (List ℕ)) (t a : List ℕ) → Keeps (may_leave old) desk.journal payloads t → Keeps (may_leave new) journal (payloads ++ entries_bytes es ∷ []) a)
+      → ServesAll {T = T} may_leave moment left_since (record { desk = desk; disk = old; since = 0 }) (record { desk = record { terms = desk.terms; history = desk.history ++ es; journal = journal; faults = faults }; disk = new; since = 0 }) es (Ok x)
+  serves_added {T} x desk old new journal faults es add run kept = record {
     terms = refl;
     since = refl;
     history = refl;
     same = record {};
-    any_moment = λ tail k. moments_pushed moment left_since old new (may_leave old) desk e tail follows fits room run k;
-    done = λ tail k. keeps_pushed (may_leave old) (may_leave new) desk journal faults e tail tail follows fits room kept k;
-    acknowledged = λ tail any k. keeps_pushed (may_leave old) (may_leave new) desk journal faults e tail any follows fits room kept k;
+    any_moment = λ tail k. moments_pushed moment left_since old new (may_leave old) desk es tail add run k;
+    done = λ tail k. keeps_pushed (may_leave old) (may_leave new) desk journal faults es tail tail add kept k;
+    acknowledged = λ some tail any k. keeps_pushed (may_leave old) (may_leave new) desk journal faults es tail any add kept k;
     doubted = record {};
   }
 
   -- a fault of the disk
-  pub serves_failed : {T : Type 0} (why : DeskFault) (desk : DeskState) (old new : D) (journal : JournalState) (faults : ℕ) (e : Entry)
-      → MayFollow desk.terms.day desk.history e → Fits e → size_with desk e ≤ greatest_size
-      → ((payloads : List (List ℕ)) (t : List ℕ) → Keeps (may_leave old) desk.journal payloads t → LeavesOnly moment left_since old new (WithOnePayload payloads t (entry_bytes e)))
-      → ((payloads : List (List ℕ)) (t : List ℕ) → Keeps (may_leave old) desk.journal payloads t → Keeps (may_leave new) journal payloads t ⊎ Keeps (may_leave new) journal payloads (entry_bytes e))
-      → Serves {T = T} may_leave moment left_since (record { desk = desk; disk = old; since = 0 }) (record { desk = after_fault desk journal faults; disk = new; since = 0 }) (Some e) (Err why)
-  serves_failed {T} why desk old new journal faults e follows fits room run kept = record {
+  pub serves_failed : {T : Type 0} (why : DeskFault) (desk : DeskState) (old new : D) (journal : JournalState) (faults : ℕ) (es : List Entry) → MayAdd desk es
+      → ((payloads : List (List ℕ)) (t : List ℕ) → Keeps (may_leave old) desk.journal payloads t → LeavesOnly moment left_since old new (WithOnePayload payloads t (entries_bytes es)))
+      → ((payloads : List (List ℕ)) (t : List ℕ) → Keeps (may_leave old) desk.journal payloads t → Keeps (may_leave new) journal payloads t ⊎ Keeps (may_leave new) journal payloads (entries_bytes es))
+      → ServesAll {T = T} may_leave moment left_since (record { desk = desk; disk = old; since = 0 }) (record { desk = after_fault desk journal faults; disk = new; since = 0 }) es (Err why)
+  serves_failed {T} why desk old new journal faults es add run kept = record {
     terms = refl;
     since = refl;
     history = record {};
     same = refl;
-    any_moment = λ tail k. moments_pushed moment left_since old new (may_leave old) desk e tail follows fits room run k;
+    any_moment = λ tail k. moments_pushed moment left_since old new (may_leave old) desk es tail add run k;
     done = record {};
     acknowledged = record {};
-    doubted = λ tail k. keeps_doubted (may_leave old) (may_leave new) desk journal faults e tail follows fits room kept k;
+    doubted = λ tail k. keeps_doubted (may_leave old) (may_leave new) desk journal faults es tail add kept k;
   }
+
+  -- a record of one entry
+  pub serves_one : {T : Type 0} (old new : OnDisk D) (e : Entry) (r : Result T DeskFault) → ServesAll {T = T} may_leave moment left_since old new (e ∷ []) r → Serves {T = T} may_leave moment left_since old new (Some e) r
+  serves_one old new e (Ok x) s = record {
+    terms = s.terms;
+    since = s.since;
+    history = s.history;
+    same = record {};
+    any_moment = s.any_moment;
+    done = s.done;
+    acknowledged = s.acknowledged (omega arith);
+    doubted = record {};
+  }
+  serves_one old new e (Err why) s = record {
+    terms = s.terms;
+    since = s.since;
+    history = record {};
+    same = s.same;
+    any_moment = s.any_moment;
+    done = record {};
+    acknowledged = record {};
+    doubted = s.doubted;
+  }
+
+  -- a call that adds nothing, and leaves desk and disk as they are
+  pub serves_unmoved : {T : Type 0} (x : T) (on : OnDisk D) (entries : List Entry) → entries ≡ [] → ((c : List ℕ) → left_since on.disk (moment on.disk) c → may_leave on.disk c)
+      → ServesAll {T = T} may_leave moment left_since on on entries (Ok x)
+  serves_unmoved {T} x on entries none now =
+      subst (λ (es : List Entry). ServesAll {T = T} may_leave moment left_since on on es (Ok x)) (sym none) (record {
+        terms = refl;
+        since = refl;
+        history = sym (append-nil on.desk.history);
+        same = record {};
+        any_moment = λ tail k. moments_same moment left_since on.disk (may_leave on.disk) on.desk tail [] now k;
+        done = λ tail k. k;
+        acknowledged = λ some. absurd (omega (arith, some));
+        doubted = record {};
+      })
 
   -- a refusal, which leaves desk and disk as they are
   pub serves_refused : {T : Type 0} (why : DeskFault) (on : OnDisk D) (entry : Option Entry) → ((c : List ℕ) → left_since on.disk (moment on.disk) c → may_leave on.disk c)
@@ -81,31 +115,29 @@ module _ {D : Type 0} (may_leave : D → List ℕ → Type 0) (moment : D → �
   }
 
   -- the same by what the journal told of its payload, in the words of the fields
-  pub added : {T : Type 0} (x : T) (desk next : DeskState) (was : JournalState) (payload : List ℕ) (old new : D) (e : Entry)
-      → was ≡ desk.journal → payload ≡ entry_bytes e → next.terms ≡ desk.terms → next.history ≡ desk.history ++ e ∷ []
-      → MayFollow desk.terms.day desk.history e → Fits e → size_with desk e ≤ greatest_size
+  pub added : {T : Type 0} (x : T) (desk next : DeskState) (was : JournalState) (payload : List ℕ) (old new : D) (es : List Entry)
+      → was ≡ desk.journal → payload ≡ entries_bytes es → next.terms ≡ desk.terms → next.history ≡ desk.history ++ es → MayAdd desk es
       → ((payloads : List (List ℕ)) (t : List ℕ) → Keeps (may_leave old) was payloads t → LeavesOnly moment left_since old new (WithOnePayload payloads t payload))
       → ((payloads : List (List ℕ)) (t a : List ℕ) → Keeps (may_leave old) was payloads t → Keeps (may_leave new) next.journal (payloads ++ payload ∷ []) a)
-      → Serves {T = T} may_leave moment left_since (record { desk = desk; disk = old; since = 0 }) (record { desk = next; disk = new; since = 0 }) (Some e) (Ok x)
-  added {T} x desk next was payload old new e journal bytes terms history follows fits room run kept =
+      → ServesAll {T = T} may_leave moment left_since (record { desk = desk; disk = old; since = 0 }) (record { desk = next; disk = new; since = 0 }) es (Ok x)
+  added {T} x desk next was payload old new es journal bytes terms history add run kept =
       let run_on = along (λ (j : JournalState) (p : List ℕ). (payloads : List (List ℕ)) (t : List ℕ) → Keeps (may_leave old) j payloads t → LeavesOnly moment left_since old new (WithOnePayload payloads t p)) journal bytes run in
       let kept_on = along (λ (j : JournalState) (p : List ℕ). (payloads : List (List ℕ)) (t a : List ℕ) → Keeps (may_leave old) j payloads t → Keeps (may_leave new) next.journal (payloads ++ p ∷ []) a) journal bytes kept in
-      subst (λ (d : DeskState). Serves {T = T} may_leave moment left_since (record { desk = desk; disk = old; since = 0 }) (record { desk = d; disk = new; since = 0 }) (Some e) (Ok x))
+      subst (λ (d : DeskState). ServesAll {T = T} may_leave moment left_since (record { desk = desk; disk = old; since = 0 }) (record { desk = d; disk = new; since = 0 }) es (Ok x))
       (λ i. record { terms = sym terms i; history = sym history i; journal = next.journal; faults = next.faults })
-      (serves_added x desk old new next.journal next.faults e follows fits room run_on kept_on)
+      (serves_added x desk old new next.journal next.faults es add run_on kept_on)
 
-  pub failed : {T : Type 0} (why : DeskFault) (desk next : DeskState) (was : JournalState) (payload : List ℕ) (old new : D) (e : Entry)
-      → was ≡ desk.journal → payload ≡ entry_bytes e → next.terms ≡ desk.terms → next.history ≡ desk.history
-      → MayFollow desk.terms.day desk.history e → Fits e → size_with desk e ≤ greatest_size
+  pub failed : {T : Type 0} (why : DeskFault) (desk next : DeskState) (was : JournalState) (payload : List ℕ) (old new : D) (es : List Entry)
+      → was ≡ desk.journal → payload ≡ entries_bytes es → next.terms ≡ desk.terms → next.history ≡ desk.history → MayAdd desk es
       → ((payloads : List (List ℕ)) (t : List ℕ) → Keeps (may_leave old) was payloads t → LeavesOnly moment left_since old new (WithOnePayload payloads t payload))
       → ((payloads : List (List ℕ)) (t : List ℕ) → Keeps (may_leave old) was payloads t → Keeps (may_leave new) next.journal payloads t ⊎ Keeps (may_leave new) next.journal payloads payload)
-      → Serves {T = T} may_leave moment left_since (record { desk = desk; disk = old; since = 0 }) (record { desk = next; disk = new; since = 0 }) (Some e) (Err why)
-  failed {T} why desk next was payload old new e journal bytes terms history follows fits room run kept =
+      → ServesAll {T = T} may_leave moment left_since (record { desk = desk; disk = old; since = 0 }) (record { desk = next; disk = new; since = 0 }) es (Err why)
+  failed {T} why desk next was payload old new es journal bytes terms history add run kept =
       let run_on = along (λ (j : JournalState) (p : List ℕ). (payloads : List (List ℕ)) (t : List ℕ) → Keeps (may_leave old) j payloads t → LeavesOnly moment left_since old new (WithOnePayload payloads t p)) journal bytes run in
       let kept_on = along (λ (j : JournalState) (p : List ℕ). (payloads : List (List ℕ)) (t : List ℕ) → Keeps (may_leave old) j payloads t → Keeps (may_leave new) next.journal payloads t ⊎ Keeps (may_leave new) next.journal payloads p) journal bytes kept in
-      subst (λ (d : DeskState). Serves {T = T} may_leave moment left_since (record { desk = desk; disk = old; since = 0 }) (record { desk = d; disk = new; since = 0 }) (Some e) (Err why))
+      subst (λ (d : DeskState). ServesAll {T = T} may_leave moment left_since (record { desk = desk; disk = old; since = 0 }) (record { desk = d; disk = new; since = 0 }) es (Err why))
       (λ i. record { terms = sym terms i; history = sym history i; journal = next.journal; faults = next.faults })
-      (serves_failed why desk old new next.journal next.faults e follows fits room run_on kept_on)
+      (serves_failed why desk old new next.journal next.faults es add run_on kept_on)
 
   -- where desk and disk are as they were
   pub refused : {T : Type 0} (why : DeskFault) (on next : OnDisk D) (entry : Option Entry) → next ≡ on → ((c : List ℕ) → left_since on.disk (moment on.disk) c → may_leave on.disk c)
@@ -155,6 +187,20 @@ module _ {D : Type 0} (may_leave : D → List ℕ → Type 0) (moment : D → �
       → Serves {T = T} may_leave moment left_since (record { desk = a; disk = old; since = 0 }) (record { desk = b; disk = new; since = 0 }) entry r
       → Serves {T = T} may_leave moment left_since (record { desk = a; disk = old; since = since }) (record { desk = b; disk = new; since = since }) entry r
   serves_since {T} since a b old new entry r s = record {
+    terms = s.terms;
+    since = refl;
+    history = s.history;
+    same = s.same;
+    any_moment = s.any_moment;
+    done = s.done;
+    acknowledged = s.acknowledged;
+    doubted = s.doubted;
+  }
+
+  pub serves_all_since : {T : Type 0} (since : ℕ) (a b : DeskState) (old new : D) (entries : List Entry) (r : Result T DeskFault)
+      → ServesAll {T = T} may_leave moment left_since (record { desk = a; disk = old; since = 0 }) (record { desk = b; disk = new; since = 0 }) entries r
+      → ServesAll {T = T} may_leave moment left_since (record { desk = a; disk = old; since = since }) (record { desk = b; disk = new; since = since }) entries r
+  serves_all_since {T} since a b old new entries r s = record {
     terms = s.terms;
     since = refl;
     history = s.history;

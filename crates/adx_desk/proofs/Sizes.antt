@@ -10,7 +10,7 @@ use Rattle.adx_desk.specs.Histories.{entries_bytes}
 use Rattle.adx_desk.specs.Loading.{TakesFront}
 
 -- entries in one record have fewer bytes than in a record each
-entries_sizes : (es : List Entry) → length (entries_bytes es) + 5 * length es ≡ sum_by record_size es
+pub entries_sizes : (es : List Entry) → length (entries_bytes es) + 5 * length es ≡ sum_by record_size es
 entries_sizes [] = refl
 entries_sizes (e ∷ es) = omega (arith, entries_sizes es, length-append (entry_bytes e) (entries_bytes es), sum_by-cons record_size e es)
 

@@ -6,8 +6,7 @@ use Rattle.day_journal.specs.Faults.{greatest_size}
 use Rattle.day_journal.specs.Tails.{JournalState, size_of}
 use Rattle.day_rules.specs.declared.entry.Entry.{Entry}
 use Rattle.day_rules.specs.Books.{awards_of}
-use Rattle.day_rules.specs.DayState.{DayState, Room}
-use Rattle.day_rules.specs.Legal.{IsLegal}
+use Rattle.day_rules.specs.DayState.{DayState, IsDay, Room}
 use Rattle.adx_desk.specs.Desks.{DeskState, OnDisk}
 use Rattle.adx_desk.specs.declared.fault.DeskFault.{DeskFault}
 use Rattle.adx_desk.specs.Endings.{FailsDisk, NoFault, PassesJournal, size_with}
@@ -30,7 +29,7 @@ on_disk s disk = record { desk = s.desk; disk = disk; since = 0 }
 -- The history is legal, its open awards are counted, and the journal has room for what is held. It is no longer than
 -- that of a record for each entry behind the digest.
 pub record AreJournaled (day : DayState) (digest : List ℕ) (journal : JournalState) (open_awards : ℕ) : Type 0 where
-  pub legal : IsLegal day.terms day.history
+  pub legal : IsDay day.terms day.history
   pub open_are : open_awards ≡ open_count (awards_of day.history)
   pub room : size_of journal + held day.history ≤ greatest_size
   pub short : size_of journal ≤ longest_size (record { day = day.terms; digest = digest }) day.history

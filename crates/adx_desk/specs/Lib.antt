@@ -5,6 +5,7 @@ pub mod Asked
 pub mod Endings
 pub mod Serving
 pub mod Journaled
+pub mod Batches
 pub mod Fields
 pub mod Openings
 pub mod Loading

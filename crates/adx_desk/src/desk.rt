@@ -1,5 +1,5 @@
 //! The desk: a serving day whose history a journal keeps on a disk.
-ghost use Rattle.std.specs.Prelude.{◌≡◌, ◌≤◌, ◌<◌, ◌^◌, length, drop, IfOk, IfErr, OnOk, None};
+ghost use Rattle.std.specs.Prelude.{◌≡◌, ◌+◌, ◌*◌, ◌≤◌, ◌<◌, ◌^◌, [], length, drop, IfOk, IfErr, OnOk, OnErr, Some, None};
 ghost use Rattle.day_journal.specs.Tails.{size_of};
 ghost use Rattle.day_rules.specs.Asks.{IsUndecided, IsWellFormed};
 ghost use Rattle.day_rules.specs.Books.{accounts_in, awards_of};
@@ -7,14 +7,16 @@ ghost use Rattle.day_rules.specs.DayState.{IsDay};
 ghost use Rattle.day_rules.specs.Replies.{ask_reply, notice_reply, seen_in, tick_reply};
 ghost use Rattle.day_rules.specs.Terms.{budgets_after};
 ghost use Rattle.adx_desk.specs.Asked.{ask_for};
+ghost use Rattle.adx_desk.specs.Batches.{answers_in_turn, entries_in_turn};
 ghost use Rattle.adx_desk.specs.Histories.{longest_size};
 ghost use Rattle.adx_desk.specs.Endings.{EndsAsk, EndsNotice, IsWithinRise};
 ghost use Rattle.adx_desk.specs.Opened.{GivesUp, Opens};
 ghost use Rattle.adx_desk.specs.Openings.{HasDiskCause};
 ghost use Rattle.adx_desk.specs.Rosters.{desk_terms};
-ghost use Rattle.adx_desk.specs.Serving.{Serves};
+ghost use Rattle.adx_desk.specs.Serving.{Serves, ServesAll};
 ghost use Rattle.adx_desk.specs.declared.fault.DeskFault.{DeskFault as Fault};
 
+use crate::batch::Batch;
 use crate::done::Done;
 use crate::fault::DeskFault;
 use crate::journaled_day::JournaledDay;
@@ -138,6 +140,23 @@ impl<D: Disk> Desk<D> {
         self.kept.tick(&mut self.disk, &mut self.notices, now)
     }
 
+    /// Answers the calls of a batch that didn't run: each as a notice is answered behind the entries of the calls before
+    /// it. All their entries go into the journal as one record, which grows by five bytes and five for each; where there is
+    /// none, the disk isn't touched. Takes no memory; its only fault is the disk's, after which the batch didn't run.
+    pub fn batch(&mut self, batch: &mut Batch) -> Result<(), DeskFault>
+        requires { batch.old.answers ≡ None }
+        ensures answers { OnOk result (batch.new ≡ record batch.old { answers = Some (answers_in_turn self.old.desk.history batch.old.calls) }) }
+        ensures waits { OnErr result (batch.new ≡ batch.old) }
+        ensures serves { ServesAll D.may_leave D.moment D.left_since self.old self.new (entries_in_turn self.old.desk.history batch.old.calls) result }
+        ensures ends { EndsNotice (D.faults self.old.disk) (D.faults self.new.disk) self.old.desk self.new.desk result }
+        ensures unmoved { entries_in_turn self.old.desk.history batch.old.calls ≡ [] → self.new ≡ self.old }
+        ensures grown { OnOk result (0 < length (entries_in_turn self.old.desk.history batch.old.calls)
+            → size_of self.new.desk.journal ≡ size_of self.old.desk.journal + 5 * length (entries_in_turn self.old.desk.history batch.old.calls) + 5) }
+        ensures lasts { D.lasts self.old.disk self.new.disk }
+    {
+        self.kept.batch(&mut self.disk, &mut self.notices, batch)
+    }
+
     /// Whether a request stands in the history, by its auction and its digest, or its auction with another request.
     pub fn seen(&self, auction: &str, digest: &[u8; 32]) -> Seen
         ensures { result ≡ seen_in self.now.desk.history auction.now digest.now }
@@ -175,6 +194,13 @@ impl<D: Disk> Desk<D> {
         ensures { result ≡ length self.now.desk.history }
     {
         self.kept.day().entries().len() as u64
+    }
+
+    /// How many bytes the journal has: at most 2^32.
+    pub fn journal_size(&self) -> u64
+        ensures { result ≡ size_of self.now.desk.journal }
+    {
+        self.kept.journal_size()
     }
 
     /// How many calls since opening answered a fault of the disk; it stands still at 2^64 - 1. Each of them raised the

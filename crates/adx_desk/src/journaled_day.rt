@@ -1,5 +1,5 @@
 //! A day with the journal of its history; it owns no disk.
-ghost use Rattle.std.specs.Prelude.{◌≡◌, ◌+◌, ◌≤◌, ◌<◌, ◌^◌, ◌++◌, [], ◌∷◌, length, min, IfOk, IfErr, OnOk, OnErr, Some, None, Err};
+ghost use Rattle.std.specs.Prelude.{◌≡◌, ◌+◌, ◌*◌, ◌≤◌, ◌<◌, ◌^◌, ◌++◌, [], ◌∷◌, All, length, min, IfOk, IfErr, OnOk, OnErr, Some, None, Err};
 ghost use Rattle.std.specs.Option.{ForSome};
 ghost use Rattle.adx_io.specs.Streams.{last_count};
 ghost use Rattle.day_journal.specs.Faults.{greatest_size};
@@ -12,19 +12,22 @@ ghost use Rattle.day_rules.specs.DayState.{HasRoomFor, IsDay};
 ghost use Rattle.day_rules.specs.Legal.{MayFollow};
 ghost use Rattle.day_rules.specs.Replies.{ask_reply, notice_reply, tick_reply};
 ghost use Rattle.adx_desk.specs.Asked.{ask_for};
+ghost use Rattle.adx_desk.specs.Batches.{answers_in_turn, entries_in_turn};
 ghost use Rattle.adx_desk.specs.Endings.{EndsAsk, EndsNotice, size_with};
-ghost use Rattle.adx_desk.specs.Held.{held, open_count};
-ghost use Rattle.adx_desk.specs.Histories.{longest_size};
+ghost use Rattle.adx_desk.specs.Held.{held};
+ghost use Rattle.adx_desk.specs.Histories.{entries_bytes, longest_size};
 ghost use Rattle.adx_desk.specs.Journaled.{EndsRecord, beside, day_in, on_disk};
-ghost use Rattle.adx_desk.specs.Serving.{Serves};
+ghost use Rattle.adx_desk.specs.Serving.{Serves, ServesAll};
 ghost use Rattle.adx_desk.specs.declared.fault.DeskFault.{DeskFault as Fault};
 ghost use Rattle.adx_desk.specs.declared.held.TheConstants.{NOTICE_ROOM};
 
+use crate::batch::Batch;
 use crate::copying::{copy_for, copy_in};
 use crate::done::Done;
 use crate::fault::DeskFault;
 use crate::framing::{put_ask, put_notice};
-use crate::held::{EXPIRY_RECORD, GREATEST_SIZE, NOTICE_RECORD, held_by, open_awards};
+use crate::held::{EXPIRY_RECORD, GREATEST_SIZE, NOTICE_RECORD, held_by, open_awards, open_behind};
+use crate::waiting::{Waiting, commit_all};
 use adx_io::{Disk, Frame};
 use adx_units::OutOfMemory;
 use day_journal::{Journal, JournalFault};
@@ -138,20 +141,6 @@ impl JournaledDay {
         }
     }
 
-    /// How many awards have no end behind an entry.
-    fn open_behind(&self, entry: &Entry) -> u64
-        requires { MayFollow self.now.desk.terms.day self.now.desk.history entry.now }
-        ensures { result ≡ open_count (awards_of (self.now.desk.history ++ entry.entry.now ∷ [])) }
-    {
-        match entry {
-            Entry::Ask(ask) => self.without_end + sale_count(ask) as u64,
-            Entry::Win { .. } => self.without_end,
-            Entry::Bill { .. } => self.without_end - 1,
-            Entry::Loss { .. } => self.without_end - 1,
-            Entry::Expire { now } => self.without_end - u64::from(self.day.awards().due(*now)),
-        }
-    }
-
     /// Writes a planned entry, which the frame holds, into the journal, and adds it to the history.
     fn append<D: Disk>(
         &mut self,
@@ -170,7 +159,7 @@ impl JournaledDay {
         ensures lasts { D.lasts disk.old disk.new }
     {
         let held = self.held_beside(&entry);
-        let without_end = self.open_behind(&entry);
+        let without_end = open_behind(&self.day, self.without_end, &entry);
         match self.journal.append(disk, frame, held) {
             Ok(()) => {
                 self.day.commit(entry);
@@ -356,5 +345,77 @@ impl JournaledDay {
             },
             Some(entry) => self.add_ask(alloc, disk, frame, answer, entry),
         }
+    }
+
+    /// Writes the entries of a batch, whose bytes the frame holds, into the journal as one record, and adds them to the
+    /// history, without memory.
+    fn append_all<D: Disk>(
+        &mut self,
+        disk: &mut D,
+        frame: &Frame,
+        calls: &[Waiting],
+    ) -> Result<(), DeskFault>
+        requires payload { frame.now.payload ≡ entries_bytes (entries_in_turn self.old.desk.history calls.now) }
+        requires fits { All Fits (entries_in_turn self.old.desk.history calls.now) }
+        requires some { 0 < length (entries_in_turn self.old.desk.history calls.now) }
+        ensures serves { ServesAll D.may_leave D.moment D.left_since (on_disk self.old disk.old) (on_disk self.new disk.new) (entries_in_turn self.old.desk.history calls.now) result }
+        ensures ends { EndsNotice (D.faults disk.old) (D.faults disk.new) self.old.desk self.new.desk result }
+        ensures grown { OnOk result (size_of self.new.desk.journal ≡ size_of self.old.desk.journal + 5 * length (entries_in_turn self.old.desk.history calls.now) + 5) }
+        ensures lasts { D.lasts disk.old disk.new }
+    {
+        match self.journal.append(disk, frame, 0) {
+            Ok(()) => {
+                self.without_end = commit_all(&mut self.day, self.without_end, calls);
+                Ok(())
+            }
+            Err(JournalFault::DiskFault) => {
+                let faults = self.faults.saturating_add(1);
+                self.faults = faults;
+                Err(DeskFault::DiskFault)
+            }
+            Err(JournalFault::Full { .. }) => unreachable!(),
+            Err(JournalFault::NotAJournal { .. }) => unreachable!(),
+            Err(JournalFault::BadLength { .. }) => unreachable!(),
+            Err(JournalFault::OutOfMemory) => unreachable!(),
+        }
+    }
+
+    /// Answers the calls of a batch, without memory, and adds their entries as one record.
+    pub(crate) fn batch<D: Disk>(
+        &mut self,
+        disk: &mut D,
+        frame: &mut Frame,
+        batch: &mut Batch,
+    ) -> Result<(), DeskFault>
+        requires waits { batch.old.answers ≡ None }
+        requires frame { NOTICE_ROOM ≤ frame.old.spare + length frame.old.payload }
+        ensures answers { OnOk result (batch.new ≡ record batch.old { answers = Some (answers_in_turn self.old.desk.history batch.old.calls) }) }
+        ensures waits { OnErr result (batch.new ≡ batch.old) }
+        ensures serves { ServesAll D.may_leave D.moment D.left_since (on_disk self.old disk.old) (on_disk self.new disk.new) (entries_in_turn self.old.desk.history batch.old.calls) result }
+        ensures ends { EndsNotice (D.faults disk.old) (D.faults disk.new) self.old.desk self.new.desk result }
+        ensures unmoved { entries_in_turn self.old.desk.history batch.old.calls ≡ [] → on_disk self.new disk.new ≡ on_disk self.old disk.old }
+        ensures grown { OnOk result (0 < length (entries_in_turn self.old.desk.history batch.old.calls)
+            → size_of self.new.desk.journal ≡ size_of self.old.desk.journal + 5 * length (entries_in_turn self.old.desk.history batch.old.calls) + 5) }
+        ensures frame { NOTICE_ROOM ≤ frame.new.spare + length frame.new.payload }
+        ensures lasts { D.lasts disk.old disk.new }
+    {
+        batch.run(&self.day, frame);
+        if frame.payload().is_empty() {
+            return Ok(());
+        }
+        match self.append_all(disk, frame, batch.calls()) {
+            Ok(()) => Ok(()),
+            Err(fault) => {
+                batch.wait();
+                Err(fault)
+            }
+        }
+    }
+
+    /// How many bytes the journal has.
+    pub(crate) fn journal_size(&self) -> u64
+        ensures { result ≡ size_of self.now.desk.journal }
+    {
+        self.journal.size()
     }
 }

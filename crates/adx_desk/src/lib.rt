@@ -7,6 +7,7 @@
 //! Stands on `deal_floor` (a roster), `day_machine`, `day_entries`, `day_journal`, `adx_io` and `sha2`.
 #![tactic(auto)]
 
+mod batch;
 mod copying;
 mod desk;
 mod done;
@@ -23,7 +24,9 @@ mod record_reading;
 mod roster_day;
 mod shared;
 mod turn;
+mod waiting;
 
+pub use batch::{BATCH_LIMIT, Batch};
 pub use desk::Desk;
 pub use done::Done;
 pub use fault::DeskFault;
@@ -33,6 +36,8 @@ pub use lines::{answer_line, fault_line, table_of};
 pub use shared::OpenedWith;
 pub use turn::{Call, Turn};
 
+#[cfg(test)]
+mod batch_tests;
 #[cfg(test)]
 mod file_tests;
 #[cfg(test)]

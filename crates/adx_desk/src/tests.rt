@@ -191,12 +191,12 @@ pub(crate) fn answer<D: Disk>(
 
 /// What became of a disk under the script: how many entries were acknowledged, and how many were tried since.
 #[derive(Drop)]
-struct Played {
-    disk: MemoryDisk,
-    acknowledged: u64,
-    doubted: u64,
-    wrong: u64,
-    faults: u64,
+pub(crate) struct Played {
+    pub(crate) disk: MemoryDisk,
+    pub(crate) acknowledged: u64,
+    pub(crate) doubted: u64,
+    pub(crate) wrong: u64,
+    pub(crate) faults: u64,
 }
 
 /// Plays the script on a desk, and counts the answers that aren't the script's.
@@ -271,7 +271,11 @@ fn found(alloc: Global, disk: MemoryDisk, roster: &Roster) -> Result<u64, DeskFa
 }
 
 /// How many images of a disk have neither what was acknowledged nor that and what was tried since.
-fn wrong_images(alloc: Global, roster: &Roster, played: &Played) -> Result<u64, DeskFault> {
+pub(crate) fn wrong_images(
+    alloc: Global,
+    roster: &Roster,
+    played: &Played,
+) -> Result<u64, DeskFault> {
     let mut wrong: u64 = 0;
     for (picks, fill) in IMAGES {
         let image = played.disk.image(alloc, &picks, fill)?;

@@ -7,14 +7,17 @@ use Rattle.day_journal.specs.Faults.{greatest_size}
 use Rattle.day_journal.specs.Tails.{JournalState, size_after}
 use Rattle.day_entries.specs.Spelling.{entry_bytes}
 use Rattle.day_rules.specs.declared.entry.Entry.{Entry}
+use Rattle.day_rules.specs.Books.{awards_of}
 use Rattle.day_rules.specs.DayState.{HasRoomFor}
 use Rattle.day_rules.specs.Legal.{MayFollow}
 use Rattle.adx_desk.specs.Desks.{DeskState}
 use Rattle.adx_desk.specs.Endings.{size_with}
+use Rattle.adx_desk.specs.Held.{open_count}
 use Rattle.adx_desk.specs.Journaled.{JournaledState, beside, day_in, on_disk}
-use Rattle.adx_desk.proofs.Inside.{journaled_pushed, known, some_bytes}
-use Rattle.adx_desk.proofs.Keeping.{fits_with, notice_fits, passes_with}
-use Rattle.adx_desk.proofs.Serving.{added, failed, refused}
+use Rattle.adx_desk.proofs.Inside.{journaled_added, known, some_bytes}
+use Rattle.adx_desk.proofs.Keeping.{fits_with, may_add, notice_fits, passes_with}
+use Rattle.adx_desk.proofs.Records.{one_bytes}
+use Rattle.adx_desk.proofs.Serving.{added, failed, refused, serves_one}
 use Rattle.adx_desk.proofs.journaled_day.JournaledDay.append.Goals as goal
 
 sizes : (a b : JournalState) (p q : List ℕ) (h k : ℕ) → a ≡ b → p ≡ q → h ≡ k → size_after a p h ≡ size_after b q k
@@ -22,6 +25,10 @@ sizes a b p q h k x y z = λ i. size_after (x i) (y i) (z i)
 
 pub append-requires : goal.append-requires
 append-requires g c = subst (λ (p : List ℕ). 0 < length p) (sym c.requires.payload) (some_bytes c.args.entry)
+
+pub open_behind-without_end-requires-clause-follows : goal.open_behind-without_end-requires-clause-follows
+open_behind-without_end-requires-clause-follows g c =
+    subst (λ (s : JournaledState). MayFollow s.desk.terms.day s.desk.history c.args.entry) (sym c.self.view_is) c.requires.follows
 
 pub commit-requires-clause-legal : goal.commit-requires-clause-legal
 commit-requires-clause-legal g c =
@@ -38,10 +45,10 @@ invariant_of-self g c =
     let journal : c.self.inside.journal ≡ s.desk.journal = ap (λ (t : JournaledState). t.desk.journal) c.self.view_is in
     let room : size_with s.desk e ≤ greatest_size =
     fits_with s.desk e c.requires.follows k.room (subst (λ (n : ℕ). n ≤ greatest_size) (sizes _ _ _ _ _ _ journal c.requires.payload c.held_beside-held.ensures) c.in-Ok.ensures.ends.0) in
-    journaled_pushed c.self.inside.day c.commit.new.self c.self.inside.digest c.self.inside.journal c.append.new.self s.desk c.self.inside.without_end c.open_behind-without_end.result c.args.frame.now.payload e
-    c.commit.ensures.terms c.commit.ensures.history c.self.invariant
-    (subst (λ (t : JournaledState). MayFollow t.desk.terms.day t.desk.history e) (sym c.self.view_is) c.requires.follows)
-    journal (ap (λ (t : JournaledState). t.desk.history) c.self.view_is) c.requires.payload c.in-Ok.ensures.grown room c.open_behind-without_end.ensures
+    journaled_added c.self.inside.day c.commit.new.self c.self.inside.digest c.self.inside.journal c.append.new.self s.desk c.self.inside.without_end c.open_behind-without_end.result c.args.frame.now.payload (e ∷ [])
+    c.commit.ensures.terms c.commit.ensures.history c.self.invariant journal (ap (λ (t : JournaledState). t.desk.terms.day) c.self.view_is) (ap (λ (t : JournaledState). t.desk.history) c.self.view_is)
+    (c.requires.payload ∙ sym (one_bytes e)) c.in-Ok.ensures.grown (may_add s.desk e k.legal c.requires.follows c.requires.fits room)
+    (c.open_behind-without_end.ensures ∙ ap (λ (h : List Entry). open_count (awards_of h)) (sym c.commit.ensures.history))
 
 pub returns-in-Ok-clause-serves : goal.returns-in-Ok-clause-serves
 returns-in-Ok-clause-serves g c =
@@ -61,8 +68,9 @@ returns-in-Ok-clause-serves g c =
     let terms : next.terms ≡ s.desk.terms =
     ap (λ t. record { day = t; digest = c.self.inside.digest }) c.commit.ensures.terms ∙ ap (λ (t : JournaledState). t.desk.terms) c.self.view_is in
     let history : next.history ≡ s.desk.history ++ e ∷ [] = c.commit.ensures.history ∙ ap (λ (t : JournaledState). t.desk.history ++ e ∷ []) c.self.view_is in
-    added D.may_leave D.moment D.left_since _ s.desk next c.self.inside.journal c.args.frame.now.payload c.args.disk.now c.append.new.disk e
-    journal c.requires.payload terms history c.requires.follows c.requires.fits room c.in-Ok.ensures.any_moment c.in-Ok.ensures.acknowledged
+    serves_one D.may_leave D.moment D.left_since _ _ e _
+    (added D.may_leave D.moment D.left_since _ s.desk next c.self.inside.journal c.args.frame.now.payload c.args.disk.now c.append.new.disk (e ∷ [])
+    journal (c.requires.payload ∙ sym (one_bytes e)) terms history (may_add s.desk e k.legal c.requires.follows c.requires.fits room) c.in-Ok.ensures.any_moment c.in-Ok.ensures.acknowledged)
 
 pub returns-in-Ok-clause-ends : goal.returns-in-Ok-clause-ends
 returns-in-Ok-clause-ends g c =
@@ -90,9 +98,10 @@ returns-in-Err-DiskFault-clause-serves g c =
       journal = c.append.new.self;
       faults = c.saturating_add-self-inside.result;
     } in
-    failed D.may_leave D.moment D.left_since _ s.desk next c.self.inside.journal c.args.frame.now.payload c.args.disk.now c.append.new.disk e
-    journal c.requires.payload (ap (λ (t : JournaledState). t.desk.terms) c.self.view_is) (ap (λ (t : JournaledState). t.desk.history) c.self.view_is)
-    c.requires.follows c.requires.fits room c.in-Err-DiskFault.ensures.any_moment c.in-Err-DiskFault.ensures.doubted
+    serves_one D.may_leave D.moment D.left_since _ _ e _
+    (failed D.may_leave D.moment D.left_since _ s.desk next c.self.inside.journal c.args.frame.now.payload c.args.disk.now c.append.new.disk (e ∷ [])
+    journal (c.requires.payload ∙ sym (one_bytes e)) (ap (λ (t : JournaledState). t.desk.terms) c.self.view_is) (ap (λ (t : JournaledState). t.desk.history) c.self.view_is)
+    (may_add s.desk e k.legal c.requires.follows c.requires.fits room) c.in-Err-DiskFault.ensures.any_moment c.in-Err-DiskFault.ensures.doubted)
 
 pub returns-in-Err-DiskFault-clause-ends : goal.returns-in-Err-DiskFault-clause-ends
 returns-in-Err-DiskFault-clause-ends g c =

@@ -1,0 +1,46 @@
+-- By the day with its journal.
+use Rattle.std.proofs.Common.{◌≡◌, ◌+◌, ◌*◌, ◌<◌, length, Some, ◌∙◌, ap, subst}
+use Rattle.std.specs.Prelude.{OnOk}
+use Rattle.day_journal.specs.Tails.{size_of}
+use Rattle.adx_desk.specs.Batches.{BatchState, answers_in_turn, entries_in_turn}
+use Rattle.adx_desk.specs.Desks.{OnDisk}
+use Rattle.adx_desk.specs.Endings.{EndsNotice}
+use Rattle.adx_desk.specs.Serving.{ServesAll}
+use Rattle.adx_desk.proofs.Rises.{notice_within}
+use Rattle.adx_desk.proofs.Serving.{serves_all_since}
+use Rattle.adx_desk.proofs.desk.Desk.batch.Goals as goal
+
+pub returns-clause-answers : goal.returns-clause-answers
+returns-clause-answers g c =
+    let was : BatchState = c.args.batch.now in
+    subst (λ (o : OnDisk _). OnOk c.batch.result (c.batch.new.batch ≡ record was { answers = Some (answers_in_turn o.desk.history was.calls) })) c.self.view_is c.batch.ensures.answers
+
+pub returns-clause-serves : goal.returns-clause-serves
+returns-clause-serves g c =
+    let D = g.D.Disk in
+    subst (λ (o : OnDisk _). ServesAll D.may_leave D.moment D.left_since o (record { desk = c.batch.new.self.desk; disk = c.batch.new.disk; since = g.D.Disk.faults c.self.inside.opened.value }) (entries_in_turn o.desk.history c.args.batch.now.calls) c.batch.result) c.self.view_is
+    (serves_all_since D.may_leave D.moment D.left_since (D.faults c.self.inside.opened.value) c.self.inside.kept.desk c.batch.new.self.desk c.self.inside.disk c.batch.new.disk _ c.batch.result c.batch.ensures.serves)
+
+pub returns-clause-ends : goal.returns-clause-ends
+returns-clause-ends g c =
+    let D = g.D.Disk in
+    subst (λ (o : OnDisk _). EndsNotice (D.faults o.disk) (D.faults c.batch.new.disk) o.desk c.batch.new.self.desk c.batch.result) c.self.view_is c.batch.ensures.ends
+
+pub returns-clause-unmoved : goal.returns-clause-unmoved
+returns-clause-unmoved g c = λ none.
+    ap (λ (o : OnDisk _). record o { since = g.D.Disk.faults c.self.inside.opened.value }) (c.batch.ensures.unmoved (ap (λ (o : OnDisk _). entries_in_turn o.desk.history c.args.batch.now.calls) c.self.view_is ∙ none)) ∙ c.self.view_is
+
+pub returns-clause-grown : goal.returns-clause-grown
+returns-clause-grown g c =
+    subst (λ (o : OnDisk _). OnOk c.batch.result (0 < length (entries_in_turn o.desk.history c.args.batch.now.calls) → size_of c.batch.new.self.desk.journal ≡ size_of o.desk.journal + 5 * length (entries_in_turn o.desk.history c.args.batch.now.calls) + 5)) c.self.view_is c.batch.ensures.grown
+
+pub returns-clause-lasts : goal.returns-clause-lasts
+returns-clause-lasts g c = subst (λ (o : OnDisk _). g.D.Disk.lasts o.disk c.batch.new.disk) c.self.view_is c.batch.ensures.lasts
+
+pub invariant_of-self : goal.invariant_of-self
+invariant_of-self g c =
+    let D = g.D.Disk in
+    record {
+      room = c.batch.ensures.frame;
+      within = notice_within (D.faults c.self.inside.opened.value) (D.faults c.self.inside.disk) (D.faults c.batch.new.disk) c.self.inside.kept.desk c.batch.new.self.desk c.batch.result c.batch.ensures.ends c.self.invariant.within;
+    }

@@ -1,0 +1,6 @@
+use Rattle.std.proofs.Common.{ap, arith}
+use Rattle.adx_desk.specs.Journaled.{JournaledState}
+use Rattle.adx_desk.proofs.journaled_day.JournaledDay.journal_size.Goals as goal
+
+pub returns : goal.returns
+returns c = omega (arith, c.size.ensures, c.self.invariant.room, ap (λ (t : JournaledState). t.desk.journal.gate) c.self.view_is)
