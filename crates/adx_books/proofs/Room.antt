@@ -2,9 +2,9 @@
 use Rattle.std.proofs.Common.{◌≡◌, ◌≢◌, ℕ, suc, ◌+◌, ◌*◌, ◌<◌, ◌≤◌, ◌^◌, List, [], ◌∷◌, ◌++◌, length, Bool, true, false, ◌==◌, nat_lt, max, All, Option, Some, None, IfSome, slice_get, if◌then◌else◌, refl, sym, ap, ◌∙◌, subst, arith, length-append, append_assoc}
 use Rattle.std.specs.List.{flat_map, sum_by}
 use Rattle.std.proofs.lemmas.List.Elements.{All-nil, All-cons, All-head, All-tail}
-use Rattle.adx_desk.specs.Held.{held, record_size}
+use Rattle.notice_batches.specs.Held.{held, record_size}
 use Rattle.adx_desk.specs.Histories.{DeskTerms, longest_size}
-use Rattle.adx_desk.proofs.Holding.{held_ask, held_falls}
+use Rattle.notice_batches.proofs.Holding.{held_ask, held_falls}
 use Rattle.answer_lines.specs.declared.faults.Fault.{Fault}
 use Rattle.day_journal.specs.Places.{head, open_place}
 use Rattle.day_entries.specs.Spelling.{IsNoAsk}

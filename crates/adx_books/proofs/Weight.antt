@@ -9,7 +9,7 @@ use Rattle.sha2.proofs.Facts256.{length-sha256}
 use Rattle.adx_units.specs.declared.offer.Offer.{Offer}
 use Rattle.allocator_core.proofs.Settled.{length-settled}
 use Rattle.allocator_core.specs.declared.reason.TheConstants.{AWARDED}
-use Rattle.adx_desk.specs.Held.{held, record_size}
+use Rattle.notice_batches.specs.Held.{held, record_size}
 use Rattle.day_entries.specs.Spelling.{all_kept_bytes, imps_bytes, kept_bytes, offer_bytes, offers_bytes, text_bytes}
 use Rattle.day_rules.specs.declared.ask.Ask.{Ask}
 use Rattle.day_rules.specs.declared.ask.Kept.{Kept}

@@ -1,21 +1,18 @@
--- The ask that the answer to an ask speaks of, and the entries that notices and ticks add.
-use Rattle.std.proofs.Common.{◌≡◌, ℕ, ◌-◌, List, [], ◌∷◌, ◌++◌, length, Bool, true, false, cond, ltb, ◌∙◌, ap, subst, arith, Option, Some, None, IfSome}
+-- The ask that the answer to an ask speaks of.
+use Rattle.std.proofs.Common.{◌≡◌, ◌-◌, List, [], ◌∷◌, ◌++◌, length, Bool, true, false, cond, ltb, ◌∙◌, ap, subst, arith, Option, Some, None, IfSome}
 use Rattle.std.specs.List.{slice_get}
 use Rattle.std.specs.Option.{ForSome}
 use Rattle.std.proofs.lemmas.Bool.{cond_both}
 use Rattle.std.proofs.lemmas.Option.{none-some, same_Some}
-use Rattle.notice_book.specs.declared.kind.NoticeKind.{NoticeKind}
-use Rattle.day_entries.specs.Spelling.{IsNoAsk}
 use Rattle.day_rules.specs.declared.answer.Answer.{Answer}
 use Rattle.day_rules.specs.declared.answer.Seen.{Seen}
 use Rattle.day_rules.specs.declared.ask.Ask.{Ask}
 use Rattle.day_rules.specs.declared.entry.Entry.{Entry}
 use Rattle.day_rules.specs.Books.{ask_at}
-use Rattle.day_rules.specs.Entries.{asked, entry_of_notice}
+use Rattle.day_rules.specs.Entries.{asked}
 use Rattle.day_rules.specs.Asks.{settled}
-use Rattle.day_rules.specs.Replies.{Reply, ask_reply, ask_reply_by, asks_with, bids_with, text_with, is_awarded, notice_reply, seen_in, settled_reply, tick_reply}
+use Rattle.day_rules.specs.Replies.{Reply, ask_reply, ask_reply_by, asks_with, bids_with, text_with, is_awarded, seen_in, settled_reply}
 use Rattle.day_rules.specs.Terms.{Terms}
-use Rattle.day_rules.proofs.Following.{notice_entry, tick_entry}
 use Rattle.day_rules.proofs.Lists.{get-append_right}
 use Rattle.adx_desk.specs.Asked.{ask_for}
 
@@ -64,15 +61,3 @@ reply_speaks terms history a x e answer entry =
 pub for_some : (P : Entry → Type 0) (o : Option Entry) → IfSome o P → ForSome o P
 for_some P None h = λ e is. absurd (none-some e is)
 for_some P (Some x) h = λ e is. subst P (same_Some x e is) h
-
-notice_none : (kind : NoticeKind) (n : ℕ) → IsNoAsk (entry_of_notice kind n)
-notice_none NoticeKind.Win n = tt
-notice_none NoticeKind.Bill n = tt
-notice_none NoticeKind.Loss n = tt
-
--- the entry that a notice or a tick adds is no ask
-pub notice_no_ask : (history : List Entry) (kind : NoticeKind) (auction : List ℕ) (n : ℕ) → IfSome (notice_reply history kind auction n).entry IsNoAsk
-notice_no_ask history kind auction n = notice_entry history kind auction n IsNoAsk (λ c. notice_none kind n)
-
-pub tick_no_ask : (history : List Entry) (now : ℕ) → IfSome (tick_reply history now).entry IsNoAsk
-tick_no_ask history now = tick_entry history now IsNoAsk (λ some. tt)

@@ -5,8 +5,7 @@ use Rattle.std.proofs.lemmas.Option.{same_Some}
 use Rattle.adx_io.specs.Disks.{AsRead, LeavesOnly}
 use Rattle.day_journal.specs.Openings.{OnlyReads, OpeningState}
 use Rattle.day_journal.specs.Places.{IsClosed, IsPayload, StandsFor, opened}
-use Rattle.day_journal.specs.Tails.{JournalState, Keeps}
-use Rattle.day_journal.specs.Tails.{WithAtMostOne as WithOnePayload}
+use Rattle.day_journal.specs.Tails.{JournalState, Keeps, WithAtMostOne as WithOnePayload}
 use Rattle.day_journal.proofs.Moments.{joined, weaker}
 use Rattle.day_rules.specs.declared.entry.Entry.{Entry}
 use Rattle.adx_desk.specs.Histories.{AreRecords, DeskTerms, SameHistories}

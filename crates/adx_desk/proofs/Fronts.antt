@@ -3,13 +3,12 @@ use Rattle.std.proofs.Common.{◌≡◌, inl, inr, ℕ, ◌<◌, List, [], ◌�
 use Rattle.std.proofs.lemmas.Grind.{flat_map-append}
 use Rattle.std.proofs.lemmas.List.{append-nil}
 use Rattle.std.proofs.lemmas.List.Elements.{All-cons, All-nil, All-push}
-use Rattle.day_entries.specs.Spelling.{BeginsWith, Fits, entry_bytes}
+use Rattle.day_entries.specs.Spelling.{BeginsWith, Fits, entry_bytes, entries_bytes}
 use Rattle.day_rules.specs.declared.entry.Entry.{Entry}
 use Rattle.day_rules.specs.Legal.{IsLegal, MayFollow}
 use Rattle.day_rules.specs.Terms.{Terms}
 use Rattle.day_rules.proofs.Histories.{legal_push}
 use Rattle.adx_desk.specs.declared.fault.DeskFault.{DeskFault}
-use Rattle.adx_desk.specs.Histories.{entries_bytes}
 use Rattle.adx_desk.specs.Loading.{BehindFront, LacksNext, RefusesEntry, RefusesNext, RefusesRecord, TakesEntry, TakesFront}
 use Rattle.adx_desk.proofs.Inside.{some_bytes}
 use Rattle.adx_desk.proofs.Records.{one_bytes}

@@ -4,15 +4,15 @@ use Rattle.std.specs.List.{sum_by}
 use Rattle.std.proofs.lemmas.List.Sums.{sum_by-append}
 use Rattle.day_journal.specs.Faults.{greatest_size}
 use Rattle.day_journal.specs.Tails.{JournalState, size_of}
-use Rattle.day_entries.specs.Spelling.{entry_bytes}
+use Rattle.day_entries.specs.Spelling.{entry_bytes, entries_bytes}
 use Rattle.day_rules.specs.declared.entry.Entry.{Entry}
 use Rattle.day_rules.specs.Books.{awards_of}
 use Rattle.day_rules.specs.DayState.{DayState}
 use Rattle.day_rules.specs.Legal.{IsLegal}
 use Rattle.day_rules.specs.Terms.{AreTerms, Terms}
 use Rattle.adx_desk.specs.Desks.{DeskState}
-use Rattle.adx_desk.specs.Held.{held, open_count, record_size}
-use Rattle.adx_desk.specs.Histories.{entries_bytes, longest_size}
+use Rattle.notice_batches.specs.Held.{held, open_count, record_size}
+use Rattle.adx_desk.specs.Histories.{longest_size}
 use Rattle.adx_desk.specs.Journaled.{AreJournaled, JournaledState}
 use Rattle.adx_desk.proofs.Keeping.{MayAdd}
 use Rattle.adx_desk.proofs.Sizes.{entries_sizes}

@@ -3,20 +3,19 @@ use Rattle.std.proofs.Common.{◌≡◌, ◌⊎◌, ⊎_elim, inl, inr, ℕ, ◌
 use Rattle.std.proofs.lemmas.Bool.{false≢true}
 use Rattle.adx_io.specs.Disks.{Each, LeavesOnly}
 use Rattle.day_journal.specs.Faults.{greatest_size}
-use Rattle.day_journal.specs.Tails.{JournalState, Keeps, size_of, size_after}
-use Rattle.day_journal.specs.Tails.{WithAtMostOne as WithOnePayload}
+use Rattle.day_journal.specs.Tails.{JournalState, Keeps, size_of, size_after, WithAtMostOne as WithOnePayload}
 use Rattle.day_journal.proofs.Keeping.{keeps_stand, place_after}
 use Rattle.day_journal.proofs.Moments.{started, weaker}
-use Rattle.day_entries.specs.Spelling.{Fits, IsNoAsk, entry_bytes}
+use Rattle.day_entries.specs.Spelling.{Fits, IsNoAsk, entry_bytes, entries_bytes}
 use Rattle.day_rules.specs.declared.entry.Entry.{Entry}
 use Rattle.day_rules.specs.Legal.{IsLegal, MayFollow}
 use Rattle.day_rules.proofs.Histories.{legal_push}
 use Rattle.adx_desk.specs.Desks.{DeskKeeps, DeskState, MayStandBehind}
 use Rattle.adx_desk.specs.Endings.{size_with}
-use Rattle.adx_desk.specs.Held.{held}
-use Rattle.adx_desk.specs.Histories.{IsRecord, WithAtMostOne, WithOrWithout, entries_bytes}
+use Rattle.notice_batches.specs.Held.{held}
+use Rattle.adx_desk.specs.Histories.{IsRecord, WithAtMostOne, WithOrWithout}
 use Rattle.adx_desk.specs.Journaled.{beside}
-use Rattle.adx_desk.proofs.Holding.{held_falls}
+use Rattle.notice_batches.proofs.Holding.{held_falls}
 use Rattle.adx_desk.proofs.Records.{behind_stands, history_stands, no_empty, one_bytes, one_record, records_push}
 
 -- a journal that isn't in doubt keeps its payloads with any tail

@@ -1,16 +1,13 @@
 pub mod Records
-pub mod Holding
 pub mod Keeping
 pub mod Serving
 pub mod Spelled
 pub mod Sizes
 pub mod Inside
-pub mod Calls
-pub mod InTurn
+pub mod Batching
 pub mod Asked
 pub mod Ending
 pub mod Rises
-pub mod OpenAwards
 pub mod Fronts
 pub mod ReadRecords
 pub mod OpenedDays

@@ -3,10 +3,10 @@ use Rattle.std.proofs.Common.{◌≡◌, ℕ, ◌<◌, List, [], ◌∷◌, ◌+
 use Rattle.std.proofs.lemmas.List.{drop_at}
 use Rattle.std.proofs.lemmas.List.Elements.{All-head, All-tail}
 use Rattle.std.proofs.lemmas.Option.{same_Some}
-use Rattle.day_entries.specs.Spelling.{BeginsWith, Fits, entry_bytes}
+use Rattle.day_entries.specs.Spelling.{BeginsWith, Fits, entry_bytes, entries_bytes}
 use Rattle.day_entries.proofs.Entries.{read_again}
 use Rattle.day_rules.specs.declared.entry.Entry.{Entry}
-use Rattle.adx_desk.specs.Histories.{IsRecord, entries_bytes}
+use Rattle.adx_desk.specs.Histories.{IsRecord}
 use Rattle.adx_desk.proofs.Inside.{some_bytes}
 
 -- the first entry, and what stands behind it

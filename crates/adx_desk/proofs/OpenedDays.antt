@@ -9,8 +9,7 @@ use Rattle.adx_io.specs.Streams.{last_count}
 use Rattle.day_journal.specs.declared.fault.JournalFault.{JournalFault}
 use Rattle.day_journal.specs.Faults.{EndsAppend, EndsOpening, Refuses, greatest_size}
 use Rattle.day_journal.specs.Places.{IsPayload, IsUnfinished, StandsFor, new_file, open_place, opened}
-use Rattle.day_journal.specs.Starts.{KeptOrMade}
-use Rattle.day_journal.specs.Starts.{StandsAsOneOf as StandsAsOnePayloads}
+use Rattle.day_journal.specs.Starts.{KeptOrMade, StandsAsOneOf as StandsAsOnePayloads}
 use Rattle.day_journal.specs.Tails.{JournalState, size_of}
 use Rattle.day_journal.proofs.Apart.{stands_or_bad, stands_or_no_head}
 use Rattle.day_journal.proofs.Keeping.{place_after}
@@ -20,12 +19,13 @@ use Rattle.day_rules.specs.declared.entry.Entry.{Entry}
 use Rattle.day_rules.specs.Legal.{IsLegal}
 use Rattle.adx_desk.specs.declared.fault.DeskFault.{DeskFault}
 use Rattle.adx_desk.specs.Desks.{DeskKeeps}
-use Rattle.adx_desk.specs.Held.{held}
-use Rattle.adx_desk.specs.Histories.{AreRecords, DeskTerms, IsHistoryOf, SameHistories, Spells, entries_bytes}
+use Rattle.notice_batches.specs.Held.{held}
+use Rattle.adx_desk.specs.Histories.{AreRecords, DeskTerms, IsHistoryOf, SameHistories, Spells}
+use Rattle.day_entries.specs.Spelling.{entries_bytes}
 use Rattle.adx_desk.specs.Loading.{HasOpened}
 use Rattle.adx_desk.specs.Openings.{HasDiskCause, HasNoRoom, IsRefusal, RefusesDesk, StandsAsOneOf, fault_of}
 use Rattle.adx_desk.proofs.Keeping.{sure_by_none}
-use Rattle.adx_desk.proofs.OpenAwards.{none_held}
+use Rattle.notice_batches.proofs.OpenAwards.{none_held}
 use Rattle.adx_desk.proofs.Records.{no_records}
 
 -- how many bytes a journal with these payloads has

@@ -5,8 +5,7 @@ use Rattle.day_journal.specs.declared.fault.JournalFault.{JournalFault}
 use Rattle.day_journal.specs.Faults.{Refuses}
 use Rattle.day_journal.specs.Openings.{OpeningState, StandsBehind}
 use Rattle.day_journal.specs.Places.{new_file}
-use Rattle.day_journal.specs.Starts.{KeptOrMade}
-use Rattle.day_journal.specs.Starts.{StandsAsOneOf as StandsAsOnePayloads}
+use Rattle.day_journal.specs.Starts.{KeptOrMade, StandsAsOneOf as StandsAsOnePayloads}
 use Rattle.day_journal.proofs.Moments.{started}
 use Rattle.day_rules.specs.declared.entry.Entry.{Entry}
 use Rattle.adx_desk.specs.declared.fault.DeskFault.{DeskFault}

@@ -15,7 +15,8 @@ use Rattle.day_rules.specs.Terms.{Terms}
 use Rattle.day_rules.proofs.Counting.{day_entries}
 use Rattle.day_rules.proofs.Histories.{legal_none}
 use Rattle.adx_desk.specs.declared.fault.DeskFault.{DeskFault}
-use Rattle.adx_desk.specs.Histories.{AreRecords, DeskTerms, IsRecord, Spells, entries_bytes}
+use Rattle.adx_desk.specs.Histories.{AreRecords, DeskTerms, IsRecord, Spells}
+use Rattle.day_entries.specs.Spelling.{entries_bytes}
 use Rattle.adx_desk.specs.Loading.{HasRead, HasReadAll, RefusesRecord, TakesFront}
 use Rattle.adx_desk.specs.Openings.{HasBadRecord, RefusesDesk, fault_of, told_of}
 use Rattle.adx_desk.proofs.Records.{last_payload, no_records, records_push}

@@ -1,15 +1,15 @@
 -- Records behind records, and what a file with them stands for.
-use Rattle.std.proofs.Common.{◌≡◌, inl, inr, ℕ, ◌+◌, List, [], ◌∷◌, ◌++◌, All, refl, sym, ◌∙◌, ap, arith}
+use Rattle.std.proofs.Common.{◌≡◌, inl, inr, ℕ, List, [], ◌∷◌, ◌++◌, All, refl, sym, ◌∙◌, ap, arith}
 use Rattle.std.proofs.lemmas.Grind.{flat_map-append}
 use Rattle.std.proofs.lemmas.List.{append-nil, map-append}
 use Rattle.std.proofs.lemmas.List.Elements.{All-cons, All-head, All-nil, All-push, All-tail}
 use Rattle.std.specs.List.{flat_map}
 use Rattle.day_journal.specs.Places.{IsPayload, StandsFor}
-use Rattle.day_entries.specs.Spelling.{Fits, entry_bytes}
+use Rattle.day_entries.specs.Spelling.{Fits, entry_bytes, entries_bytes}
 use Rattle.day_rules.specs.declared.entry.Entry.{Entry}
 use Rattle.day_rules.specs.Legal.{IsLegal}
 use Rattle.adx_desk.specs.Desks.{MayStandBehind}
-use Rattle.adx_desk.specs.Histories.{AreRecords, DeskTerms, HasRoom, IsHistoryOf, IsRecord, entries_bytes}
+use Rattle.adx_desk.specs.Histories.{AreRecords, DeskTerms, HasRoom, IsHistoryOf, IsRecord}
 
 -- one entry is a record
 pub one_record : (e : Entry) → Fits e → IsRecord (e ∷ [])

@@ -3,12 +3,12 @@ use Rattle.std.proofs.Common.{◌≡◌, ◌⊎◌, inl, ℕ, List, [], ◌∷�
 use Rattle.std.specs.Prelude.{Result, Ok, Err, IfErr}
 use Rattle.std.proofs.lemmas.List.{append-nil}
 use Rattle.adx_io.specs.Disks.{LeavesOnly}
-use Rattle.day_journal.specs.Tails.{JournalState, Keeps}
-use Rattle.day_journal.specs.Tails.{WithAtMostOne as WithOnePayload}
+use Rattle.day_journal.specs.Tails.{JournalState, Keeps, WithAtMostOne as WithOnePayload}
 use Rattle.day_rules.specs.declared.entry.Entry.{Entry}
 use Rattle.adx_desk.specs.declared.fault.DeskFault.{DeskFault}
-use Rattle.adx_desk.specs.Desks.{DeskState, OnDisk, added_by}
-use Rattle.adx_desk.specs.Histories.{entries_bytes}
+use Rattle.adx_desk.specs.Desks.{DeskState, OnDisk}
+use Rattle.notice_batches.specs.Batches.{added_by}
+use Rattle.day_entries.specs.Spelling.{entries_bytes}
 use Rattle.adx_desk.specs.Serving.{Serves, ServesAll}
 use Rattle.adx_desk.proofs.Keeping.{MayAdd, after_fault, keeps_doubted, keeps_pushed, moments_pushed, moments_same}
 

@@ -2,11 +2,10 @@
 use Rattle.std.proofs.Common.{◌≡◌, ℕ, ◌+◌, ◌*◌, ◌≤◌, List, [], ◌∷◌, length, refl, ◌∙◌, ap, arith, length-append}
 use Rattle.std.specs.List.{sum_by}
 use Rattle.std.proofs.lemmas.List.Sums.{sum_by-append, sum_by-cons}
-use Rattle.day_entries.specs.Spelling.{entry_bytes}
+use Rattle.day_entries.specs.Spelling.{entry_bytes, entries_bytes}
 use Rattle.day_rules.specs.declared.entry.Entry.{Entry}
 use Rattle.day_rules.specs.Terms.{Terms}
-use Rattle.adx_desk.specs.Held.{record_size}
-use Rattle.adx_desk.specs.Histories.{entries_bytes}
+use Rattle.notice_batches.specs.Held.{record_size}
 use Rattle.adx_desk.specs.Loading.{TakesFront}
 
 -- entries in one record have fewer bytes than in a record each

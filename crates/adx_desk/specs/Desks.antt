@@ -1,9 +1,10 @@
 -- What a contract sees of a desk, and what its disk keeps of the history. This project's own.
-use Rattle.std.specs.Prelude.{ℕ, List, [], ◌∷◌, ◌++◌, Option, Some, None, IsTrue}
+use Rattle.std.specs.Prelude.{ℕ, List, [], ◌∷◌, ◌++◌, IsTrue}
 use Rattle.day_journal.specs.Tails.{JournalState, Keeps}
 use Rattle.day_rules.specs.declared.entry.Entry.{Entry}
 use Rattle.day_rules.specs.Legal.{IsLegal}
-use Rattle.adx_desk.specs.Histories.{AreRecords, DeskTerms, HasRoom, IsRecord, entries_bytes}
+use Rattle.adx_desk.specs.Histories.{AreRecords, DeskTerms, HasRoom, IsRecord}
+use Rattle.day_entries.specs.Spelling.{entries_bytes}
 
 -- a desk but for its disk: what it was opened with, what happened, its open journal, and how many of its calls
 -- answered a fault of the disk
@@ -18,11 +19,6 @@ pub record OnDisk (D : Type 0) : Type 0 where
   pub desk : DeskState
   pub disk : D
   pub since : ℕ
-
--- the entries that a reply adds
-abbrev pub added_by : Option Entry → List Entry
-added_by None = []
-added_by (Some e) = e ∷ []
 
 -- the record that may stand behind these payloads of the history
 pub record MayStandBehind (terms : DeskTerms) (payloads : List (List ℕ)) (history tail : List Entry) : Type 0 where

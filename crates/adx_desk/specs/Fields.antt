@@ -1,28 +1,10 @@
--- Private, cited by the desk and by a batch alone: what their fields keep.
-use Rattle.std.specs.Prelude.{◌≡◌, ℕ, ◌+◌, ◌≤◌, List, [], length, Bool, true, false, Option, Some, None}
-use Rattle.day_rules.specs.declared.answer.Answer.{Answer}
-use Rattle.day_rules.specs.Laws.{Arrival}
+-- Private, cited by the desk alone: what its fields keep.
+use Rattle.std.specs.Prelude.{ℕ, ◌+◌, ◌≤◌, length}
 use Rattle.adx_io.specs.Frames.{FrameState}
-use Rattle.adx_desk.specs.Batches.{AreApart}
 use Rattle.adx_desk.specs.Endings.{IsWithinRise}
-use Rattle.adx_desk.specs.declared.batch.TheConstants.{BATCH_LIMIT}
-use Rattle.adx_desk.specs.declared.held.TheConstants.{NOTICE_ROOM}
+use Rattle.notice_batches.specs.declared.held.TheConstants.{NOTICE_ROOM}
 
 -- there is memory for the entry of any notice, and the faults are those of the disk since the opening
 pub record AreFields (notices : FrameState) (since faults now : ℕ) : Type 0 where
   pub room : NOTICE_ROOM ≤ notices.spare + length notices.payload
   pub within : IsWithinRise since faults now
-
--- the answers of a batch that ran
-abbrev pub answers_by : Bool → List Answer → Option (List Answer)
-answers_by false answers = None
-answers_by true answers = Some answers
-
--- There is memory for all calls and their answers, no two calls are of one award, and a batch that didn't run has no
--- answer.
-pub record AreCalls (calls : List Arrival) (answers : List Answer) (ran : Bool) (call_room answer_room : ℕ) : Type 0 where
-  pub few : length calls ≤ BATCH_LIMIT
-  pub calls_room : BATCH_LIMIT ≤ call_room
-  pub answers_room : BATCH_LIMIT ≤ answer_room
-  pub apart : AreApart calls
-  pub waits : ran ≡ false → answers ≡ []

@@ -6,8 +6,8 @@ use Rattle.day_journal.specs.Places.{StandsFor, opened}
 use Rattle.day_rules.specs.declared.entry.Entry.{Entry}
 use Rattle.day_rules.specs.Legal.{IsLegal}
 use Rattle.day_rules.specs.Terms.{Terms}
-use Rattle.day_entries.specs.Spelling.{Fits, entry_bytes}
-use Rattle.adx_desk.specs.Held.{held, record_size}
+use Rattle.day_entries.specs.Spelling.{Fits, entries_bytes}
+use Rattle.notice_batches.specs.Held.{held, record_size}
 
 -- what a desk was opened with: the terms of its day, and the digest of its roster
 pub record DeskTerms : Type 0 where
@@ -18,10 +18,6 @@ pub record DeskTerms : Type 0 where
 pub record IsRecord (entries : List Entry) : Type 0 where
   pub some : 0 < length entries
   pub spelled : All Fits entries
-
--- the payload of a record: its entries, back to back
-abbrev pub entries_bytes : List Entry → List ℕ
-entries_bytes entries = flat_map entry_bytes entries
 
 -- the payloads are those of the history, record by record
 pub record AreRecords (payloads : List (List ℕ)) (history : List Entry) : Type 0 where

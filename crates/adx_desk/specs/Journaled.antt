@@ -1,7 +1,5 @@
 -- Private, cited by the day with its journal alone: its value, and what its fields keep.
-use Rattle.std.specs.Prelude.{◌≡◌, ℕ, ◌+◌, ◌≤◌, List, [], ◌∷◌, ◌++◌, Option, Some, None, Result, Ok, Err, if◌then◌else◌}
-use Rattle.notice_book.specs.declared.award.Award.{Award}
-use Rattle.notice_book.specs.Rules.{may_end}
+use Rattle.std.specs.Prelude.{◌≡◌, ℕ, ◌+◌, ◌≤◌, List, [], ◌∷◌, ◌++◌, Some, Result, Ok, Err}
 use Rattle.day_journal.specs.Faults.{greatest_size}
 use Rattle.day_journal.specs.Tails.{JournalState, size_of}
 use Rattle.day_rules.specs.declared.entry.Entry.{Entry}
@@ -10,7 +8,7 @@ use Rattle.day_rules.specs.DayState.{DayState, IsDay, Room}
 use Rattle.adx_desk.specs.Desks.{DeskState, OnDisk}
 use Rattle.adx_desk.specs.declared.fault.DeskFault.{DeskFault}
 use Rattle.adx_desk.specs.Endings.{FailsDisk, NoFault, PassesJournal, size_with}
-use Rattle.adx_desk.specs.Held.{held, open_count}
+use Rattle.notice_batches.specs.Held.{held, open_count}
 use Rattle.adx_desk.specs.Histories.{longest_size}
 
 -- a desk but for its disk, and what there is memory for
@@ -53,8 +51,3 @@ EndsRecord before now old new e (Err (DeskFault.OtherRoster kept)) = ⊥
 EndsRecord before now old new e (Err (DeskFault.NotAJournal at)) = ⊥
 EndsRecord before now old new e (Err (DeskFault.BadLength at)) = ⊥
 EndsRecord before now old new e (Err DeskFault.OutOfMemory) = ⊥
-
--- whether an award that there may be has no end, as a number
-abbrev pub open_one : Option Award → ℕ
-open_one None = 0
-open_one (Some w) = if may_end w then 1 else 0

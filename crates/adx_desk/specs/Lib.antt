@@ -1,11 +1,9 @@
-pub mod Held
 pub mod Histories
 pub mod Desks
 pub mod Asked
 pub mod Endings
 pub mod Serving
 pub mod Journaled
-pub mod Batches
 pub mod Fields
 pub mod Openings
 pub mod Loading

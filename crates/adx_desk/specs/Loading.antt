@@ -6,9 +6,9 @@ use Rattle.day_journal.specs.Tails.{JournalState, Keeps}
 use Rattle.day_rules.specs.declared.entry.Entry.{Entry}
 use Rattle.day_rules.specs.Legal.{IsLegal, MayFollow}
 use Rattle.day_rules.specs.Terms.{Terms}
-use Rattle.day_entries.specs.Spelling.{BeginsWith, Fits, entry_bytes}
+use Rattle.day_entries.specs.Spelling.{BeginsWith, Fits, entry_bytes, entries_bytes}
 use Rattle.adx_desk.specs.declared.fault.DeskFault.{DeskFault}
-use Rattle.adx_desk.specs.Histories.{AreRecords, entries_bytes}
+use Rattle.adx_desk.specs.Histories.{AreRecords}
 
 -- an entry at the front of the bytes was added, and these bytes stand behind it
 pub record TakesEntry (terms : Terms) (old new : List Entry) (bytes rest : List ℕ) : Type 0 where

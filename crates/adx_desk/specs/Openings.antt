@@ -7,10 +7,10 @@ use Rattle.day_journal.specs.Faults.{greatest_size}
 use Rattle.day_journal.specs.Places.{HasBadLength, HasNoHead, IsPayload, StandsFor, opened}
 use Rattle.day_rules.specs.declared.entry.Entry.{Entry}
 use Rattle.day_rules.specs.Legal.{IsLegal, MayFollow}
-use Rattle.day_entries.specs.Spelling.{BeginsWith, Fits}
+use Rattle.day_entries.specs.Spelling.{BeginsWith, Fits, entries_bytes}
 use Rattle.adx_desk.specs.declared.fault.DeskFault.{DeskFault}
-use Rattle.adx_desk.specs.Held.{held}
-use Rattle.adx_desk.specs.Histories.{AreRecords, DeskTerms, SameHistories, Spells, entries_bytes}
+use Rattle.notice_batches.specs.Held.{held}
+use Rattle.adx_desk.specs.Histories.{AreRecords, DeskTerms, SameHistories, Spells}
 
 -- what is told of a first payload that isn't the roster's digest
 abbrev pub told_of : List ℕ → List ℕ

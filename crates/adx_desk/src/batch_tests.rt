@@ -2,10 +2,11 @@
 ghost use Rattle.std.specs.Prelude.{◌≡◌, None, length};
 
 use crate::tests::{Call, Played, answer, roster, wrong_images};
-use crate::{Batch, Desk, DeskFault};
+use crate::{Desk, DeskFault};
 use adx_io::MemoryDisk;
 use day_rules::Answer;
 use deal_floor::Roster;
+use notice_batches::Batch;
 use notice_book::NoticeKind;
 use std::alloc::Global;
 use std::test::Fail;

@@ -1,5 +1,6 @@
 //! The desk: a serving day whose history a journal keeps on a disk.
 ghost use Rattle.std.specs.Prelude.{◌≡◌, ◌+◌, ◌*◌, ◌≤◌, ◌<◌, ◌^◌, [], length, drop, IfOk, IfErr, OnOk, OnErr, Some, None};
+ghost use Rattle.day_journal.specs.Faults.{greatest_size};
 ghost use Rattle.day_journal.specs.Tails.{size_of};
 ghost use Rattle.day_rules.specs.Asks.{IsUndecided, IsWellFormed};
 ghost use Rattle.day_rules.specs.Books.{accounts_in, awards_of};
@@ -7,7 +8,7 @@ ghost use Rattle.day_rules.specs.DayState.{IsDay};
 ghost use Rattle.day_rules.specs.Replies.{ask_reply, notice_reply, seen_in, tick_reply};
 ghost use Rattle.day_rules.specs.Terms.{budgets_after};
 ghost use Rattle.adx_desk.specs.Asked.{ask_for};
-ghost use Rattle.adx_desk.specs.Batches.{answers_in_turn, entries_in_turn};
+ghost use Rattle.notice_batches.specs.Batches.{answers_in_turn, entries_in_turn};
 ghost use Rattle.adx_desk.specs.Histories.{longest_size};
 ghost use Rattle.adx_desk.specs.Endings.{EndsAsk, EndsNotice, IsWithinRise};
 ghost use Rattle.adx_desk.specs.Opened.{GivesUp, Opens};
@@ -16,7 +17,6 @@ ghost use Rattle.adx_desk.specs.Rosters.{desk_terms};
 ghost use Rattle.adx_desk.specs.Serving.{Serves, ServesAll};
 ghost use Rattle.adx_desk.specs.declared.fault.DeskFault.{DeskFault as Fault};
 
-use crate::batch::Batch;
 use crate::done::Done;
 use crate::fault::DeskFault;
 use crate::journaled_day::JournaledDay;
@@ -25,6 +25,7 @@ use adx_io::{Disk, Frame};
 use campaign_book::Book;
 use day_rules::{Answer, Ask, Entry, Seen};
 use deal_floor::Roster;
+use notice_batches::Batch;
 use notice_book::NoticeKind;
 use std::alloc::Global;
 use std::marker::Model;
@@ -198,7 +199,8 @@ impl<D: Disk> Desk<D> {
 
     /// How many bytes the journal has: at most 2^32.
     pub fn journal_size(&self) -> u64
-        ensures { result ≡ size_of self.now.desk.journal }
+        ensures size { result ≡ size_of self.now.desk.journal }
+        ensures bound { result ≤ greatest_size }
     {
         self.kept.journal_size()
     }

@@ -4,7 +4,7 @@ ghost use Rattle.std.specs.Option.{ForSome};
 ghost use Rattle.adx_io.specs.Streams.{last_count};
 ghost use Rattle.day_journal.specs.Faults.{greatest_size};
 ghost use Rattle.day_journal.specs.Tails.{size_of};
-ghost use Rattle.day_entries.specs.Spelling.{Fits, IsNoAsk, entry_bytes};
+ghost use Rattle.day_entries.specs.Spelling.{Fits, IsNoAsk, entry_bytes, entries_bytes};
 ghost use Rattle.day_rules.specs.Asks.{IsUndecided, IsWellFormed};
 ghost use Rattle.day_rules.specs.Books.{awards_of};
 ghost use Rattle.day_rules.specs.Entries.{asked};
@@ -12,27 +12,27 @@ ghost use Rattle.day_rules.specs.DayState.{HasRoomFor, IsDay};
 ghost use Rattle.day_rules.specs.Legal.{MayFollow};
 ghost use Rattle.day_rules.specs.Replies.{ask_reply, notice_reply, tick_reply};
 ghost use Rattle.adx_desk.specs.Asked.{ask_for};
-ghost use Rattle.adx_desk.specs.Batches.{answers_in_turn, entries_in_turn};
+ghost use Rattle.notice_batches.specs.Batches.{answers_in_turn, entries_in_turn};
 ghost use Rattle.adx_desk.specs.Endings.{EndsAsk, EndsNotice, size_with};
-ghost use Rattle.adx_desk.specs.Held.{held};
-ghost use Rattle.adx_desk.specs.Histories.{entries_bytes, longest_size};
+ghost use Rattle.notice_batches.specs.Held.{held};
+ghost use Rattle.adx_desk.specs.Histories.{longest_size};
 ghost use Rattle.adx_desk.specs.Journaled.{EndsRecord, beside, day_in, on_disk};
 ghost use Rattle.adx_desk.specs.Serving.{Serves, ServesAll};
 ghost use Rattle.adx_desk.specs.declared.fault.DeskFault.{DeskFault as Fault};
-ghost use Rattle.adx_desk.specs.declared.held.TheConstants.{NOTICE_ROOM};
+ghost use Rattle.notice_batches.specs.declared.held.TheConstants.{NOTICE_ROOM};
 
-use crate::batch::Batch;
 use crate::copying::{copy_for, copy_in};
 use crate::done::Done;
 use crate::fault::DeskFault;
 use crate::framing::{put_ask, put_notice};
-use crate::held::{EXPIRY_RECORD, GREATEST_SIZE, NOTICE_RECORD, held_by, open_awards, open_behind};
-use crate::waiting::{Waiting, commit_all};
 use adx_io::{Disk, Frame};
 use adx_units::OutOfMemory;
 use day_journal::{Journal, JournalFault};
 use day_machine::{Day, sale_count};
 use day_rules::{Answer, Ask, Entry};
+use notice_batches::{
+    Batch, EXPIRY_RECORD, GREATEST_SIZE, NOTICE_RECORD, held_by, open_awards, open_behind,
+};
 use notice_book::NoticeKind;
 use std::alloc::Global;
 use std::marker::Model;
@@ -353,19 +353,19 @@ impl JournaledDay {
         &mut self,
         disk: &mut D,
         frame: &Frame,
-        calls: &[Waiting],
+        batch: &Batch,
     ) -> Result<(), DeskFault>
-        requires payload { frame.now.payload ≡ entries_bytes (entries_in_turn self.old.desk.history calls.now) }
-        requires fits { All Fits (entries_in_turn self.old.desk.history calls.now) }
-        requires some { 0 < length (entries_in_turn self.old.desk.history calls.now) }
-        ensures serves { ServesAll D.may_leave D.moment D.left_since (on_disk self.old disk.old) (on_disk self.new disk.new) (entries_in_turn self.old.desk.history calls.now) result }
+        requires payload { frame.now.payload ≡ entries_bytes (entries_in_turn self.old.desk.history batch.now.calls) }
+        requires fits { All Fits (entries_in_turn self.old.desk.history batch.now.calls) }
+        requires some { 0 < length (entries_in_turn self.old.desk.history batch.now.calls) }
+        ensures serves { ServesAll D.may_leave D.moment D.left_since (on_disk self.old disk.old) (on_disk self.new disk.new) (entries_in_turn self.old.desk.history batch.now.calls) result }
         ensures ends { EndsNotice (D.faults disk.old) (D.faults disk.new) self.old.desk self.new.desk result }
-        ensures grown { OnOk result (size_of self.new.desk.journal ≡ size_of self.old.desk.journal + 5 * length (entries_in_turn self.old.desk.history calls.now) + 5) }
+        ensures grown { OnOk result (size_of self.new.desk.journal ≡ size_of self.old.desk.journal + 5 * length (entries_in_turn self.old.desk.history batch.now.calls) + 5) }
         ensures lasts { D.lasts disk.old disk.new }
     {
         match self.journal.append(disk, frame, 0) {
             Ok(()) => {
-                self.without_end = commit_all(&mut self.day, self.without_end, calls);
+                self.without_end = batch.commit(&mut self.day, self.without_end);
                 Ok(())
             }
             Err(JournalFault::DiskFault) => {
@@ -403,7 +403,7 @@ impl JournaledDay {
         if frame.payload().is_empty() {
             return Ok(());
         }
-        match self.append_all(disk, frame, batch.calls()) {
+        match self.append_all(disk, frame, batch) {
             Ok(()) => Ok(()),
             Err(fault) => {
                 batch.wait();
@@ -414,7 +414,8 @@ impl JournaledDay {
 
     /// How many bytes the journal has.
     pub(crate) fn journal_size(&self) -> u64
-        ensures { result ≡ size_of self.now.desk.journal }
+        ensures size { result ≡ size_of self.now.desk.journal }
+        ensures bound { result ≤ greatest_size }
     {
         self.journal.size()
     }

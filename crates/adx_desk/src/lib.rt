@@ -4,16 +4,15 @@
 //! that history; an entry is in the journal before it is in the history, and a crash at any moment leaves a file that
 //! stands for the history, or for it and the record that was being written.
 //! Opening reads a file that stands for a history, or names the first fault in the order of its bytes.
-//! Stands on `deal_floor` (a roster), `day_machine`, `day_entries`, `day_journal`, `adx_io` and `sha2`.
+//! Stands on `deal_floor` (a roster), `day_machine`, `day_entries`, `notice_batches`,
+//! `day_journal`, `adx_io` and `sha2`.
 #![tactic(auto)]
 
-mod batch;
 mod copying;
 mod desk;
 mod done;
 mod fault;
 mod framing;
-mod held;
 mod journaled_day;
 mod laws;
 mod lines;
@@ -24,13 +23,10 @@ mod record_reading;
 mod roster_day;
 mod shared;
 mod turn;
-mod waiting;
 
-pub use batch::{BATCH_LIMIT, Batch};
 pub use desk::Desk;
 pub use done::Done;
 pub use fault::DeskFault;
-pub use held::{EXPIRY_RECORD, NOTICE_RECORD, RECORD_OVERHEAD};
 pub use laws::{one_history, refusals_exclude};
 pub use lines::{answer_line, fault_line, table_of};
 pub use shared::OpenedWith;

@@ -4,7 +4,7 @@ ghost use Rattle.std.specs.List.{sum_by};
 ghost use Rattle.day_journal.specs.Openings.{OnlyReads, StandsBehind};
 ghost use Rattle.day_journal.specs.Places.{IsClosed, opened};
 ghost use Rattle.day_rules.specs.DayState.{IsDay};
-ghost use Rattle.adx_desk.specs.Held.{record_size};
+ghost use Rattle.notice_batches.specs.Held.{record_size};
 ghost use Rattle.adx_desk.specs.Histories.{longest_size};
 ghost use Rattle.adx_desk.specs.Loading.{HasRead, HasReadAll};
 ghost use Rattle.adx_desk.specs.Openings.{EndsByDisk, RefusesDesk, told_of};

@@ -4,10 +4,9 @@ ghost use Rattle.day_rules.specs.DayState.{IsDay};
 ghost use Rattle.adx_desk.specs.Opened.{GivesUp, Opens};
 ghost use Rattle.adx_desk.specs.Openings.{EndsByDisk};
 ghost use Rattle.adx_desk.specs.Rosters.{desk_terms};
-ghost use Rattle.adx_desk.specs.declared.held.TheConstants.{NOTICE_ROOM as notice_room};
+ghost use Rattle.notice_batches.specs.declared.held.TheConstants.{NOTICE_ROOM as notice_room};
 
 use crate::fault::DeskFault;
-use crate::held::NOTICE_ROOM;
 use crate::journaled_day::JournaledDay;
 use crate::opening::open_on;
 use crate::roster_day::day_of;
@@ -15,6 +14,7 @@ use adx_io::{Disk, Frame};
 use adx_units::OutOfMemory;
 use day_machine::Day;
 use deal_floor::Roster;
+use notice_batches::NOTICE_ROOM;
 use std::alloc::Global;
 
 /// A desk but for its disk.

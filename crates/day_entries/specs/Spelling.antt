@@ -52,6 +52,10 @@ entry_bytes (Entry.Bill award) = 3 ∷ to_le_bytes w32 award
 entry_bytes (Entry.Loss award) = 4 ∷ to_le_bytes w32 award
 entry_bytes (Entry.Expire now) = 5 ∷ to_le_bytes w64 now
 
+-- entries, back to back
+abbrev pub entries_bytes : List Entry → List ℕ
+entries_bytes entries = flat_map entry_bytes entries
+
 -- a text whose length fits four bytes
 pub record IsText (text : List ℕ) : Type 0 where
   pub utf8 : IsUtf8 text

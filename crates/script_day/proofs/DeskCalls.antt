@@ -1,9 +1,10 @@
 -- One call of a desk: done, given up by the disk's fault, or for want of room in the journal.
 use Rattle.std.proofs.Common.{◌≡◌, ◌⊎◌, inl, inr, ℕ, ◌+◌, ◌<◌, ◌≤◌, min, List, [], ◌∷◌, ◌++◌, length, Option, Some, None, Ok, Err, refl, sym, subst, arith, IfSome}
 use Rattle.adx_io.specs.Streams.{last_count}
-use Rattle.adx_desk.specs.Desks.{DeskKeeps, DeskState, OnDisk, added_by}
+use Rattle.adx_desk.specs.Desks.{DeskKeeps, DeskState, OnDisk}
+use Rattle.notice_batches.specs.Batches.{added_by}
 use Rattle.adx_desk.specs.Endings.{EndsAsk, EndsNotice, FailsDisk, NoFault, PassesJournal, size_with}
-use Rattle.adx_desk.specs.Held.{held, record_size}
+use Rattle.notice_batches.specs.Held.{held, record_size}
 use Rattle.adx_desk.specs.Serving.{Serves}
 use Rattle.adx_desk.specs.declared.fault.DeskFault.{DeskFault}
 use Rattle.answer_lines.specs.declared.faults.Fault.{Fault}

@@ -4,7 +4,8 @@ use Rattle.std.proofs.lemmas.List.{map-append}
 use Rattle.std.proofs.lemmas.List.Elements.{All-nil, All-cons, All-append}
 use Rattle.adx_io.specs.Disks.{Each, LeavesOnly}
 use Rattle.adx_io.specs.Streams.{last_count}
-use Rattle.adx_desk.specs.Desks.{OnDisk, added_by}
+use Rattle.adx_desk.specs.Desks.{OnDisk}
+use Rattle.notice_batches.specs.Batches.{added_by}
 use Rattle.adx_desk.specs.Histories.{DeskTerms, WithAtMostOne, WithOrWithout}
 use Rattle.adx_desk.specs.Opened.{Opens}
 use Rattle.adx_desk.specs.Openings.{StandsAsOneOf}

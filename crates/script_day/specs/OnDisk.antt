@@ -2,8 +2,8 @@
 use Rattle.std.specs.Prelude.{◌≡◌, ◌⊎◌, ℕ, ◌+◌, ◌<◌, ◌≤◌, List, [], ◌∷◌, ◌++◌, length, Option, Some, None}
 use Rattle.adx_io.specs.Disks.{Each, LeavesOnly}
 use Rattle.adx_io.specs.Streams.{Rises}
-use Rattle.adx_desk.specs.Desks.{added_by}
-use Rattle.adx_desk.specs.Held.{held, record_size}
+use Rattle.notice_batches.specs.Batches.{added_by}
+use Rattle.notice_batches.specs.Held.{held, record_size}
 use Rattle.adx_desk.specs.Histories.{DeskTerms, IsHistoryOf, WithOrWithout, longest_size}
 use Rattle.adx_desk.specs.Opened.{GivesUp}
 use Rattle.adx_desk.specs.Openings.{HasDiskCause, StandsAsOneOf}

@@ -1,7 +1,7 @@
 use Rattle.std.proofs.Common.{◌≡◌, Bool, true, false, ap, ◌∙◌, None}
 use Rattle.std.specs.Prelude.{MatchBool}
 use Rattle.day_rules.specs.Laws.{Arrival}
-use Rattle.adx_desk.specs.Batches.{BatchState, MayJoin, joined}
+use Rattle.notice_batches.specs.Batches.{BatchState, MayJoin, joined}
 use Rattle.adx_desk.proofs.batch_tests.taken.Goals as goal
 
 -- whether or not a batch takes a call, its answers stay

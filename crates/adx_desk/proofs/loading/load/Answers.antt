@@ -1,7 +1,7 @@
 use Rattle.std.proofs.Common.{arith, List, ℕ, ◌∷◌, [], length, Err, sym, ◌∙◌, ap, subst}
 use Rattle.std.specs.List.{sum_by}
 use Rattle.day_journal.specs.Openings.{StandsBehind}
-use Rattle.adx_desk.specs.Held.{record_size}
+use Rattle.notice_batches.specs.Held.{record_size}
 use Rattle.adx_desk.specs.Histories.{DeskTerms}
 use Rattle.adx_desk.specs.Openings.{RefusesDesk}
 use Rattle.adx_desk.proofs.OpenedDays.{opened_one}

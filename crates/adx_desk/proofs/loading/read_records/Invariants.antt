@@ -3,7 +3,7 @@ use Rattle.std.proofs.Common.{◌≡◌, ◌+◌, ◌-◌, ◌^◌, ◌≤◌, �
 use Rattle.std.specs.List.{sum_by}
 use Rattle.day_journal.specs.Openings.{OnlyReads}
 use Rattle.day_rules.specs.DayState.{IsDay}
-use Rattle.adx_desk.specs.Held.{record_size}
+use Rattle.notice_batches.specs.Held.{record_size}
 use Rattle.adx_desk.specs.Loading.{HasRead}
 use Rattle.adx_desk.proofs.loading.read_records.Given as goal
 

@@ -4,7 +4,7 @@ use Rattle.std.specs.List.{sum_by}
 use Rattle.adx_io.specs.Disks.{LeavesOnly}
 use Rattle.day_journal.specs.Places.{StandsFor, opened}
 use Rattle.day_journal.specs.Tails.{JournalState, Keeps}
-use Rattle.adx_desk.specs.Held.{record_size}
+use Rattle.notice_batches.specs.Held.{record_size}
 use Rattle.adx_desk.specs.Histories.{DeskTerms}
 use Rattle.adx_desk.proofs.Beginnings.{begin_moments, has_begun, has_opened, still_durable}
 use Rattle.adx_desk.proofs.opening.journal_of.Goals as goal

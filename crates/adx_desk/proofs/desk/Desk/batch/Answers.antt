@@ -2,7 +2,7 @@
 use Rattle.std.proofs.Common.{◌≡◌, ◌+◌, ◌*◌, ◌<◌, length, Some, ◌∙◌, ap, subst}
 use Rattle.std.specs.Prelude.{OnOk}
 use Rattle.day_journal.specs.Tails.{size_of}
-use Rattle.adx_desk.specs.Batches.{BatchState, answers_in_turn, entries_in_turn}
+use Rattle.notice_batches.specs.Batches.{BatchState, answers_in_turn, entries_in_turn}
 use Rattle.adx_desk.specs.Desks.{OnDisk}
 use Rattle.adx_desk.specs.Endings.{EndsNotice}
 use Rattle.adx_desk.specs.Serving.{ServesAll}

@@ -12,7 +12,7 @@ use Rattle.day_rules.specs.DayState.{HasRoomFor}
 use Rattle.day_rules.specs.Legal.{MayFollow}
 use Rattle.adx_desk.specs.Desks.{DeskState}
 use Rattle.adx_desk.specs.Endings.{size_with}
-use Rattle.adx_desk.specs.Held.{open_count}
+use Rattle.notice_batches.specs.Held.{open_count}
 use Rattle.adx_desk.specs.Journaled.{JournaledState, beside, day_in, on_disk}
 use Rattle.adx_desk.proofs.Inside.{journaled_added, known, some_bytes}
 use Rattle.adx_desk.proofs.Keeping.{fits_with, may_add, notice_fits, passes_with}

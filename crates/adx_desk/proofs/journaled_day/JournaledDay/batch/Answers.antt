@@ -2,17 +2,16 @@
 use Rattle.std.proofs.Common.{◌≡◌, ℕ, ◌+◌, ◌*◌, ◌<◌, List, length, All, Some, sym, ◌∙◌, ap, subst, arith}
 use Rattle.std.specs.Prelude.{Err, Ok}
 use Rattle.std.proofs.lemmas.Bool.{eq-eqb, eqb-true, false≢true}
-use Rattle.day_entries.specs.Spelling.{Fits}
+use Rattle.day_entries.specs.Spelling.{Fits, entries_bytes}
 use Rattle.day_journal.specs.Tails.{size_of}
 use Rattle.day_rules.specs.declared.answer.Answer.{Answer}
 use Rattle.day_rules.specs.declared.entry.Entry.{Entry}
 use Rattle.day_rules.specs.Laws.{Arrival}
-use Rattle.adx_desk.specs.Batches.{BatchState, answers_in_turn, entries_in_turn}
-use Rattle.adx_desk.specs.Histories.{entries_bytes}
+use Rattle.notice_batches.specs.Batches.{BatchState, entries_in_turn}
 use Rattle.adx_desk.specs.Journaled.{JournaledState, on_disk}
 use Rattle.adx_desk.specs.Serving.{ServesAll}
-use Rattle.adx_desk.proofs.InTurn.{answers_now, entries_now, in_turn, none_added, some_added}
-use Rattle.adx_desk.proofs.Inside.{known}
+use Rattle.notice_batches.proofs.InTurn.{none_added, some_added}
+use Rattle.adx_desk.proofs.Batching.{batched}
 use Rattle.adx_desk.proofs.Serving.{serves_unmoved}
 use Rattle.adx_desk.proofs.journaled_day.JournaledDay.batch.Goals as goal
 
@@ -20,20 +19,16 @@ pub returns-then-is_empty-clause-answers : goal.returns-then-is_empty-clause-ans
 returns-then-is_empty-clause-answers g c =
     let s : JournaledState = c.args.self.now in
     let xs = c.args.batch.now.calls in
-    let k = known c.self.inside.day c.self.inside.digest c.self.inside.journal c.self.inside.faults c.self.inside.without_end s c.self.invariant c.self.view_is in
-    let law = in_turn s.desk.terms.day s.desk.history xs k.legal c.run.ensures.apart in
-    let told : answers_now c.self.inside.day.history xs ≡ answers_in_turn s.desk.history xs = ap (λ (t : JournaledState). answers_now t.desk.history xs) c.self.view_is ∙ sym law.0 in
-    c.run.ensures.answers ∙ ap (λ (l : List Answer). record { calls = xs; answers = Some l }) told
+    let b = batched c.self.inside.day c.self.inside.digest c.self.inside.journal c.self.inside.faults c.self.inside.without_end s xs c.self.invariant c.self.view_is c.run.ensures.apart in
+    c.run.ensures.answers ∙ ap (λ (l : List Answer). record { calls = xs; answers = Some l }) b.answers
 
 pub returns-then-is_empty-clause-serves : goal.returns-then-is_empty-clause-serves
 returns-then-is_empty-clause-serves g c =
     let D = g.D.Disk in
     let s : JournaledState = c.args.self.now in
     let xs = c.args.batch.now.calls in
-    let k = known c.self.inside.day c.self.inside.digest c.self.inside.journal c.self.inside.faults c.self.inside.without_end s c.self.invariant c.self.view_is in
-    let law = in_turn s.desk.terms.day s.desk.history xs k.legal c.run.ensures.apart in
-    let entries : entries_now c.self.inside.day.history xs ≡ entries_in_turn s.desk.history xs = ap (λ (t : JournaledState). entries_now t.desk.history xs) c.self.view_is ∙ sym law.1 in
-    let bytes = c.run.ensures.payload ∙ ap entries_bytes entries in
+    let b = batched c.self.inside.day c.self.inside.digest c.self.inside.journal c.self.inside.faults c.self.inside.without_end s xs c.self.invariant c.self.view_is c.run.ensures.apart in
+    let bytes = c.run.ensures.payload ∙ ap entries_bytes b.entries in
     let none = none_added s.desk.history xs c.run.new.frame.payload bytes (sym (ap (λ (l : List ℕ). length l) c.payload.ensures) ∙ eqb-true (length c.payload.result.now) 0 (sym c.is_empty.ensures ∙ c.if-is_empty.true)) in
     serves_unmoved D.may_leave D.moment D.left_since _ (on_disk s c.args.disk.now) (entries_in_turn s.desk.history xs) none (g.met.D.Disk.only_now c.args.disk.now)
 
@@ -41,10 +36,8 @@ pub returns-then-is_empty-clause-grown : goal.returns-then-is_empty-clause-grown
 returns-then-is_empty-clause-grown g c = λ some.
     let s : JournaledState = c.args.self.now in
     let xs = c.args.batch.now.calls in
-    let k = known c.self.inside.day c.self.inside.digest c.self.inside.journal c.self.inside.faults c.self.inside.without_end s c.self.invariant c.self.view_is in
-    let law = in_turn s.desk.terms.day s.desk.history xs k.legal c.run.ensures.apart in
-    let entries : entries_now c.self.inside.day.history xs ≡ entries_in_turn s.desk.history xs = ap (λ (t : JournaledState). entries_now t.desk.history xs) c.self.view_is ∙ sym law.1 in
-    let bytes = c.run.ensures.payload ∙ ap entries_bytes entries in
+    let b = batched c.self.inside.day c.self.inside.digest c.self.inside.journal c.self.inside.faults c.self.inside.without_end s xs c.self.invariant c.self.view_is c.run.ensures.apart in
+    let bytes = c.run.ensures.payload ∙ ap entries_bytes b.entries in
     let none = none_added s.desk.history xs c.run.new.frame.payload bytes (sym (ap (λ (l : List ℕ). length l) c.payload.ensures) ∙ eqb-true (length c.payload.result.now) 0 (sym c.is_empty.ensures ∙ c.if-is_empty.true)) in
     absurd (omega (arith, some, ap length none))
 
@@ -52,33 +45,26 @@ pub append_all-requires-clause-payload : goal.append_all-requires-clause-payload
 append_all-requires-clause-payload g c =
     let s : JournaledState = c.args.self.now in
     let xs = c.args.batch.now.calls in
-    let k = known c.self.inside.day c.self.inside.digest c.self.inside.journal c.self.inside.faults c.self.inside.without_end s c.self.invariant c.self.view_is in
-    let law = in_turn s.desk.terms.day s.desk.history xs k.legal c.run.ensures.apart in
-    let entries : entries_now c.self.inside.day.history xs ≡ entries_in_turn s.desk.history xs = ap (λ (t : JournaledState). entries_now t.desk.history xs) c.self.view_is ∙ sym law.1 in
-    let bytes = c.run.ensures.payload ∙ ap entries_bytes entries in
-    let same : c.calls.result.now ≡ xs = c.calls.ensures ∙ ap (λ (b : BatchState). b.calls) c.run.ensures.answers in
+    let b = batched c.self.inside.day c.self.inside.digest c.self.inside.journal c.self.inside.faults c.self.inside.without_end s xs c.self.invariant c.self.view_is c.run.ensures.apart in
+    let bytes = c.run.ensures.payload ∙ ap entries_bytes b.entries in
+    let same : c.run.new.self.calls ≡ xs = ap (λ (t : BatchState). t.calls) c.run.ensures.answers in
     subst (λ (l : List Arrival). c.run.new.frame.payload ≡ entries_bytes (entries_in_turn s.desk.history l)) (sym same) bytes
 
 pub append_all-requires-clause-fits : goal.append_all-requires-clause-fits
 append_all-requires-clause-fits g c =
     let s : JournaledState = c.args.self.now in
     let xs = c.args.batch.now.calls in
-    let k = known c.self.inside.day c.self.inside.digest c.self.inside.journal c.self.inside.faults c.self.inside.without_end s c.self.invariant c.self.view_is in
-    let law = in_turn s.desk.terms.day s.desk.history xs k.legal c.run.ensures.apart in
-    let entries : entries_now c.self.inside.day.history xs ≡ entries_in_turn s.desk.history xs = ap (λ (t : JournaledState). entries_now t.desk.history xs) c.self.view_is ∙ sym law.1 in
-    let bytes = c.run.ensures.payload ∙ ap entries_bytes entries in
-    let same : c.calls.result.now ≡ xs = c.calls.ensures ∙ ap (λ (b : BatchState). b.calls) c.run.ensures.answers in
-    subst (λ (l : List Arrival). All Fits (entries_in_turn s.desk.history l)) (sym same) (subst (λ (es : List Entry). All Fits es) entries c.run.ensures.fits)
+    let b = batched c.self.inside.day c.self.inside.digest c.self.inside.journal c.self.inside.faults c.self.inside.without_end s xs c.self.invariant c.self.view_is c.run.ensures.apart in
+    let same : c.run.new.self.calls ≡ xs = ap (λ (t : BatchState). t.calls) c.run.ensures.answers in
+    subst (λ (l : List Arrival). All Fits (entries_in_turn s.desk.history l)) (sym same) (subst (λ (es : List Entry). All Fits es) b.entries c.run.ensures.fits)
 
 pub append_all-requires-clause-some : goal.append_all-requires-clause-some
 append_all-requires-clause-some g c =
     let s : JournaledState = c.args.self.now in
     let xs = c.args.batch.now.calls in
-    let k = known c.self.inside.day c.self.inside.digest c.self.inside.journal c.self.inside.faults c.self.inside.without_end s c.self.invariant c.self.view_is in
-    let law = in_turn s.desk.terms.day s.desk.history xs k.legal c.run.ensures.apart in
-    let entries : entries_now c.self.inside.day.history xs ≡ entries_in_turn s.desk.history xs = ap (λ (t : JournaledState). entries_now t.desk.history xs) c.self.view_is ∙ sym law.1 in
-    let bytes = c.run.ensures.payload ∙ ap entries_bytes entries in
-    let same : c.calls.result.now ≡ xs = c.calls.ensures ∙ ap (λ (b : BatchState). b.calls) c.run.ensures.answers in
+    let b = batched c.self.inside.day c.self.inside.digest c.self.inside.journal c.self.inside.faults c.self.inside.without_end s xs c.self.invariant c.self.view_is c.run.ensures.apart in
+    let bytes = c.run.ensures.payload ∙ ap entries_bytes b.entries in
+    let same : c.run.new.self.calls ≡ xs = ap (λ (t : BatchState). t.calls) c.run.ensures.answers in
     subst (λ (l : List Arrival). 0 < length (entries_in_turn s.desk.history l)) (sym same)
     (some_added s.desk.history xs c.run.new.frame.payload bytes (λ none. false≢true (sym c.if-is_empty.false ∙ (c.is_empty.ensures ∙ eq-eqb (length c.payload.result.now) 0 (ap (λ (l : List ℕ). length l) c.payload.ensures ∙ none)))))
 
@@ -86,32 +72,22 @@ pub returns-in-Ok-clause-answers : goal.returns-in-Ok-clause-answers
 returns-in-Ok-clause-answers g c =
     let s : JournaledState = c.args.self.now in
     let xs = c.args.batch.now.calls in
-    let k = known c.self.inside.day c.self.inside.digest c.self.inside.journal c.self.inside.faults c.self.inside.without_end s c.self.invariant c.self.view_is in
-    let law = in_turn s.desk.terms.day s.desk.history xs k.legal c.run.ensures.apart in
-    let told : answers_now c.self.inside.day.history xs ≡ answers_in_turn s.desk.history xs = ap (λ (t : JournaledState). answers_now t.desk.history xs) c.self.view_is ∙ sym law.0 in
-    c.run.ensures.answers ∙ ap (λ (l : List Answer). record { calls = xs; answers = Some l }) told
+    let b = batched c.self.inside.day c.self.inside.digest c.self.inside.journal c.self.inside.faults c.self.inside.without_end s xs c.self.invariant c.self.view_is c.run.ensures.apart in
+    c.run.ensures.answers ∙ ap (λ (l : List Answer). record { calls = xs; answers = Some l }) b.answers
 
 pub returns-in-Ok-clause-serves : goal.returns-in-Ok-clause-serves
 returns-in-Ok-clause-serves g c =
     let D = g.D.Disk in
     let s : JournaledState = c.args.self.now in
     let xs = c.args.batch.now.calls in
-    let k = known c.self.inside.day c.self.inside.digest c.self.inside.journal c.self.inside.faults c.self.inside.without_end s c.self.invariant c.self.view_is in
-    let law = in_turn s.desk.terms.day s.desk.history xs k.legal c.run.ensures.apart in
-    let entries : entries_now c.self.inside.day.history xs ≡ entries_in_turn s.desk.history xs = ap (λ (t : JournaledState). entries_now t.desk.history xs) c.self.view_is ∙ sym law.1 in
-    let bytes = c.run.ensures.payload ∙ ap entries_bytes entries in
-    let same : c.calls.result.now ≡ xs = c.calls.ensures ∙ ap (λ (b : BatchState). b.calls) c.run.ensures.answers in
+    let same : c.run.new.self.calls ≡ xs = ap (λ (t : BatchState). t.calls) c.run.ensures.answers in
     subst (λ (l : List Arrival). ServesAll {T = Unit {0}} D.may_leave D.moment D.left_since (on_disk s c.args.disk.now) (on_disk c.append_all.new.self c.append_all.new.disk) (entries_in_turn s.desk.history l) (Ok tt)) same c.in-Ok.ensures.serves
 
 pub returns-in-Ok-clause-grown : goal.returns-in-Ok-clause-grown
 returns-in-Ok-clause-grown g c = λ some.
     let s : JournaledState = c.args.self.now in
     let xs = c.args.batch.now.calls in
-    let k = known c.self.inside.day c.self.inside.digest c.self.inside.journal c.self.inside.faults c.self.inside.without_end s c.self.invariant c.self.view_is in
-    let law = in_turn s.desk.terms.day s.desk.history xs k.legal c.run.ensures.apart in
-    let entries : entries_now c.self.inside.day.history xs ≡ entries_in_turn s.desk.history xs = ap (λ (t : JournaledState). entries_now t.desk.history xs) c.self.view_is ∙ sym law.1 in
-    let bytes = c.run.ensures.payload ∙ ap entries_bytes entries in
-    let same : c.calls.result.now ≡ xs = c.calls.ensures ∙ ap (λ (b : BatchState). b.calls) c.run.ensures.answers in
+    let same : c.run.new.self.calls ≡ xs = ap (λ (t : BatchState). t.calls) c.run.ensures.answers in
     subst (λ (l : List Arrival). size_of c.append_all.new.self.desk.journal ≡ size_of s.desk.journal + 5 * length (entries_in_turn s.desk.history l) + 5) same c.in-Ok.ensures.grown
 
 pub returns-in-Err-clause-waits : goal.returns-in-Err-clause-waits
@@ -124,21 +100,15 @@ returns-in-Err-clause-serves g c =
     let D = g.D.Disk in
     let s : JournaledState = c.args.self.now in
     let xs = c.args.batch.now.calls in
-    let k = known c.self.inside.day c.self.inside.digest c.self.inside.journal c.self.inside.faults c.self.inside.without_end s c.self.invariant c.self.view_is in
-    let law = in_turn s.desk.terms.day s.desk.history xs k.legal c.run.ensures.apart in
-    let entries : entries_now c.self.inside.day.history xs ≡ entries_in_turn s.desk.history xs = ap (λ (t : JournaledState). entries_now t.desk.history xs) c.self.view_is ∙ sym law.1 in
-    let bytes = c.run.ensures.payload ∙ ap entries_bytes entries in
-    let same : c.calls.result.now ≡ xs = c.calls.ensures ∙ ap (λ (b : BatchState). b.calls) c.run.ensures.answers in
+    let same : c.run.new.self.calls ≡ xs = ap (λ (t : BatchState). t.calls) c.run.ensures.answers in
     subst (λ (l : List Arrival). ServesAll {T = Unit {0}} D.may_leave D.moment D.left_since (on_disk s c.args.disk.now) (on_disk c.append_all.new.self c.append_all.new.disk) (entries_in_turn s.desk.history l) (Err c.in-Err.fault)) same c.in-Err.ensures.serves
 
 pub returns-in-Ok-clause-unmoved : goal.returns-in-Ok-clause-unmoved
 returns-in-Ok-clause-unmoved g c = λ none.
     let s : JournaledState = c.args.self.now in
     let xs = c.args.batch.now.calls in
-    let k = known c.self.inside.day c.self.inside.digest c.self.inside.journal c.self.inside.faults c.self.inside.without_end s c.self.invariant c.self.view_is in
-    let law = in_turn s.desk.terms.day s.desk.history xs k.legal c.run.ensures.apart in
-    let entries : entries_now c.self.inside.day.history xs ≡ entries_in_turn s.desk.history xs = ap (λ (t : JournaledState). entries_now t.desk.history xs) c.self.view_is ∙ sym law.1 in
-    let bytes = c.run.ensures.payload ∙ ap entries_bytes entries in
+    let b = batched c.self.inside.day c.self.inside.digest c.self.inside.journal c.self.inside.faults c.self.inside.without_end s xs c.self.invariant c.self.view_is c.run.ensures.apart in
+    let bytes = c.run.ensures.payload ∙ ap entries_bytes b.entries in
     let some = some_added s.desk.history xs c.run.new.frame.payload bytes (λ empty. false≢true (sym c.if-is_empty.false ∙ (c.is_empty.ensures ∙ eq-eqb (length c.payload.result.now) 0 (ap (λ (l : List ℕ). length l) c.payload.ensures ∙ empty)))) in
     absurd (omega (arith, some, ap length none))
 
@@ -146,9 +116,7 @@ pub returns-in-Err-clause-unmoved : goal.returns-in-Err-clause-unmoved
 returns-in-Err-clause-unmoved g c = λ none.
     let s : JournaledState = c.args.self.now in
     let xs = c.args.batch.now.calls in
-    let k = known c.self.inside.day c.self.inside.digest c.self.inside.journal c.self.inside.faults c.self.inside.without_end s c.self.invariant c.self.view_is in
-    let law = in_turn s.desk.terms.day s.desk.history xs k.legal c.run.ensures.apart in
-    let entries : entries_now c.self.inside.day.history xs ≡ entries_in_turn s.desk.history xs = ap (λ (t : JournaledState). entries_now t.desk.history xs) c.self.view_is ∙ sym law.1 in
-    let bytes = c.run.ensures.payload ∙ ap entries_bytes entries in
+    let b = batched c.self.inside.day c.self.inside.digest c.self.inside.journal c.self.inside.faults c.self.inside.without_end s xs c.self.invariant c.self.view_is c.run.ensures.apart in
+    let bytes = c.run.ensures.payload ∙ ap entries_bytes b.entries in
     let some = some_added s.desk.history xs c.run.new.frame.payload bytes (λ empty. false≢true (sym c.if-is_empty.false ∙ (c.is_empty.ensures ∙ eq-eqb (length c.payload.result.now) 0 (ap (λ (l : List ℕ). length l) c.payload.ensures ∙ empty)))) in
     absurd (omega (arith, some, ap length none))

@@ -1,7 +1,7 @@
 use Rattle.std.proofs.Common.{◌≡◌, ◌+◌, ◌*◌, sym, subst, arith}
 use Rattle.day_rules.specs.declared.entry.Entry.{Entry}
 use Rattle.adx_desk.specs.Journaled.{JournaledState, beside}
-use Rattle.adx_desk.proofs.Holding.{held_ask}
+use Rattle.notice_batches.proofs.Holding.{held_ask}
 use Rattle.adx_desk.proofs.Inside.{known}
 use Rattle.adx_desk.proofs.journaled_day.JournaledDay.held_beside.Goals as goal
 

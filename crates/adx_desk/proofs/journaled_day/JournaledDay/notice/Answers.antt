@@ -6,7 +6,8 @@ use Rattle.day_rules.specs.declared.entry.Entry.{Entry}
 use Rattle.day_rules.specs.Replies.{notice_reply}
 use Rattle.adx_desk.specs.Journaled.{JournaledState, on_disk}
 use Rattle.adx_desk.specs.Serving.{Serves}
-use Rattle.adx_desk.proofs.Asked.{for_some, notice_no_ask}
+use Rattle.adx_desk.proofs.Asked.{for_some}
+use Rattle.notice_batches.proofs.NoAsks.{notice_no_ask}
 use Rattle.adx_desk.proofs.journaled_day.JournaledDay.notice.Goals as goal
 
 pub add_notice-requires-clause-no_ask : goal.add_notice-requires-clause-no_ask

@@ -1,0 +1,5 @@
+pub mod NoAsks
+pub mod Holding
+pub mod OpenAwards
+pub mod Calls
+pub mod InTurn
