@@ -1,0 +1,9 @@
+pub mod Sold
+pub mod Cases
+pub mod Keyed
+pub mod Steps
+pub mod Shown
+pub mod Tried
+pub mod Changes
+pub mod Walks
+pub mod Followed
