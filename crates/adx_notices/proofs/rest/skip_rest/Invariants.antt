@@ -1,0 +1,21 @@
+-- Some bytes were read, and nothing was written.
+use Rattle.std.proofs.Common.{◌≡◌, ◌≤◌, [], length}
+use Rattle.adx_io.specs.Streams.{WhereTold}
+use Rattle.adx_io.specs.TalkState.{place_of, state_of}
+use Rattle.adx_io.specs.declared.line_buffer.TheConstants.{CHUNK}
+use Rattle.adx_notices.proofs.Reading.{ReadsSome}
+use Rattle.adx_notices.proofs.rest.skip_rest.Given as goal
+
+abbrev pub invariant-lines : goal.invariant-lines
+invariant-lines g l = record {
+  reads : WhereTold (state_of l.fn.talk).tape (state_of l.talk).tape (ReadsSome (state_of l.fn.talk) (state_of l.talk));
+  held : (state_of l.talk).held ≡ (state_of l.fn.talk).held;
+  unwritten : (state_of l.talk).out ≡ [];
+  ahead : length l.talk.buffer.now.pending ≤ CHUNK;
+  read_same : (state_of l.talk).read_faults ≡ (state_of l.fn.talk).read_faults;
+  write_same : (state_of l.talk).write_faults ≡ (state_of l.fn.talk).write_faults;
+  place : place_of l.talk ≡ place_of l.fn.talk;
+}
+
+abbrev pub decreases-lines : goal.decreases-lines
+decreases-lines g l = (state_of l.talk).allowed

@@ -1,0 +1,3 @@
+pub mod PostLines
+pub mod Notices
+pub mod Printing

@@ -1,0 +1,31 @@
+//! The rest of an input, which is read and not looked at.
+ghost use Rattle.std.specs.Prelude.{◌≡◌, ◌≢◌, ◌≤◌, [], length, Err, OnOk};
+ghost use Rattle.adx_io.specs.Streams.{WhereTold};
+ghost use Rattle.adx_io.specs.Talk.{HasCauses};
+ghost use Rattle.adx_io.specs.TalkState.{place_of, state_of};
+ghost use Rattle.adx_io.specs.declared.line_buffer.TheConstants.{CHUNK};
+ghost use Rattle.adx_io.specs.declared.stop.Stop.TheVariants.{OutOfMemory};
+ghost use Rattle.adx_notices.specs.Printing.{SkipsRest};
+
+use adx_io::{Next, Rest, Sink, Source, Stop, Talk};
+
+/// Reads an input on to its end, or one byte past its limit. No line of it is kept.
+pub(crate) fn skip_rest<S: Source, K: Sink>(talk: &mut Talk<'_, S, K>) -> Result<Rest, Stop>
+    requires unwritten { (state_of talk.old).out ≡ [] }
+    requires ahead { length talk.old.buffer.now.pending ≤ CHUNK }
+    ensures reads { WhereTold (state_of talk.old).tape (state_of talk.new).tape (SkipsRest (state_of talk.old) (state_of talk.new) result) }
+    ensures held { (state_of talk.new).held ≡ (state_of talk.old).held }
+    ensures unwritten { OnOk result ((state_of talk.new).out ≡ []) }
+    ensures ahead { length talk.new.buffer.now.pending ≤ CHUNK }
+    ensures looked { result ≢ Err OutOfMemory → talk.new.buffer.now.pending ≡ [] }
+    ensures causes { HasCauses (state_of talk.old) (state_of talk.new) result }
+    ensures same { place_of talk.new ≡ place_of talk.old }
+{
+    'lines: loop {
+        match talk.next_line(0)? {
+            Next::Line => {}
+            Next::End => return Ok(Rest::Whole),
+            Next::PastLimit => return Ok(Rest::PastLimit),
+        }
+    }
+}

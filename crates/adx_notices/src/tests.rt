@@ -1,0 +1,265 @@
+//! The notices of a day: what days owe, inputs that are refused, files of other kinds, and faults of each object.
+use crate::serve_notices;
+use adx_io::{Disk, MemoryDisk, MemorySink, MemorySource, Stop};
+use script_day::{Ending, serve_day};
+use std::alloc::{AllocError, Global};
+use std::test::Fail;
+
+/// The roster's line.
+const ROSTER: &str =
+    r#"{"day":"2025-03-01","bidders":[{"name":"b1"}],"campaigns":[{"bidder":"b1","seat":"s1","cid":"c1","budget":0.01},{"bidder":"b1","seat":"s1","cid":"c2","budget":0.01}]};"#;
+
+/// Adds a text, in which `;` stands for a newline.
+fn add_lines(bytes: &mut Vec<u8>, text: &str) -> Result<(), AllocError> {
+    for byte in text.as_bytes() {
+        match *byte {
+            b';' => bytes.push(b'\n')?,
+            other => bytes.push(other)?,
+        }
+    }
+    Ok(())
+}
+
+/// Adds a text, in which `;` stands for a newline, with another in place of each mark.
+fn add_with(bytes: &mut Vec<u8>, text: &str, mark: char, put: &str) -> Result<(), AllocError> {
+    for (place, part) in text.split(mark).enumerate() {
+        if place > 0 {
+            add_lines(bytes, put)?;
+        }
+        add_lines(bytes, part)?;
+    }
+    Ok(())
+}
+
+/// An ask with one bid, at the moment 10, and a bid that loses to it. `@` stands for a URL: the nurl, the burl and the
+/// lurl of the first, and the lurl of the second.
+const ASK: &str =
+    r#"{"ask":{"id":"a1","imp":[{"id":"i"}]},"answers":[{"id":"a1","bidid":"r/1","seatbid":[{"seat":"s1","bid":[{"id":"x","impid":"i","price":2.5,"cid":"c1","nurl":"@","burl":"@","lurl":"@"},{"id":"y","impid":"i","price":1,"cid":"c2","lurl":"@"}]}]}],"now":10};"#;
+
+/// A notice of the ask's award; `@` stands for its kind.
+const NOTICE: &str = r#"{"notice":"@","auction":"a1","bid":0};"#;
+
+/// A tick; `@` stands for its moment.
+const TICK: &str = r#"{"tick":@};"#;
+
+/// Adds what a row's words stand for: `ask` and a URL, `notice` and a kind, `tick` and a moment, or else a line as it is.
+fn add_call(bytes: &mut Vec<u8>, call: &str) -> Result<(), AllocError> {
+    match call.split_once(' ') {
+        Some(("ask", url)) => add_with(bytes, ASK, '@', url),
+        Some(("notice", kind)) => add_with(bytes, NOTICE, '@', kind),
+        Some(("tick", moment)) => add_with(bytes, TICK, '@', moment),
+        _ => add_lines(bytes, call),
+    }
+}
+
+/// The word of an end.
+fn word_of(ended: Result<(), Ending>) -> &'static str {
+    match ended {
+        Ok(()) => "told",
+        Err(Ending::Refused) => "refused",
+        Err(Ending::Stopped(Stop::ReadFault)) => "unread",
+        Err(Ending::Stopped(Stop::WriteFault)) => "unwritten",
+        Err(Ending::Stopped(Stop::OutOfMemory)) => "no memory",
+        Err(Ending::DiskFault) => "disk",
+        Err(Ending::NoHistory) => "history",
+    }
+}
+
+/// Serves a day of these calls on a disk.
+fn serve_calls(alloc: Global, calls: &str, disk: &mut MemoryDisk) -> Result<(), Fail> {
+    let mut input = Vec::new(alloc);
+    add_lines(&mut input, ROSTER)?;
+    for call in calls.split(", ") {
+        add_call(&mut input, call)?;
+    }
+    let mut source = MemorySource::new(alloc, &input, 0, &[])?;
+    let mut sink = MemorySink::new(alloc, 0, &[])?;
+    match serve_day(alloc, &mut source, &mut sink, disk) {
+        Ok(()) => Ok(()),
+        Err(_) => Err("no day".into()),
+    }
+}
+
+/// Whether an input gives this output on a disk, in pieces of so many bytes; 0 is whole. In the input `R` stands for the
+/// roster's line.
+fn gives(
+    alloc: Global,
+    input: &str,
+    output: &str,
+    step: usize,
+    end: &str,
+    disk: &mut MemoryDisk,
+) -> Result<bool, Fail> {
+    let mut bytes = Vec::new(alloc);
+    add_with(&mut bytes, input, 'R', ROSTER)?;
+    let mut wanted = Vec::new(alloc);
+    add_lines(&mut wanted, output)?;
+    let mut source = MemorySource::new(alloc, &bytes, step, &[])?;
+    let mut sink = MemorySink::new(alloc, step, &[])?;
+    let ended = word_of(serve_notices(alloc, &mut source, &mut sink, disk));
+    Ok(ended == end && sink.taken() == wanted.as_slice())
+}
+
+/// The same whole, byte by byte, and in pieces of five bytes.
+fn gives_in_pieces(
+    alloc: Global,
+    input: &str,
+    output: &str,
+    end: &str,
+    disk: &mut MemoryDisk,
+) -> Result<bool, Fail> {
+    for step in [0, 1, 5] {
+        if !gives(alloc, input, output, step, end, disk)? {
+            return Ok(false);
+        }
+    }
+    Ok(true)
+}
+
+/// Days and the lines of their posts: `calls => lines`.
+const DAYS: &str = r#" => 
+ask http://n.example/${AUCTION_PRICE} => lurl http://n.example/;
+ask http://n/?l=${AUCTION_LOSS} => lurl http://n/?l=102;
+ask http://n/?l=${AUCTION_LOSS}&p=${AUCTION_PRICE}, notice bill, notice bill, notice win => lurl http://n/?l=102&p=;burl http://n/?l=0&p=2.5;nurl http://n/?l=0&p=2.5;
+ask u?${AUCTION_PRICE:B64}&i=${AUCTION_BID_ID}, notice win, notice bill => lurl u?&i=r%2F1;nurl u?Mi41&i=r%2F1;burl u?Mi41&i=r%2F1;
+ask u?${AUCTION_LOSS}, notice loss, notice loss, notice bill => lurl u?102;lurl u?102;
+ask u?${AUCTION_LOSS}, tick 3610, tick 3611, notice win => lurl u?102;lurl u?2;
+ask ${AUCTION_AD_ID}, notice win, notice bill => 
+ask https://[::1]:0/ a b, notice win => lurl https://[::1]:0/ a b;nurl https://[::1]:0/ a b;
+ask user@n, {"x":1};, [;, notice win => lurl user@n;nurl user@n;"#;
+
+/// Whether a day of these calls has these lines.
+fn has_lines(alloc: Global, calls: &str, lines: &str) -> Result<bool, Fail> {
+    let mut disk = MemoryDisk::new(alloc, b"", &[], None)?;
+    serve_calls(alloc, calls, &mut disk)?;
+    gives_in_pieces(alloc, "R", lines, "told", &mut disk)
+}
+
+#[test]
+fn tells_the_posts_of_a_day(rt: HostRuntime) -> Result<(), Fail> {
+    for row in DAYS.lines() {
+        let (calls, lines) = row.split_once(" => ").ok_or("no lines")?;
+        assert!(rt; has_lines(rt.alloc(), calls, lines)?, "{row}");
+    }
+    Ok(())
+}
+
+/// Inputs on the disk of a day, what they give, and how the run ends: `input => output => end`.
+const INPUTS: &str = r#" => {"answer":"roster","why":"cut"}; => refused
+{} => {"answer":"roster","why":"cut"}; => refused
+{};R => {"answer":"roster","why":"field day"}; => refused
+[1; => {"answer":"roster","why":"json syntax 2"}; => refused
+R => lurl u?102; => told
+RR{}; and; ;; more => lurl u?102; => told"#;
+
+#[test]
+fn ends_as_its_input_says(rt: HostRuntime) -> Result<(), Fail> {
+    let mut disk = MemoryDisk::new(rt.alloc(), b"", &[], None)?;
+    serve_calls(rt.alloc(), "ask u?${AUCTION_LOSS}", &mut disk)?;
+    for row in INPUTS.lines() {
+        let (input, rest) = row.split_once(" => ").ok_or("no output")?;
+        let (output, end) = rest.split_once(" => ").ok_or("no end")?;
+        assert!(rt;
+            gives_in_pieces(rt.alloc(), input, output, end, &mut disk)?,
+            "{row}"
+        );
+    }
+    Ok(())
+}
+
+/// A roster of another budget.
+const OTHER_ROSTER: &str =
+    r#"{"day":"2025-03-01","bidders":[{"name":"b1"}],"campaigns":[{"bidder":"b1","seat":"s1","cid":"c1","budget":0.02}]};"#;
+
+/// The digest of the roster, as a refusal tells it.
+const OTHER_DIGEST: &str = r#"{"answer":"journal","why":"otherroster","kept":""#;
+
+/// How the run on a disk ends, and the front of its output of so many bytes.
+fn tells(
+    alloc: Global,
+    input: &str,
+    disk: &mut MemoryDisk,
+    front: &str,
+) -> Result<&'static str, Fail> {
+    let mut bytes = Vec::new(alloc);
+    add_lines(&mut bytes, input)?;
+    let mut source = MemorySource::new(alloc, &bytes, 0, &[])?;
+    let mut sink = MemorySink::new(alloc, 0, &[])?;
+    let ended = word_of(serve_notices(alloc, &mut source, &mut sink, disk));
+    if sink.taken().starts_with(front.as_bytes()) {
+        return Ok(ended);
+    }
+    Ok("another output")
+}
+
+/// Whether a file that is no journal is told as such.
+fn refuses_no_journal(alloc: Global) -> Result<bool, Fail> {
+    let mut disk = MemoryDisk::new(alloc, b"hello", &[], None)?;
+    let line = r#"{"answer":"journal","why":"notajournal","at":0};"#;
+    gives(alloc, "R", line, 0, "history", &mut disk)
+}
+
+/// How the run of another roster ends on a disk that keeps a day, and that of its own.
+fn told_apart(alloc: Global) -> Result<(&'static str, &'static str), Fail> {
+    let mut disk = MemoryDisk::new(alloc, b"", &[], None)?;
+    serve_calls(alloc, "ask u", &mut disk)?;
+    let other = tells(alloc, OTHER_ROSTER, &mut disk, OTHER_DIGEST)?;
+    let own = tells(alloc, ROSTER, &mut disk, "lurl u\n")?;
+    Ok((other, own))
+}
+
+#[test]
+fn refuses_other_files(rt: HostRuntime) -> Result<(), Fail> {
+    assert!(rt; refuses_no_journal(rt.alloc())?);
+    assert_eq!(rt; told_apart(rt.alloc())?, ("history", "told"));
+    Ok(())
+}
+
+/// A disk that keeps a day with two posts, of which these reads fail.
+fn failing_disk(alloc: Global, reading: &[u64]) -> Result<MemoryDisk, Fail> {
+    let mut kept = MemoryDisk::new(alloc, b"", &[], None)?;
+    serve_calls(alloc, "ask http://n.example/, notice win", &mut kept)?;
+    let size = kept.size().ok().ok_or("no size")?;
+    let mut file = Vec::new(alloc);
+    file.resize(size as usize, 0)?;
+    kept.read(0, &mut file).ok().ok_or("no bytes")?;
+    Ok(MemoryDisk::new(alloc, &file, reading, None)?)
+}
+
+/// How a run ends where these calls of its source, its sink and its disk fail, and how much was written.
+fn fails(
+    alloc: Global,
+    taking: &[u64],
+    putting: &[u64],
+    reading: &[u64],
+) -> Result<(&'static str, usize), Fail> {
+    let mut disk = failing_disk(alloc, reading)?;
+    let mut bytes = Vec::new(alloc);
+    add_lines(&mut bytes, ROSTER)?;
+    let mut source = MemorySource::new(alloc, &bytes, 0, taking)?;
+    let mut sink = MemorySink::new(alloc, 20, putting)?;
+    let ended = word_of(serve_notices(alloc, &mut source, &mut sink, &mut disk));
+    Ok((ended, sink.taken().len()))
+}
+
+/// The calls of the source, the sink and the disk that fail, how the run ends, and how much was written.
+const FAULTS: [(&[u64], &[u64], &[u64], &str, usize); 7] = [
+    (&[], &[], &[], "told", 46),
+    (&[0], &[], &[], "unread", 0),
+    (&[1], &[], &[], "unread", 0),
+    (&[], &[0], &[], "unwritten", 0),
+    (&[], &[1], &[], "unwritten", 20),
+    (&[], &[], &[0], "disk", 0),
+    (&[], &[], &[1], "disk", 0),
+];
+
+#[test]
+fn ends_by_the_fault_of_a_call(rt: HostRuntime) -> Result<(), Fail> {
+    for (taking, putting, reading, end, written) in FAULTS {
+        assert_eq!(rt;
+            fails(rt.alloc(), taking, putting, reading)?,
+            (end, written)
+        );
+    }
+    Ok(())
+}
