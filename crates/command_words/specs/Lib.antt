@@ -1,0 +1,4 @@
+pub mod Spelling
+pub mod Meanings
+pub mod Taken
+pub mod Helps

@@ -1,0 +1,77 @@
+-- The commands that words may name in plain spelling, and what they ask for. This project's own.
+use Rattle.std.specs.Prelude.{◌≡◌, ◌⊎◌, ℕ, ◌-◌, ◌^◌, ◌≤◌, List, [], ◌∷◌, ◌++◌, codes, Option, Some, option_and_then}
+use Rattle.adx_units.specs.Number.{whole_up_to}
+use Rattle.command_words.specs.Spelling.{Given, Row, Spells, dashed, value_of}
+use Rattle.command_words.specs.declared.command.Command.{Command}
+use Rattle.command_words.specs.declared.command.Topic.{Topic}
+use Rattle.command_words.specs.declared.command.TheConstants.{MOST_ASKS}
+
+-- the names of options
+abbrev pub journal_name : List ℕ
+journal_name = codes "journal"
+
+abbrev pub seed_name : List ℕ
+seed_name = codes "seed"
+
+abbrev pub asks_name : List ℕ
+asks_name = codes "asks"
+
+-- day [--journal FILE]
+abbrev pub day : Row
+day = record { word = codes "day"; needed = []; optional = journal_name ∷ [] }
+
+-- notices --journal FILE
+abbrev pub notices : Row
+notices = record { word = codes "notices"; needed = journal_name ∷ []; optional = [] }
+
+-- bidder
+abbrev pub bidder : Row
+bidder = record { word = codes "bidder"; needed = []; optional = [] }
+
+-- gen --seed N --asks M
+abbrev pub generator : Row
+generator = record { word = codes "gen"; needed = seed_name ∷ asks_name ∷ []; optional = [] }
+
+-- the commands that the program has
+abbrev pub commands : List Row
+commands = day ∷ notices ∷ bidder ∷ generator ∷ []
+
+-- the number that an option's value tells: decimal, without a sign or a leading zero, and at most so much
+abbrev pub number_of : ℕ → Option (List ℕ) → Option ℕ
+number_of most = option_and_then (whole_up_to most)
+
+-- what these options of a command ask for
+abbrev pub AsksFor : Command → Row → List Given → Type 0
+AsksFor (Command.Day journal) row given = (row ≡ day) × (value_of journal_name given ≡ journal)
+AsksFor (Command.Notices journal) row given = (row ≡ notices) × (value_of journal_name given ≡ Some journal)
+AsksFor Command.Bidder row given = row ≡ bidder
+AsksFor (Command.Generate seed asks) row given =
+    (row ≡ generator) × (number_of (2 ^ 64 - 1) (value_of seed_name given) ≡ Some seed) × (number_of MOST_ASKS (value_of asks_name given) ≡ Some asks)
+AsksFor (Command.Help topic) row given = ⊥
+AsksFor Command.Version row given = ⊥
+
+-- the two words that ask for help or for the version
+abbrev pub help_word : List ℕ
+help_word = dashed (codes "help")
+
+abbrev pub version_word : List ℕ
+version_word = dashed (codes "version")
+
+-- the words that stand before `--help`: none, or the word of the command that is asked for
+abbrev pub words_before_help : Topic → List (List ℕ)
+words_before_help Topic.Program = []
+words_before_help Topic.Day = day.word ∷ []
+words_before_help Topic.Notices = notices.word ∷ []
+words_before_help Topic.Bidder = bidder.word ∷ []
+words_before_help Topic.Generate = generator.word ∷ []
+
+-- the words ask for this in plain spelling
+abbrev pub IsPlain : Command → List (List ℕ) → Type 0
+IsPlain (Command.Help topic) words = words ≡ words_before_help topic ++ help_word ∷ []
+IsPlain Command.Version words = words ≡ version_word ∷ []
+IsPlain command words = (row : Row) × (given : List Given) × Spells row given words × AsksFor command row given
+
+-- a generated day that is asked for has at most so many asks
+abbrev pub HasFewAsks : Option Command → Type 0
+HasFewAsks (Some (Command.Generate seed asks)) = asks ≤ MOST_ASKS
+HasFewAsks _ = Unit {0}

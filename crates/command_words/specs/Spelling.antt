@@ -1,0 +1,46 @@
+-- When words are a command in plain spelling: its word, and behind it each of its options once with its value, in any
+-- order. This project's own.
+use Rattle.std.specs.Prelude.{◌≡◌, ◌==◌, ℕ, List, [], ◌∷◌, ◌++◌, map, find, is_some, codes, Bool, true, false, Option, option_map}
+use Rattle.std.specs.List.{All, IsDistinct, list_any}
+use Rattle.std.specs.Str.{bytes_eq}
+
+-- an option that is given: its name, and its value
+abbrev pub Given : Type 0
+Given = List ℕ × List ℕ
+
+-- the word of an option: its name behind two dashes
+abbrev pub dashed : List ℕ → List ℕ
+dashed name = 45 ∷ 45 ∷ name
+
+-- the words of options: that of each, and its value
+abbrev pub words_of : List Given → List (List ℕ)
+words_of [] = []
+words_of (one ∷ rest) = dashed one.0 ∷ one.1 ∷ words_of rest
+
+-- the text begins with `-`
+abbrev pub begins_with_dash : List ℕ → Bool
+begins_with_dash [] = false
+begins_with_dash (byte ∷ rest) = byte == 45
+
+-- the value that is given for an option, if one is
+abbrev pub value_of : List ℕ → List Given → Option (List ℕ)
+value_of name given = option_map (λ one. one.1) (find (λ one. bytes_eq one.0 name) given)
+
+-- a command: its word, the names of the options that it needs, and of those that it takes besides
+pub record Row : Type 0 where
+  pub word : List ℕ
+  pub needed : List (List ℕ)
+  pub optional : List (List ℕ)
+
+-- the command has an option of this name
+abbrev pub has_option : Row → List ℕ → Bool
+has_option row name = list_any (λ option. bytes_eq option name) (row.needed ++ row.optional)
+
+-- the words are this command with these options in plain spelling: the command's word comes first, each option is one of
+-- its own and stands once, none that it needs is missing, and no value begins with `-`
+pub record Spells (row : Row) (given : List Given) (words : List (List ℕ)) : Type 0 where
+  pub are : words ≡ row.word ∷ words_of given
+  pub known : All (λ one. has_option row one.0 ≡ true) given
+  pub once : IsDistinct bytes_eq (map (λ one. one.0) given)
+  pub complete : All (λ name. is_some (value_of name given) ≡ true) row.needed
+  pub plain : All (λ one. begins_with_dash one.1 ≡ false) given

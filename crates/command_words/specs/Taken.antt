@@ -1,0 +1,92 @@
+-- What words of any spelling come to, by `clap`'s own definitions of a parse; a caller that writes words in plain spelling
+-- needs none of it. This project's own.
+use Rattle.std.specs.Prelude.{◌≡◌, ℕ, ◌-◌, ◌^◌, List, [], ◌∷◌, ◌++◌, map, codes, Bool, true, false, if◌then◌else◌, Option, Some, None, option_and_then, option_map}
+use Rattle.std.specs.List.{fold}
+use Rattle.std.specs.Str.{bytes_eq}
+use Rattle.clap.specs.Kinds.{IsAmong, Kinds}
+use Rattle.clap.specs.Faults.{fault_of}
+use Rattle.clap.specs.Simple.{App, new_app, new_rule, new_shape, subcommand_of, with_rule, with_subcommand}
+use Rattle.clap.specs.Walk.{Rule, first_of}
+use Rattle.clap.specs.Walk.{Row as Found}
+use Rattle.clap.specs.declared.error.kind.ErrorKind.{ErrorKind}
+use Rattle.command_words.specs.Spelling.{Row}
+use Rattle.command_words.specs.Meanings.{asks_name, bidder, commands, day, generator, journal_name, notices, number_of, seed_name}
+use Rattle.command_words.specs.declared.command.Command.{Command}
+use Rattle.command_words.specs.declared.command.Topic.{Topic}
+use Rattle.command_words.specs.declared.command.TheConstants.{MOST_ASKS}
+
+-- an option with one value, behind its name
+abbrev pub option_rule : Bool → List ℕ → Rule
+option_rule needed name = record (new_rule name) { long = Some name; required = needed }
+
+abbrev pub rules_of : Row → List Rule
+rules_of row = map (option_rule true) row.needed ++ map (option_rule false) row.optional
+
+-- a command as a subcommand of clap's
+abbrev pub subcommand_for : Row → App
+subcommand_for row = fold with_rule (new_app row.word) (rules_of row)
+
+-- the program without its commands
+abbrev pub no_commands : App
+no_commands = record {
+  top = record (new_shape (codes "adx")) { no_binary_name = true; disable_help_subcommand = true; has_version = true };
+  subs = [];
+}
+
+-- the program with these commands, and with all that it has
+abbrev pub program_of : List Row → App
+program_of = fold (λ (program : App) (row : Row). with_subcommand program (subcommand_for row).top) no_commands
+
+abbrev pub application : App
+application = program_of commands
+
+-- what the rows that clap found ask for
+abbrev pub generate : Option ℕ → Option ℕ → Option Command
+generate seed asks = option_and_then (λ s. option_map (λ a. Command.Generate s a) asks) seed
+
+abbrev pub print_notices : Option (List ℕ) → Option Command
+print_notices = option_map (λ j. Command.Notices j)
+
+abbrev pub command_by : List ℕ → List Found → Option Command
+command_by word found =
+    if bytes_eq word day.word then Some (Command.Day (first_of journal_name found))
+    else if bytes_eq word notices.word then print_notices (first_of journal_name found)
+    else if bytes_eq word bidder.word then Some Command.Bidder
+    else if bytes_eq word generator.word then generate (number_of (2 ^ 64 - 1) (first_of seed_name found)) (number_of MOST_ASKS (first_of asks_name found))
+    else None
+
+abbrev pub command_found : Option (List ℕ × List Found) → Option Command
+command_found = option_and_then (λ sub. command_by sub.0 sub.1)
+
+-- the topic that words ask help for, by the first of them
+abbrev pub topic_by : List ℕ → Topic
+topic_by word =
+    if bytes_eq word day.word then Topic.Day
+    else if bytes_eq word notices.word then Topic.Notices
+    else if bytes_eq word bidder.word then Topic.Bidder
+    else if bytes_eq word generator.word then Topic.Generate
+    else Topic.Program
+
+abbrev pub topic_of : List (List ℕ) → Topic
+topic_of [] = Topic.Program
+topic_of (word ∷ rest) = topic_by word
+
+-- a parse takes the words, or ends with an error of a kind that it may have
+abbrev pub Comes : Option ErrorKind → Kinds → Type 0
+Comes None kinds = kinds ≡ []
+Comes (Some kind) kinds = IsAmong kind kinds
+
+abbrev pub answer_by : ErrorKind → List (List ℕ) → Option Command
+answer_by ErrorKind.DisplayHelp words = Some (Command.Help (topic_of words))
+answer_by ErrorKind.DisplayVersion words = Some Command.Version
+answer_by _ words = None
+
+abbrev pub answer : Option ErrorKind → List (List ℕ) → Option Command
+answer None words = command_found (subcommand_of application words)
+answer (Some kind) words = answer_by kind words
+
+-- the words are read so: by what a parse of them comes to
+pub record IsReadingOf (words : List (List ℕ)) (read : Option Command) : Type 0 where
+  pub outcome : Option ErrorKind
+  pub comes : Comes outcome (fault_of application words)
+  pub answers : read ≡ answer outcome words

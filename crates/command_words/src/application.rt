@@ -1,0 +1,80 @@
+//! The program and its commands, as `clap` builds them.
+ghost use Rattle.std.specs.Prelude.{◌≡◌, ◌∷◌, [], IfOk, false, true};
+ghost use Rattle.clap.specs.Simple.{app_of};
+ghost use Rattle.clap.specs.Walk.{rule_of};
+ghost use Rattle.clap.specs.declared.builder.command.Command.TheViews.{out-Command as fields_of};
+ghost use Rattle.command_words.specs.Meanings.{bidder as bidder_row, day as day_row, generator as generator_row, notices as notices_row};
+ghost use Rattle.command_words.specs.Taken.{application as program, no_commands, option_rule, program_of, subcommand_for};
+
+use clap::{Arg, Command};
+use std::alloc::{AllocError, Global};
+
+/// An option with one value that may stand, and one that has to.
+fn option<'a>(alloc: Global, name: &'a str) -> Arg<'a>
+    ensures rule { rule_of result ≡ option_rule false name.entry.now }
+    ensures local { result.global ≡ false }
+{
+    Arg::new(alloc, name).long(name)
+}
+
+fn needed<'a>(alloc: Global, name: &'a str) -> Arg<'a>
+    ensures rule { rule_of result ≡ option_rule true name.entry.now }
+    ensures local { result.global ≡ false }
+{
+    Arg::new(alloc, name).long(name).required(true)
+}
+
+/// The command `day`.
+fn day<'a>(alloc: Global) -> Result<Command<'a>, AllocError>
+    ensures { IfOk result (λ c. (app_of c ≡ subcommand_for day_row) × ((fields_of c).has_globals ≡ false)) }
+{
+    Command::new(alloc, "day").arg(option(alloc, "journal"))
+}
+
+/// The command `notices`.
+fn notices<'a>(alloc: Global) -> Result<Command<'a>, AllocError>
+    ensures { IfOk result (λ c. (app_of c ≡ subcommand_for notices_row) × ((fields_of c).has_globals ≡ false)) }
+{
+    Command::new(alloc, "notices").arg(needed(alloc, "journal"))
+}
+
+/// The command `bidder`.
+fn bidder<'a>(alloc: Global) -> Command<'a>
+    ensures { (app_of result ≡ subcommand_for bidder_row) × ((fields_of result).has_globals ≡ false) }
+{
+    Command::new(alloc, "bidder")
+}
+
+/// The command `gen`.
+fn generator<'a>(alloc: Global) -> Result<Command<'a>, AllocError>
+    ensures { IfOk result (λ c. (app_of c ≡ subcommand_for generator_row) × ((fields_of c).has_globals ≡ false)) }
+{
+    let command = Command::new(alloc, "gen").arg(needed(alloc, "seed"))?;
+    command.arg(needed(alloc, "asks"))
+}
+
+/// The program without its commands. It has no `help` command beside `--help`.
+fn bare<'a>(alloc: Global) -> Command<'a>
+    ensures { app_of result ≡ no_commands }
+{
+    Command::new(alloc, "adx")
+        .version("0.1.0")
+        .no_binary_name(true)
+        .disable_help_subcommand(true)
+}
+
+/// The program with the commands on a day.
+fn with_days<'a>(alloc: Global) -> Result<Command<'a>, AllocError>
+    ensures { IfOk result (λ c. app_of c ≡ program_of (day_row ∷ notices_row ∷ [])) }
+{
+    let command = bare(alloc).subcommand(day(alloc)?)?;
+    command.subcommand(notices(alloc)?)
+}
+
+/// The program with its commands.
+pub(crate) fn application<'a>(alloc: Global) -> Result<Command<'a>, AllocError>
+    ensures { IfOk result (λ c. app_of c ≡ program) }
+{
+    let command = with_days(alloc)?.subcommand(bidder(alloc))?;
+    command.subcommand(generator(alloc)?)
+}

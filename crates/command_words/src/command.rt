@@ -1,0 +1,37 @@
+//! What words may ask for.
+use adx_units::Text;
+
+/// The most asks of a generated day.
+pub const MOST_ASKS: u64 = 1_000_000;
+
+/// What the words of a command line ask for.
+#[derive(Debug, Drop)]
+pub enum Command {
+    /// Serve a day, with the file of its journal where one is named.
+    Day { journal: Option<Text> },
+    /// Print the notices of the day that a journal keeps, with its file.
+    Notices { journal: Text },
+    /// Serve a bidder's connection.
+    Bidder,
+    /// Take the calls of a generated day, by the words of a seed; it has at most `MOST_ASKS` asks.
+    Generate { seed: u64, asks: u64 },
+    /// Show the help on this.
+    Help(Topic),
+    /// Show the version.
+    Version,
+}
+
+/// What there is help on: the whole program, or one of its commands.
+#[derive(Clone, Copy, Debug, PartialEq, Eq)]
+pub enum Topic {
+    /// The program and its commands.
+    Program,
+    /// The command `day`.
+    Day,
+    /// The command `notices`.
+    Notices,
+    /// The command `bidder`.
+    Bidder,
+    /// The command `gen`.
+    Generate,
+}

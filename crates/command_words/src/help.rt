@@ -1,0 +1,93 @@
+//! The texts that `--help` and `--version` show.
+ghost use Rattle.std.specs.Prelude.{◌≡◌};
+ghost use Rattle.command_words.specs.Helps.{help_text};
+
+use crate::command::Topic;
+
+/// What `--version` shows.
+pub const VERSION: &str = "adx 0.1.0\n";
+
+/// The help on the program.
+pub const PROGRAM_HELP: &str = "adx serves a day of an advertising exchange, or a bidder of one.
+
+usage: adx day [--journal FILE]
+       adx notices --journal FILE
+       adx bidder
+       adx gen --seed N --asks M
+       adx COMMAND --help
+       adx --version
+
+status: 0 the input was read to its end, 2 the words aren't a command, 3 the first line isn't of its form or the input passes
+its limit, 4 standard input failed, 5 standard output failed, 6 the journal failed, 7 the journal keeps no history of the
+roster, 12 want of memory
+
+example:
+  ./adx gen --seed 7 --asks 250
+";
+
+/// The help on the command `day`.
+pub const DAY_HELP: &str = "usage: adx day [--journal FILE]
+
+in:  a roster line, and then script lines, on standard input
+out: an answer to each script line, and then the closing table, on standard output
+--journal FILE: the day goes on from the history that FILE keeps, and FILE keeps what it adds; FILE is made where there is
+none
+
+status: 0 the input was read to its end, 3 the first line isn't a roster or the input passes its limit, 4 standard input
+failed, 5 standard output failed, 6 the journal failed, 7 the journal keeps no history of the roster, 12 want of memory
+
+example:
+  echo '{\"day\":\"2025-03-01\",\"bidders\":[{\"name\":\"b1\"}],\"campaigns\":[{\"bidder\":\"b1\",\"seat\":\"s1\",\"cid\":\"c1\",\"budget\":0.01}]}' | ./adx day
+";
+
+/// The help on the command `notices`.
+pub const NOTICES_HELP: &str = "usage: adx notices --journal FILE
+
+in:  a roster line, on standard input; what comes behind it is read and ignored
+out: a line for each notice that the day which FILE keeps owes its bidders, its kind and its URL, on standard output; none is
+sent, and FILE keeps the same history
+
+status: 0 the input was read to its end, 3 the first line isn't a roster or the input passes its limit, 4 standard input
+failed, 5 standard output failed, 6 the journal failed, 7 the journal keeps no history of the roster, 12 want of memory
+
+example:
+  ./adx day --journal a.journal < examples/first.day; ./adx notices --journal a.journal < examples/first.day
+";
+
+/// The help on the command `bidder`.
+pub const BIDDER_HELP: &str = "usage: adx bidder
+
+in:  a price line, and then the bytes of an HTTP connection, on standard input
+out: the connection's replies, on standard output: bids, counted notices, books and ledger
+
+status: 0 the connection was read to its end, 3 the first line isn't a price line or passes the limit of an input, 4 standard
+input failed, 5 standard output failed, 12 want of memory
+
+example:
+  printf '{\"seat\":\"s1\",\"prices\":[{\"cid\":\"c1\",\"price\":2.5}]}\\nGET /books HTTP/1.1\\r\\nHost: x\\r\\n\\r\\n' | ./adx bidder
+";
+
+/// The help on the command `gen`.
+pub const GENERATOR_HELP: &str = "usage: adx gen --seed N --asks M
+
+in:  nothing; N is a number below 2^64, M is at most 1000000, both decimal and without a leading zero
+out: the closing table of a generated day, of M asks by the words of the seed N, on standard output
+
+status: 0 the table was written, 5 standard output failed, 12 want of memory
+
+example:
+  ./adx gen --seed 7 --asks 250
+";
+
+/// The help on a topic: what goes in and out, the exit statuses, and an example.
+pub fn help_of(topic: Topic) -> &'static str
+    ensures { result.now ≡ help_text topic }
+{
+    match topic {
+        Topic::Program => PROGRAM_HELP,
+        Topic::Day => DAY_HELP,
+        Topic::Notices => NOTICES_HELP,
+        Topic::Bidder => BIDDER_HELP,
+        Topic::Generate => GENERATOR_HELP,
+    }
+}

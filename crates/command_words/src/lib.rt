@@ -1,0 +1,20 @@
+//! What the words of a command line ask for.
+//!
+//! The call `command_of` reads words with the builder of `clap`. Its contract says which words in plain spelling ask for
+//! what, in `specs/Spelling` and `specs/Meanings`, which don't know `clap`, and by `clap`'s own definitions what words of
+//! any spelling come to. A command is a row of `specs/Meanings`, a variant of `Command`, and a function of `application`.
+//! Stands on `adx_units` and on the kit's `clap`.
+#![tactic(auto)]
+
+mod application;
+mod command;
+mod help;
+mod reading;
+#[cfg(test)]
+mod tests;
+
+pub use command::{Command, MOST_ASKS, Topic};
+pub use help::{
+    BIDDER_HELP, DAY_HELP, GENERATOR_HELP, NOTICES_HELP, PROGRAM_HELP, VERSION, help_of,
+};
+pub use reading::command_of;

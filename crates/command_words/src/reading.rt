@@ -1,0 +1,191 @@
+//! What words ask for.
+ghost use Rattle.std.specs.Prelude.{◌≡◌, ◌≢◌, ◌≤◌, ◌-◌, ◌^◌, IfOk, IfSome, Some, option_map};
+ghost use Rattle.clap.specs.Matches.{found_of};
+ghost use Rattle.clap.specs.Simple.{subcommand_rows_of};
+ghost use Rattle.clap.specs.Walk.{first_of, rows_of, texts};
+ghost use Rattle.clap.specs.declared.error.kind.ErrorKind.TheVariants.{OutOfMemory as no_memory};
+ghost use Rattle.command_words.specs.Meanings.{HasFewAsks, IsPlain, asks_name, number_of, seed_name};
+ghost use Rattle.command_words.specs.Taken.{IsReadingOf, answer_by, command_by, command_found, generate, print_notices, topic_of as topic_in, topic_by};
+ghost use Rattle.command_words.specs.declared.command.Command.{Command as Meaning};
+ghost use Rattle.command_words.specs.declared.command.TheConstants.{MOST_ASKS as most_asks};
+
+use crate::application::application;
+use crate::command::{Command, MOST_ASKS, Topic};
+use adx_units::{OutOfMemory, Text, whole_up_to};
+use clap::ArgMatches;
+use clap::error::ErrorKind;
+use std::alloc::Global;
+
+/// The words as `clap` takes them.
+fn texts_of(alloc: Global, words: &[Text]) -> Result<Vec<&str>, OutOfMemory>
+    ensures { IfOk result (λ v. texts v.items ≡ words.now) }
+{
+    let mut texts = Vec::new(alloc);
+    for word in words {
+        texts.push(word.as_str())?;
+    }
+    Ok(texts)
+}
+
+/// The topic that a command's word names: the whole program where it names none.
+fn topic_named(word: &str) -> Topic
+    ensures { result ≡ topic_by word.now }
+{
+    match word {
+        "day" => Topic::Day,
+        "notices" => Topic::Notices,
+        "bidder" => Topic::Bidder,
+        "gen" => Topic::Generate,
+        _ => Topic::Program,
+    }
+}
+
+/// The topic that words ask help for.
+fn topic_of(words: &[Text]) -> Topic
+    ensures { result ≡ topic_in words.now }
+{
+    match words {
+        [word, ..] => topic_named(word.as_str()),
+        [] => Topic::Program,
+    }
+}
+
+/// What words ask for that a parse refuses for this kind of error.
+fn answered(kind: ErrorKind, words: &[Text]) -> Result<Option<Command>, OutOfMemory>
+    ensures read { IfOk result (λ read. read ≡ answer_by kind words.now) }
+    ensures few { IfOk result (λ read. HasFewAsks read) }
+    ensures memory { IfOk result (λ read. kind ≢ no_memory) }
+{
+    match kind {
+        ErrorKind::DisplayHelp => Ok(Some(Command::Help(topic_of(words)))),
+        ErrorKind::DisplayVersion => Ok(Some(Command::Version)),
+        ErrorKind::OutOfMemory => Err(OutOfMemory),
+        _ => Ok(None),
+    }
+}
+
+/// The text that was found for an option.
+fn found_text<'a>(found: &ArgMatches<'a>, name: &str) -> Option<&'a str>
+    ensures { option_map (λ s. s.now) result ≡ first_of name.now (rows_of (found_of found.now)) }
+{
+    found.get_str(name)
+}
+
+/// A text as one of its own.
+fn owned(alloc: Global, text: Option<&str>) -> Result<Option<Text>, OutOfMemory>
+    ensures { IfOk result (λ t. t ≡ option_map (λ s. s.now) text.entry) }
+{
+    match text {
+        Some(text) => Ok(Some(Text::of(alloc, text)?)),
+        None => Ok(None),
+    }
+}
+
+/// The number that a text tells, where it is decimal and at most so much.
+fn number_in(text: Option<&str>, most: u64) -> Option<u64>
+    ensures value { result ≡ number_of most (option_map (λ s. s.now) text.entry) }
+    ensures small { IfSome result (λ n. n ≤ most) }
+{
+    match text {
+        Some(text) => whole_up_to(text.as_bytes(), most),
+        None => None,
+    }
+}
+
+/// The text that was found for an option, as one of its own.
+fn text_found(
+    alloc: Global,
+    found: &ArgMatches<'_>,
+    name: &str,
+) -> Result<Option<Text>, OutOfMemory>
+    ensures { IfOk result (λ text. text ≡ first_of name.now (rows_of (found_of found.now))) }
+{
+    owned(alloc, found_text(found, name))
+}
+
+/// The number that was found for an option, where it is decimal and at most so much.
+fn number_found(found: &ArgMatches<'_>, name: &str, most: u64) -> Option<u64>
+    ensures value { result ≡ number_of most (first_of name.now (rows_of (found_of found.now))) }
+    ensures small { IfSome result (λ n. n ≤ most) }
+{
+    number_in(found_text(found, name), most)
+}
+
+/// The generated day that the options ask for.
+fn generated(found: &ArgMatches<'_>) -> Option<Command>
+    ensures read { result ≡ generate (number_of (2 ^ 64 - 1) (first_of seed_name (rows_of (found_of found.now)))) (number_of most_asks (first_of asks_name (rows_of (found_of found.now)))) }
+    ensures few { HasFewAsks result }
+{
+    let seed = number_found(found, "seed", u64::MAX)?;
+    let asks = number_found(found, "asks", MOST_ASKS)?;
+    Some(Command::Generate { seed, asks })
+}
+
+/// The notices that are asked for, of the day in this file.
+fn printed(journal: Option<Text>) -> Option<Command>
+    ensures read { result ≡ print_notices journal }
+    ensures few { HasFewAsks result }
+{
+    match journal {
+        Some(journal) => Some(Command::Notices { journal }),
+        None => None,
+    }
+}
+
+/// What a command's word with the options that were found behind it asks for.
+fn command_named(
+    alloc: Global,
+    word: &str,
+    found: &ArgMatches<'_>,
+) -> Result<Option<Command>, OutOfMemory>
+    ensures read { IfOk result (λ read. read ≡ command_by word.now (rows_of (found_of found.now))) }
+    ensures few { IfOk result (λ read. HasFewAsks read) }
+{
+    match word {
+        "day" => Ok(Some(Command::Day {
+            journal: text_found(alloc, found, "journal")?,
+        })),
+        "notices" => Ok(printed(text_found(alloc, found, "journal")?)),
+        "bidder" => Ok(Some(Command::Bidder)),
+        "gen" => Ok(generated(found)),
+        _ => Ok(None),
+    }
+}
+
+/// What the matches of a parse ask for.
+fn command_in(alloc: Global, matches: &ArgMatches<'_>) -> Result<Option<Command>, OutOfMemory>
+    ensures read { IfOk result (λ read. read ≡ command_found (subcommand_rows_of matches.now)) }
+    ensures few { IfOk result (λ read. HasFewAsks read) }
+{
+    match matches.subcommand() {
+        Some((word, found)) => command_named(alloc, word, found),
+        None => Ok(None),
+    }
+}
+
+/// What words ask for, as a parse takes them.
+fn parsed(alloc: Global, words: &[Text]) -> Result<Option<Command>, OutOfMemory>
+    ensures read { IfOk result (λ read. IsReadingOf words.now read) }
+    ensures few { IfOk result (λ read. HasFewAsks read) }
+{
+    let texts = texts_of(alloc, words)?;
+    let program = application(alloc)?;
+    match program.try_get_matches_from(texts.as_slice()) {
+        Ok(matches) => command_in(alloc, &matches),
+        Err(error) => answered(error.kind(), words),
+    }
+}
+
+/// What the words of a command line ask for, which stand behind the program's name. None where they ask for nothing that
+/// the program has.
+///
+/// In plain spelling a command's word comes first, and behind it each of its options stands once, as two words, in any
+/// order, its value not beginning with `-`; a number is decimal, without a sign or a leading zero. Words in plain spelling
+/// are taken. So are other spellings that `clap` knows, as `--journal=FILE`, and mean the same.
+pub fn command_of(alloc: Global, words: &[Text]) -> Result<Option<Command>, OutOfMemory>
+    ensures plain { IfOk result (λ read. (command : Meaning) → IsPlain command words.now → read ≡ Some command) }
+    ensures other { IfOk result (λ read. IsReadingOf words.now read) }
+    ensures few { IfOk result (λ read. HasFewAsks read) }
+{
+    parsed(alloc, words)
+}
