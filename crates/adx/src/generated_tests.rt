@@ -1,4 +1,4 @@
-//! A generated day: its table from no entry and on the disk that has it, over a disk that fails, and the words that are none.
+//! A generated day: its table from no entry and on the disk that has it, and over a disk that fails.
 use crate::command::adx;
 use adx_io::{MemoryDisk, MemorySink, MemorySource};
 use adx_units::Text;
@@ -32,36 +32,15 @@ const TABLE: &str =
 /// More calls than a disk gets while a day is opened, and some more.
 const CALLS: u64 = 12;
 
-/// Words of which none is a generated day's.
-const OTHER_WORDS: &str = "gen
-gen --seed 7
-gen --asks 250
-gen --seed 7 --asks
-gen --seed 7 --seed 7
-gen --asks 250 --asks 250
-gen --seed +7 --asks 250
-gen --seed -7 --asks 250
-gen --seed 07 --asks 250
-gen --seed 7 --asks 0250
-gen --seed 7 --asks -1
-gen --seed 18446744073709551616 --asks 1
-gen --seed 7 --asks 1000001
-gen --seed --asks --asks 1
-gen --seed 7 --asks 250 more
-Gen --seed 7 --asks 250";
-
-/// How many they are.
-const OTHER_COUNT: usize = 16;
-
 /// What came of a run.
 #[derive(Drop)]
-struct Ran {
-    status: u8,
-    output: String,
+pub(crate) struct Ran {
+    pub(crate) status: u8,
+    pub(crate) output: String,
 }
 
 /// Runs the words of a line on a disk, and nothing on the source.
-fn run(alloc: Global, line: &str, disk: &mut MemoryDisk) -> Result<Ran, Fail> {
+pub(crate) fn run(alloc: Global, line: &str, disk: &mut MemoryDisk) -> Result<Ran, Fail> {
     let mut words = Vec::new(alloc);
     for word in line.split(' ') {
         words.push(Text::of(alloc, word)?)?;
@@ -102,18 +81,5 @@ fn ends_at_the_first_fault_of_the_disk(rt: HostRuntime) -> Result<(), Fail> {
         ran.output.as_str(),
         "{\"answer\":\"journal\",\"why\":\"notajournal\",\"at\":0}\n"
     );
-    Ok(())
-}
-
-#[test]
-fn refuses_other_words(rt: HostRuntime) -> Result<(), Fail> {
-    let alloc = rt.alloc();
-    assert_eq!(rt; OTHER_WORDS.lines().count(), OTHER_COUNT);
-    for line in OTHER_WORDS.lines() {
-        let mut disk = MemoryDisk::new(alloc, b"", &[], None)?;
-        let ran = run(alloc, line, &mut disk)?;
-        assert_eq!(rt; ran.status, 2, "{line}");
-        assert_eq!(rt; ran.output.as_str(), "usage: adx COMMAND\n", "{line}");
-    }
     Ok(())
 }

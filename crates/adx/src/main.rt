@@ -1,15 +1,15 @@
 //! An exchange for OpenRTB 2.6 that serves a day of first-price auctions.
 //!
 //! The call `adx` of the module `command` does all that the program does, from the words of its command
-//! line and the bytes of a source to those of a sink; its contract is the program's. It stands on
-//! `script_day`, which serves a day of script lines, on `bidder_day`, which serves a bidder's connection, on `adx_books`,
-//! which generates a day, on `adx_io` and on `adx_units`.
+//! line and the bytes of a source to those of a sink; its contract is the program's. It stands on `command_words`, which
+//! reads the words, on `script_day`, which serves a day of script lines, on `adx_notices`, which prints the notices of a
+//! day, on `bidder_day`, which serves a bidder's connection, on `adx_books`, which generates a day, on `adx_io` and on
+//! `adx_units`.
 #![tactic(auto)]
 
 mod command;
 #[cfg(test)]
 mod generated_tests;
-mod generator;
 #[cfg(test)]
 mod journal_tests;
 mod length_disk;
@@ -19,36 +19,19 @@ mod status;
 mod test_tables;
 #[cfg(test)]
 mod tests;
+#[cfg(test)]
+mod word_tests;
 
 use crate::command::adx;
 use crate::length_disk::LengthDisk;
 use crate::paths::{Paths, paths_of};
-use crate::status::{DISK_FAULT, OUT_OF_MEMORY, WRITE_FAULT};
+use crate::status::{DISK_FAULT, OUT_OF_MEMORY};
 use adx_io::{Disk, FileDisk, StdSink, StdSource};
 use adx_units::Text;
 use std::fs::{File, OpenOptions};
 use std::io;
 use std::io::ErrorKind;
 use std::process::ExitCode;
-
-/// What `--help` prints.
-const HELP: &str = "adx serves a day of an advertising exchange, or a bidder of one.
-
-usage: adx day [--journal FILE]
-  reads a roster line and script lines on standard input, and writes an answer to each line and then
-  the closing table on standard output
-  --journal FILE: the day goes on from the history that FILE keeps, and FILE keeps what it adds
-
-usage: adx bidder
-  reads a price line on standard input and serves the HTTP connection that comes behind it: requests for
-  bids are answered, notices counted, books and ledger shown, on standard output
-
-usage: adx gen --seed N --asks M
-  takes the calls of a generated day, of M asks by the words of the seed N, and writes the closing table
-";
-
-/// What `--version` prints.
-const VERSION: &str = "adx 0.1.0\n";
 
 /// The words behind the program's name.
 fn words_of(rt: &HostRuntime) -> io::Result<Vec<Text>> {
@@ -57,14 +40,6 @@ fn words_of(rt: &HostRuntime) -> io::Result<Vec<Text>> {
         words.push(Text::from(word))?;
     }
     Ok(words)
-}
-
-/// Prints a text, and gives the exit status.
-fn tell(rt: &HostRuntime, text: &str) -> ExitCode {
-    match print!(rt; "{text}") {
-        Ok(()) => ExitCode::SUCCESS,
-        Err(_) => ExitCode::from(WRITE_FAULT),
-    }
 }
 
 /// The file of a journal, made where there is none.
@@ -102,13 +77,6 @@ fn main(rt: HostRuntime) -> ExitCode {
         // A word that isn't UTF-8 is no command's, and neither are no words.
         Err(_) => Vec::new(rt.alloc()),
     };
-    if let [word] = words.as_slice() {
-        match word.as_str() {
-            "--help" => return tell(&rt, HELP),
-            "--version" => return tell(&rt, VERSION),
-            _ => {}
-        }
-    }
     match paths_of(rt.alloc(), words.as_slice()) {
         Ok(
             Paths {

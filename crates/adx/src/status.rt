@@ -6,7 +6,7 @@ use adx_io::Stop;
 use script_day::Ending;
 
 /// The status where the input was read to its end.
-const DONE: u8 = 0;
+pub(crate) const DONE: u8 = 0;
 
 /// The status where the words aren't a command.
 pub(crate) const NO_COMMAND: u8 = 2;
