@@ -1,9 +1,8 @@
 //! The journal over a disk in memory: each failing call, each stop with several images, bad files.
-use crate::{Journal, JournalFault};
+use crate::{Journal, JournalFault, Opening};
 use adx_io::{Disk, Frame, MemoryDisk};
 use adx_units::OutOfMemory;
 use std::alloc::Global;
-use std::test::Fail;
 
 /// What the script appends.
 const PAYLOADS: [&str; 3] = ["abc", "de", "f"];
@@ -60,31 +59,6 @@ struct Script {
     doubted: Vec<Vec<u8>>,
 }
 
-/// Opens a journal and appends the payloads of the script, whatever fails.
-fn run<D: Disk>(alloc: Global, disk: &mut D) -> Result<Script, JournalFault> {
-    let mut acknowledged = Vec::new(alloc);
-    let mut doubted = Vec::new(alloc);
-    let mut frame = Frame::new(alloc, 16)?;
-    if let Some(mut journal) = opened(alloc, disk)? {
-        for payload in PAYLOADS {
-            frame.clear();
-            frame.push(payload.as_bytes())?;
-            let mut with = Vec::from_slice(alloc, &acknowledged).map_err(OutOfMemory::from)?;
-            add(&mut with, payload.as_bytes())?;
-            if append(&mut journal, disk, &frame)? {
-                acknowledged = with;
-                doubted.clear();
-            } else {
-                doubted.push(with).map_err(OutOfMemory::from)?;
-            }
-        }
-    }
-    Ok(Script {
-        acknowledged,
-        doubted,
-    })
-}
-
 /// Whether the payload was acknowledged; any answer but a disk fault is handed on.
 fn append<D: Disk>(
     journal: &mut Journal,
@@ -101,38 +75,122 @@ fn append<D: Disk>(
     }
 }
 
+/// These payloads, and another one behind them.
+fn with(alloc: Global, acknowledged: &[u8], payload: &[u8]) -> Result<Vec<u8>, OutOfMemory> {
+    let mut with = Vec::from_slice(alloc, acknowledged)?;
+    add(&mut with, payload)?;
+    Ok(with)
+}
+
+/// Notes of a payload whether it was acknowledged; if not, it is in doubt.
+fn note(
+    alloc: Global,
+    script: &mut Script,
+    payload: &[u8],
+    is_acknowledged: bool,
+) -> Result<(), OutOfMemory> {
+    let with = with(alloc, &script.acknowledged, payload)?;
+    if is_acknowledged {
+        script.acknowledged = with;
+        script.doubted.clear();
+    } else {
+        script.doubted.push(with)?;
+    }
+    Ok(())
+}
+
+/// Appends a payload of the script, and notes what came of it.
+fn try_one<D: Disk>(
+    alloc: Global,
+    journal: &mut Journal,
+    disk: &mut D,
+    frame: &mut Frame,
+    payload: &[u8],
+    script: &mut Script,
+) -> Result<(), JournalFault> {
+    frame.clear();
+    frame.push(payload)?;
+    let is_acknowledged = append(journal, disk, frame)?;
+    note(alloc, script, payload, is_acknowledged)?;
+    Ok(())
+}
+
+/// Appends the payloads of the script to a journal.
+fn try_all<D: Disk>(
+    alloc: Global,
+    journal: &mut Journal,
+    disk: &mut D,
+    script: &mut Script,
+) -> Result<(), JournalFault> {
+    let mut frame = Frame::new(alloc, 16)?;
+    for payload in PAYLOADS {
+        try_one(alloc, journal, disk, &mut frame, payload.as_bytes(), script)?;
+    }
+    Ok(())
+}
+
+/// Opens a journal and appends the payloads of the script, whatever fails.
+fn run<D: Disk>(alloc: Global, disk: &mut D) -> Result<Script, JournalFault> {
+    let mut script = Script {
+        acknowledged: Vec::new(alloc),
+        doubted: Vec::new(alloc),
+    };
+    if let Some(mut journal) = opened(alloc, disk)? {
+        try_all(alloc, &mut journal, disk, &mut script)?;
+    }
+    Ok(script)
+}
+
+/// Whether an image of a disk stands for what was acknowledged, or for that and the tail.
+fn is_right(
+    alloc: Global,
+    disk: &MemoryDisk,
+    script: &Script,
+    picks: [bool; 2],
+    fill: u8,
+) -> Result<bool, JournalFault> {
+    let mut image = disk.image(alloc, &picks, fill)?;
+    let there = read_all(alloc, &mut image)?;
+    Ok(there == script.acknowledged || script.doubted.contains(&there))
+}
+
 /// How many images of a disk stand neither for what was acknowledged nor for that and the tail.
 fn wrong_images(alloc: Global, disk: &MemoryDisk, script: &Script) -> Result<u64, JournalFault> {
     let mut wrong = 0u64;
     for (picks, fill) in IMAGES {
-        let mut image = disk.image(alloc, &picks, fill)?;
-        let there = read_all(alloc, &mut image)?;
-        if there != script.acknowledged && !script.doubted.contains(&there) {
+        if !is_right(alloc, disk, script, picks, fill)? {
             wrong = wrong.saturating_add(1);
         }
     }
     Ok(wrong)
 }
 
-#[test]
-fn a_crash_leaves_what_was_acknowledged(rt: HostRuntime) -> Result<(), Fail> {
-    let alloc = rt.alloc();
-    for call in 0..32 {
-        let mut failing = MemoryDisk::new(alloc, b"", &[call], None)?;
-        let run_of_it = run(alloc, &mut failing)?;
-        assert_eq!(rt; wrong_images(alloc, &failing, &run_of_it)?, 0);
-        let mut stopping = MemoryDisk::new(alloc, b"", &[], Some(call))?;
-        let run_of_it = run(alloc, &mut stopping)?;
-        assert_eq!(rt; wrong_images(alloc, &stopping, &run_of_it)?, 0);
-    }
+/// How many images are wrong behind the script on a disk whose calls fail by these words.
+fn wrong_behind(alloc: Global, fails: &[u64], stop: Option<u64>) -> Result<u64, JournalFault> {
+    let mut disk = MemoryDisk::new(alloc, b"", fails, stop)?;
+    let script = run(alloc, &mut disk)?;
+    wrong_images(alloc, &disk, &script)
+}
+
+/// Whether the script was acknowledged and is read again where nothing fails.
+fn is_whole(alloc: Global) -> Result<[bool; 2], JournalFault> {
     let mut disk = MemoryDisk::new(alloc, b"", &[], None)?;
-    let whole = run(alloc, &mut disk)?;
-    assert_eq!(rt; whole.acknowledged.as_slice(), "abc|de|f|".as_bytes());
-    assert_eq!(rt;
-        read_all(alloc, &mut disk)?.as_slice(),
-        "abc|de|f|".as_bytes()
-    );
-    Ok(())
+    let script = run(alloc, &mut disk)?;
+    let there = read_all(alloc, &mut disk)?;
+    let whole = "abc|de|f|".as_bytes();
+    Ok([
+        script.acknowledged.as_slice() == whole,
+        there.as_slice() == whole,
+    ])
+}
+
+#[test]
+fn a_crash_leaves_what_was_acknowledged(rt: HostRuntime) {
+    for call in 0..32 {
+        assert_eq!(rt; wrong_behind(rt.alloc(), &[call], None), Ok(0));
+        assert_eq!(rt; wrong_behind(rt.alloc(), &[], Some(call)), Ok(0));
+    }
+    assert_eq!(rt; is_whole(rt.alloc()), Ok([true; 2]));
 }
 
 /// A journal of the payloads `abc` and `d`, and bytes behind its closed gate.
@@ -150,94 +208,166 @@ fn cut_at(len: usize) -> Result<&'static str, JournalFault> {
     }
 }
 
-/// The payloads of a file of these bytes, or why it is none; and the disk afterwards.
-fn payloads_of(
-    alloc: Global,
-    bytes: &[u8],
-) -> Result<(Result<Vec<u8>, JournalFault>, Vec<u8>), JournalFault> {
-    let mut disk = MemoryDisk::new(alloc, bytes, &[], None)?;
-    let told = read_all(alloc, &mut disk);
+/// Whether what a file gave are these payloads, or it was refused so.
+fn is_told(told: Result<Vec<u8>, JournalFault>, wanted: Result<&str, JournalFault>) -> bool {
+    match told {
+        Ok(text) => match wanted {
+            Ok(wanted) => text.as_slice() == wanted.as_bytes(),
+            Err(_) => false,
+        },
+        Err(fault) => wanted == Err(fault),
+    }
+}
+
+/// Whether a disk has these bytes, at most 64.
+fn has_bytes(alloc: Global, disk: &mut MemoryDisk, bytes: &[u8]) -> Result<bool, JournalFault> {
     let mut after = vec![in alloc; 0; 64].map_err(OutOfMemory::from)?;
     let count = disk.read(0, &mut after)?;
-    after.truncate(count);
-    Ok((told, after))
+    Ok(after.get(..count) == Some(bytes))
 }
 
+/// Whether a file gives these payloads, or is refused so; and whether it stays as it was.
+fn tells(
+    alloc: Global,
+    bytes: &[u8],
+    wanted: Result<&str, JournalFault>,
+) -> Result<[bool; 2], JournalFault> {
+    let mut disk = MemoryDisk::new(alloc, bytes, &[], None)?;
+    let is_so = is_told(read_all(alloc, &mut disk), wanted);
+    Ok([is_so, has_bytes(alloc, &mut disk, bytes)?])
+}
+
+/// Why a file of these bytes is no journal, or None.
+fn fault_of(alloc: Global, bytes: &[u8]) -> Result<Option<JournalFault>, OutOfMemory> {
+    let mut disk = MemoryDisk::new(alloc, bytes, &[], None)?;
+    Ok(read_all(alloc, &mut disk).err())
+}
+
+/// Files, and why they are no journals.
+const FILES: [(&[u8], Option<JournalFault>); 10] = [
+    (b"hello", Some(JournalFault::NotAJournal { at: 0 })),
+    (b"\x01ADXJRNL2\0", Some(JournalFault::NotAJournal { at: 8 })),
+    (
+        b"\x02ADXJRNL1\x01",
+        Some(JournalFault::NotAJournal { at: 0 }),
+    ),
+    (b"\x02ADXJRNL1\0", None),
+    (b"\0\xff\xff", None),
+    (b"\0234567890a", Some(JournalFault::NotAJournal { at: 0 })),
+    (b"\x01ADXJRNL1\x02", None),
+    (
+        b"\x01ADXJRNL1\x01\0\0\0\0\0",
+        Some(JournalFault::BadLength { at: 9 }),
+    ),
+    (
+        b"\x01ADXJRNL1\x01\x01\0\0\x04a\0",
+        Some(JournalFault::BadLength { at: 9 }),
+    ),
+    (
+        b"\x01ADXJRNL1\x01\x02\0\0\0a",
+        Some(JournalFault::BadLength { at: 9 }),
+    ),
+];
+
 #[test]
-fn a_bad_file_is_refused_where_it_is_bad(rt: HostRuntime) -> Result<(), Fail> {
-    let alloc = rt.alloc();
+fn a_bad_file_is_refused_where_it_is_bad(rt: HostRuntime) {
     for len in 0..=TWO.len() {
-        let (told, after) = payloads_of(alloc, &TWO[..len])?;
-        match (told, cut_at(len)) {
-            (Ok(text), Ok(wanted)) => assert_eq!(rt; text.as_slice(), wanted.as_bytes()),
-            (Err(fault), Err(wanted)) => assert_eq!(rt; fault, wanted),
-            _ => assert!(rt; false),
-        }
-        if len > 1 {
-            assert_eq!(rt; after.as_slice(), &TWO[..len]);
+        // A journal is begun in the first two.
+        let told = tells(rt.alloc(), &TWO[..len], cut_at(len));
+        assert!(rt;
+            told == Ok([true; 2]) || (len <= 1 && told == Ok([true, false])),
+            "at {len}"
+        );
+    }
+    for (bytes, wanted) in FILES {
+        assert_eq!(rt; fault_of(rt.alloc(), bytes), Ok(wanted));
+    }
+}
+
+/// The lengths of long payloads.
+const LENGTHS: [usize; 5] = [1, 262_130, 600_000, 262_144, 5];
+
+/// Appends a payload of so many bytes, which stays in the frame, and tells whether it was acknowledged.
+fn append_long(
+    alloc: Global,
+    journal: &mut Journal,
+    disk: &mut MemoryDisk,
+    frame: &mut Frame,
+    len: usize,
+) -> Result<bool, JournalFault> {
+    frame.clear();
+    let piece = vec![in alloc; 7; len].map_err(OutOfMemory::from)?;
+    frame.push(&piece)?;
+    append(journal, disk, frame)
+}
+
+/// Whether the next payload of a journal has so many bytes, or there is none.
+fn is_next(
+    alloc: Global,
+    opening: &mut Opening,
+    disk: &mut MemoryDisk,
+    len: Option<usize>,
+) -> Result<bool, JournalFault> {
+    match opening.next(alloc, disk)? {
+        Some(payload) => Ok(len == Some(payload.len())),
+        None => Ok(len.is_none()),
+    }
+}
+
+/// Whether the payloads of a journal have these lengths, and none is behind them.
+fn has_long(alloc: Global, disk: &mut MemoryDisk) -> Result<bool, JournalFault> {
+    let mut opening = Journal::open(alloc, disk)?;
+    for len in LENGTHS {
+        if !is_next(alloc, &mut opening, disk, Some(len))? {
+            return Ok(false);
         }
     }
-    let rows: [(&[u8], Option<JournalFault>); 10] = [
-        (b"hello", Some(JournalFault::NotAJournal { at: 0 })),
-        (b"\x01ADXJRNL2\0", Some(JournalFault::NotAJournal { at: 8 })),
-        (
-            b"\x02ADXJRNL1\x01",
-            Some(JournalFault::NotAJournal { at: 0 }),
-        ),
-        (b"\x02ADXJRNL1\0", None),
-        (b"\0\xff\xff", None),
-        (b"\0234567890a", Some(JournalFault::NotAJournal { at: 0 })),
-        (b"\x01ADXJRNL1\x02", None),
-        (
-            b"\x01ADXJRNL1\x01\0\0\0\0\0",
-            Some(JournalFault::BadLength { at: 9 }),
-        ),
-        (
-            b"\x01ADXJRNL1\x01\x01\0\0\x04a\0",
-            Some(JournalFault::BadLength { at: 9 }),
-        ),
-        (
-            b"\x01ADXJRNL1\x01\x02\0\0\0a",
-            Some(JournalFault::BadLength { at: 9 }),
-        ),
-    ];
-    for (bytes, wanted) in rows {
-        let (told, _) = payloads_of(alloc, bytes)?;
-        assert_eq!(rt; told.err(), wanted);
+    is_next(alloc, &mut opening, disk, None)
+}
+
+/// What a journal of those payloads answers to another one: where it would have a byte too many, and where it just fits.
+fn fill(
+    journal: &mut Journal,
+    disk: &mut MemoryDisk,
+    frame: &Frame,
+) -> Option<[Result<(), JournalFault>; 2]> {
+    if frame.payload().is_empty() || journal.size() != 1_124_315 {
+        return None;
     }
-    Ok(())
+    let last = 4_294_967_296 - 1_124_315 - 10;
+    let over = journal.append(disk, frame, last + 1);
+    Some([over, journal.append(disk, frame, last)])
+}
+
+/// Whether long payloads are appended to a journal and read again, and what it answers then.
+fn long_in(
+    alloc: Global,
+    disk: &mut MemoryDisk,
+    journal: &mut Journal,
+) -> Result<(bool, Option<[Result<(), JournalFault>; 2]>), JournalFault> {
+    let mut frame = Frame::new(alloc, 0)?;
+    for len in LENGTHS {
+        if !append_long(alloc, journal, disk, &mut frame, len)? {
+            return Ok((false, None));
+        }
+    }
+    let is_read = has_long(alloc, disk)?;
+    Ok((is_read, fill(journal, disk, &frame)))
+}
+
+/// The same in a new journal.
+fn long(alloc: Global) -> Result<(bool, Option<[Result<(), JournalFault>; 2]>), JournalFault> {
+    let mut disk = MemoryDisk::new(alloc, b"", &[], None)?;
+    match opened(alloc, &mut disk)? {
+        Some(mut journal) => long_in(alloc, &mut disk, &mut journal),
+        None => Err(JournalFault::DiskFault),
+    }
 }
 
 #[test]
-fn long_payloads_and_full_journals(rt: HostRuntime) -> Result<(), Fail> {
-    let alloc = rt.alloc();
-    let mut disk = MemoryDisk::new(alloc, b"", &[], None)?;
-    let mut frame = Frame::new(alloc, 0)?;
-    let Some(mut journal) = opened(alloc, &mut disk)? else {
-        return Err(JournalFault::DiskFault.into());
+fn long_payloads_and_full_journals(rt: HostRuntime) {
+    let full = JournalFault::Full {
+        size: 4_294_967_297,
     };
-    for len in [1, 262_130, 600_000, 262_144, 5] {
-        frame.clear();
-        frame.push(&vec![in alloc; 7; len]?)?;
-        assert!(rt; append(&mut journal, &mut disk, &frame)?);
-    }
-    let mut opening = Journal::open(alloc, &mut disk)?;
-    for len in [1, 262_130, 600_000, 262_144, 5] {
-        let payload = opening.next(alloc, &mut disk)?;
-        assert_eq!(rt; payload.map(|payload| payload.len()), Some(len));
-    }
-    assert!(rt; opening.next(alloc, &mut disk)?.is_none());
-    let size = journal.size();
-    assert_eq!(rt; size, 1_124_315);
-    let last = 4_294_967_296 - size - 10;
-    if !frame.payload().is_empty() {
-        assert_eq!(rt;
-            journal.append(&mut disk, &frame, last + 1),
-            Err(JournalFault::Full {
-                size: 4_294_967_297
-            })
-        );
-        assert_eq!(rt; journal.append(&mut disk, &frame, last), Ok(()));
-    }
-    Ok(())
+    assert_eq!(rt; long(rt.alloc()), Ok((true, Some([Err(full), Ok(())]))));
 }
