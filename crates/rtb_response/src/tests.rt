@@ -4,11 +4,10 @@ use crate::bid_answer::BidAnswer;
 use crate::exchange_answer::write_answer;
 use crate::fault::{AnswerFault, Field};
 use crate::sold::Sold;
-use adx_json::read;
+use adx_json::{Json, read};
 use adx_units::{Id, OutOfMemory, PriceFault, Text, Units};
 use std::alloc::{AllocError, Global};
 use std::fmt::Write;
-use std::test::Fail;
 
 /// In each line the word of the first fault, or "bids", and then an answer to the request a. The faults come in their
 /// order, each with the one behind it where both can stand together.
@@ -52,6 +51,7 @@ const BIDS: &str = r#"7 tells false||||NotNumber|0|-||||||||
 {"id":"v","impid":"2","price":12,"adm":"<VAST version=\"4.2\"/>","dur":30} tells true|v|2||12000000|0|-||||||||{"adm":"<VAST version=\"4.2\"/>","dur":30}
 {"price":0.5,"id":"n","impid":"3","mtype":4,"adm":"{\"native\":{\"assets\":[]}}"} tells true|n|3||500000|0|-||||||||{"mtype":4,"adm":"{\"native\":{\"assets\":[]}}"}"#;
 
+/// Puts texts at the end, with a comma behind each.
 fn push_texts(out: &mut String, texts: &[Text]) -> Result<(), AllocError> {
     for text in texts {
         out.push_str(text.as_str())?;
@@ -60,11 +60,13 @@ fn push_texts(out: &mut String, texts: &[Text]) -> Result<(), AllocError> {
     out.push_str("|")
 }
 
+/// Puts a text at the end.
 fn push_text(out: &mut String, text: &Text) -> Result<(), AllocError> {
     out.push_str(text.as_str())?;
     out.push_str("|")
 }
 
+/// Puts a bid's price at the end, or why it has none.
 fn push_price(out: &mut String, price: Result<Units, PriceFault>) -> Result<(), AllocError> {
     match price {
         Ok(units) => write!(out, "|{}", units.0)?,
@@ -76,30 +78,60 @@ fn push_price(out: &mut String, price: Result<Units, PriceFault>) -> Result<(), 
     Ok(())
 }
 
-/// What is told of a bid.
-fn told(alloc: Global, bid: &Bid) -> Result<String, AllocError> {
-    let mut out = String::new(alloc);
-    out.push_str(if bid.whole { "true|" } else { "false|" })?;
-    push_text(&mut out, &bid.id)?;
-    push_text(&mut out, &bid.impid)?;
-    push_price(&mut out, bid.price)?;
-    write!(&mut out, "|{}|", bid.exp)?;
-    match &bid.dealid {
+/// Puts a bid's deal at the end.
+fn push_deal(out: &mut String, dealid: &Option<Text>) -> Result<(), AllocError> {
+    match dealid {
         Some(deal) => {
             out.push_str("deal ")?;
-            push_text(&mut out, deal)?;
+            push_text(out, deal)
         }
-        None => out.push_str("-|")?,
+        None => out.push_str("-|"),
     }
-    push_text(&mut out, &bid.nurl)?;
-    push_text(&mut out, &bid.burl)?;
-    push_text(&mut out, &bid.lurl)?;
-    push_text(&mut out, &bid.adid)?;
-    push_text(&mut out, &bid.cid)?;
-    push_texts(&mut out, bid.adomain.as_slice())?;
-    push_texts(&mut out, bid.cat.as_slice())?;
-    out.push_str(bid.body.as_str())?;
-    Ok(out)
+}
+
+/// Puts at the end whether a bid is whole, its id and its impression.
+fn push_names(out: &mut String, bid: &Bid) -> Result<(), AllocError> {
+    out.push_str(if bid.whole { "true|" } else { "false|" })?;
+    push_text(out, &bid.id)?;
+    push_text(out, &bid.impid)
+}
+
+/// Puts a bid's price, seconds and deal at the end.
+fn push_terms(out: &mut String, bid: &Bid) -> Result<(), AllocError> {
+    push_price(out, bid.price)?;
+    write!(out, "|{}|", bid.exp)?;
+    push_deal(out, &bid.dealid)
+}
+
+/// Puts the addresses of a bid's notices at the end.
+fn push_notices(out: &mut String, bid: &Bid) -> Result<(), AllocError> {
+    push_text(out, &bid.nurl)?;
+    push_text(out, &bid.burl)?;
+    push_text(out, &bid.lurl)
+}
+
+/// Puts what a bid's advertisement is at the end.
+fn push_advertisement(out: &mut String, bid: &Bid) -> Result<(), AllocError> {
+    push_text(out, &bid.adid)?;
+    push_text(out, &bid.cid)?;
+    push_texts(out, bid.adomain.as_slice())?;
+    push_texts(out, bid.cat.as_slice())?;
+    out.push_str(bid.body.as_str())
+}
+
+/// Puts what is told of a bid at the end.
+fn push_bid(out: &mut String, bid: &Bid) -> Result<(), AllocError> {
+    push_names(out, bid)?;
+    push_terms(out, bid)?;
+    push_notices(out, bid)?;
+    push_advertisement(out, bid)
+}
+
+/// Whether this is told of a bid.
+fn is_told_of(alloc: Global, bid: &Bid, want: &str) -> Result<bool, OutOfMemory> {
+    let mut out = String::new(alloc);
+    push_bid(&mut out, bid)?;
+    Ok(out.as_str() == want)
 }
 
 /// The word of an answer's first fault, and "bids" where it has none.
@@ -124,31 +156,46 @@ fn word_of(answer: &Result<BidAnswer, AnswerFault>) -> &'static str {
     }
 }
 
-fn answer_of(alloc: Global, text: &str) -> Result<Result<BidAnswer, AnswerFault>, Fail> {
-    let id = Id::of(alloc, "a")?.ok_or(OutOfMemory)?;
-    let tree = read(alloc, text.as_bytes())?;
+/// A name of a table.
+fn name(alloc: Global, text: &str) -> Result<Id, OutOfMemory> {
+    Id::of(alloc, text)?.ok_or(OutOfMemory)
+}
+
+/// A JSON text's tree.
+fn tree_of(alloc: Global, text: &str) -> Result<Json, OutOfMemory> {
+    match read(alloc, text.as_bytes()) {
+        Ok(tree) => Ok(tree),
+        Err(_) => Err(OutOfMemory),
+    }
+}
+
+/// The answer to the request a.
+fn answer_of(alloc: Global, text: &str) -> Result<Result<BidAnswer, AnswerFault>, OutOfMemory> {
+    let id = name(alloc, "a")?;
+    let tree = tree_of(alloc, text)?;
     Ok(BidAnswer::of(alloc, &tree, &id))
 }
 
-/// Whether an answer's first fault is the one of that word, or it has none and the word is "bids".
-fn is_answer(alloc: Global, text: &str, want: &str) -> Result<bool, Fail> {
+/// Whether the answer of a line has the first fault that the line names, or none and the line's word is "bids".
+fn is_named(alloc: Global, line: &str) -> Result<bool, OutOfMemory> {
+    let Some((want, text)) = line.split_once(' ') else {
+        return Ok(false);
+    };
     let answer = answer_of(alloc, text)?;
     Ok(word_of(&answer) == want)
 }
 
 #[test]
-fn answers_give_bids_or_their_first_fault(rt: HostRuntime) -> Result<(), Fail> {
+fn answers_give_bids_or_their_first_fault(rt: HostRuntime) {
     assert_eq!(rt; FAULTS.lines().count(), 27);
     for line in FAULTS.lines() {
-        let (want, text) = line.split_once(' ').ok_or("no answer")?;
-        assert!(rt; is_answer(rt.alloc(), text, want)?, "{line}");
+        assert_eq!(rt; is_named(rt.alloc(), line), Ok(true), "{line}");
     }
-    Ok(())
 }
 
 /// Whether the answer has a seat without bids that are sold together, and one of a seat with one bid of which this is
 /// told.
-fn is_told(alloc: Global, answer: &BidAnswer, want: &str) -> Result<bool, Fail> {
+fn is_told(alloc: Global, answer: &BidAnswer, want: &str) -> Result<bool, OutOfMemory> {
     let [empty, seat] = answer.seats.as_slice() else {
         return Ok(false);
     };
@@ -157,13 +204,23 @@ fn is_told(alloc: Global, answer: &BidAnswer, want: &str) -> Result<bool, Fail> 
     };
     let groups = empty.all_or_none && empty.bids.is_empty() && !seat.all_or_none;
     let named = answer.bidid.as_str() == "r" && seat.seat.as_str() == "s";
-    Ok(groups && named && told(alloc, only)?.as_str() == want)
+    Ok(groups && named && is_told_of(alloc, only, want)?)
 }
 
-fn is_bid(alloc: Global, bid: &str, want: &str) -> Result<bool, Fail> {
+/// The answer with a bid.
+fn text_around(alloc: Global, bid: &str) -> Result<String, OutOfMemory> {
     let mut text = String::from_str(alloc, AROUND)?;
     text.push_str(bid)?;
     text.push_str("]}]}")?;
+    Ok(text)
+}
+
+/// Whether the line's bid is read, and told as the line says.
+fn is_bid(alloc: Global, line: &str) -> Result<bool, OutOfMemory> {
+    let Some((bid, want)) = line.split_once(" tells ") else {
+        return Ok(false);
+    };
+    let text = text_around(alloc, bid)?;
     match answer_of(alloc, text.as_str())? {
         Ok(answer) => is_told(alloc, &answer, want),
         Err(_) => Ok(false),
@@ -174,44 +231,66 @@ fn is_bid(alloc: Global, bid: &str, want: &str) -> Result<bool, Fail> {
 const AROUND: &str = r#"{"id":"a","bidid":"r","seatbid":[{"bid":[],"group":1},{"seat":"s","bid":["#;
 
 #[test]
-fn bids_are_read_member_by_member(rt: HostRuntime) -> Result<(), Fail> {
+fn bids_are_read_member_by_member(rt: HostRuntime) {
     assert_eq!(rt; BIDS.lines().count(), 9);
     for line in BIDS.lines() {
-        let (bid, want) = line.split_once(" tells ").ok_or("nothing told")?;
-        assert!(rt; is_bid(rt.alloc(), bid, want)?, "{line}");
+        assert_eq!(rt; is_bid(rt.alloc(), line), Ok(true), "{line}");
     }
-    Ok(())
 }
 
-fn sold(alloc: Global, award: u32, charge: u64, body: &str) -> Result<Sold, Fail> {
+/// An award's number, its charge and its bid's body.
+type Row = (u32, u64, &'static str);
+
+/// The award of a row.
+fn sold(alloc: Global, row: Row) -> Result<Sold, OutOfMemory> {
+    let (award, charge, body) = row;
     Ok(Sold {
         award,
-        imp: Id::of(alloc, "i\"1")?.ok_or(OutOfMemory)?,
+        imp: name(alloc, "i\"1")?,
         seat: Text::of(alloc, "s1")?,
         charge: Units(charge),
-        body: read(alloc, body.as_bytes())?,
+        body: tree_of(alloc, body)?,
     })
 }
 
-#[test]
-fn the_exchange_answers_in_compact_json(rt: HostRuntime) -> Result<(), Fail> {
-    let alloc = rt.alloc();
-    let id = Id::of(alloc, "a/1")?.ok_or(OutOfMemory)?;
+/// The awards of rows.
+fn awards(alloc: Global, rows: &[Row]) -> Result<Vec<Sold>, OutOfMemory> {
     let mut awards = Vec::new(alloc);
-    assert_eq!(rt;
-        write_answer(alloc, &id, "", awards.as_slice())?.as_str(),
-        "{\"id\":\"a/1\",\"seatbid\":[],\"cur\":\"USD\"}"
-    );
-    awards.push(sold(
-        alloc,
+    for row in rows {
+        awards.push(sold(alloc, *row)?)?;
+    }
+    Ok(awards)
+}
+
+/// Whether the exchange answers the request a/1 so.
+fn is_answered(alloc: Global, base: &str, rows: &[Row], want: &str) -> Result<bool, OutOfMemory> {
+    let id = name(alloc, "a/1")?;
+    let awards = awards(alloc, rows)?;
+    Ok(write_answer(alloc, &id, base, awards.as_slice())?.as_str() == want)
+}
+
+/// Two awards, of which the second's body is no object.
+const AWARDS: [Row; 2] = [
+    (
         0,
         1_250_000,
         "{\"cid\":\"c1\",\"lurl\":\"x\",\"adm\":\"<img src=\\\"x\\\">\",\"id\":\"y\"}",
-    )?)?;
-    awards.push(sold(alloc, 4_294_967_295, 1_000_000_000_000, "[1]")?)?;
+    ),
+    (4_294_967_295, 1_000_000_000_000, "[1]"),
+];
+
+/// The answer without an award.
+const NONE: &str = "{\"id\":\"a/1\",\"seatbid\":[],\"cur\":\"USD\"}";
+
+/// The answer with these awards.
+const BOTH: &str =
+    "{\"id\":\"a/1\",\"seatbid\":[{\"seat\":\"s1\",\"bid\":[{\"id\":\"0\",\"impid\":\"i\\\"1\",\"price\":1.25,\"cid\":\"c1\",\"adm\":\"<img src=\\\"x\\\">\",\"nurl\":\"http://x/notice/win?auction=a%2F1&bid=0\",\"burl\":\"http://x/notice/bill?auction=a%2F1&bid=0\",\"lurl\":\"http://x/notice/loss?auction=a%2F1&bid=0\"}]},{\"seat\":\"s1\",\"bid\":[{\"id\":\"4294967295\",\"impid\":\"i\\\"1\",\"price\":1000000,\"nurl\":\"http://x/notice/win?auction=a%2F1&bid=4294967295\",\"burl\":\"http://x/notice/bill?auction=a%2F1&bid=4294967295\",\"lurl\":\"http://x/notice/loss?auction=a%2F1&bid=4294967295\"}]}],\"cur\":\"USD\"}";
+
+#[test]
+fn the_exchange_answers_in_compact_json(rt: HostRuntime) {
+    assert_eq!(rt; is_answered(rt.alloc(), "", &[], NONE), Ok(true));
     assert_eq!(rt;
-        write_answer(alloc, &id, "http://x", awards.as_slice())?.as_str(),
-        "{\"id\":\"a/1\",\"seatbid\":[{\"seat\":\"s1\",\"bid\":[{\"id\":\"0\",\"impid\":\"i\\\"1\",\"price\":1.25,\"cid\":\"c1\",\"adm\":\"<img src=\\\"x\\\">\",\"nurl\":\"http://x/notice/win?auction=a%2F1&bid=0\",\"burl\":\"http://x/notice/bill?auction=a%2F1&bid=0\",\"lurl\":\"http://x/notice/loss?auction=a%2F1&bid=0\"}]},{\"seat\":\"s1\",\"bid\":[{\"id\":\"4294967295\",\"impid\":\"i\\\"1\",\"price\":1000000,\"nurl\":\"http://x/notice/win?auction=a%2F1&bid=4294967295\",\"burl\":\"http://x/notice/bill?auction=a%2F1&bid=4294967295\",\"lurl\":\"http://x/notice/loss?auction=a%2F1&bid=4294967295\"}]}],\"cur\":\"USD\"}"
+        is_answered(rt.alloc(), "http://x", &AWARDS, BOTH),
+        Ok(true)
     );
-    Ok(())
 }
