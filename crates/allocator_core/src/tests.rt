@@ -6,6 +6,7 @@ ghost use Rattle.allocator_core.specs.Settling.{AreOffers, IsPriced, IsUnsettled
 use super::*;
 use adx_units::{ADMITTED, Offer, OutOfMemory, Units};
 use campaign_book::Book;
+use std::alloc::Global;
 
 /// The reason of a bid below its floor: such an offer stays as it is.
 const BELOW_FLOOR: u16 = 101;
@@ -215,68 +216,137 @@ const ROWS: [([u64; 3], [(u32, u32, u64, bool); 4], [u16; 4]); 6] = [
     ),
 ];
 
-#[test]
-fn settles_the_rows(rt: HostRuntime) -> Result<(), OutOfMemory> {
-    for (reserved, bids, reasons) in ROWS {
-        let mut book = Book::new(rt.alloc(), &[Units(10_000_000); 3])?;
-        for c in 0..3 {
-            assert!(rt; c < book.count());
-            assert!(rt; book.fits(c, 0, Units(reserved[c as usize])));
-            book.reserve(c, Units(reserved[c as usize]));
-        }
-        let mut offers = row_offers(&bids);
-        assert_eq!(rt; book.count(), 3);
-        let first = choose(&book, &offers, 0);
-        settle(&book, &mut offers, 4);
-        for place in 0..4 {
-            assert_eq!(rt; offers[place].reason, reasons[place], "{bids:?} at {place}");
-            let is_first = offers[place].imp == 0 && offers[place].reason == 0;
-            assert_eq!(rt; first == Some(place), is_first, "{bids:?} at {place}");
+/// Reserves a charge of a campaign where it fits, and tells whether it did.
+fn reserve(book: &mut Book, campaign: u32, charge: u64) -> bool {
+    if campaign >= book.count() {
+        return false;
+    }
+    if !book.fits(campaign, 0, Units(charge)) {
+        return false;
+    }
+    book.reserve(campaign, Units(charge));
+    true
+}
+
+/// Reserves a charge of each of three campaigns where it fits, and tells whether all did.
+fn reserve_all(book: &mut Book, charges: [u64; 3]) -> bool {
+    let mut is_all = true;
+    for (campaign, charge) in [0, 1, 2].into_iter().zip(charges) {
+        let is_reserved = reserve(book, campaign, charge);
+        is_all = is_all && is_reserved;
+    }
+    is_all
+}
+
+/// Whether offers have these reasons, and `first` is the place of the one that is awarded for the first impression.
+fn have_reasons(offers: &[Offer; 4], first: Option<usize>, reasons: [u16; 4]) -> bool {
+    for place in 0..4 {
+        let is_first = offers[place].imp == 0 && offers[place].reason == 0;
+        if offers[place].reason != reasons[place] || (first == Some(place)) != is_first {
+            return false;
         }
     }
-    Ok(())
+    true
+}
+
+/// Whether the offers of a row get its reasons beside a book, and the choice for the first impression is the one awarded.
+fn are_settled(book: &Book, bids: &[(u32, u32, u64, bool); 4], reasons: [u16; 4]) -> bool {
+    if book.count() != 3 {
+        return false;
+    }
+    let mut offers = row_offers(bids);
+    let first = choose(book, &offers, 0);
+    settle(book, &mut offers, 4);
+    have_reasons(&offers, first, reasons)
+}
+
+/// Whether a row comes to its reasons.
+fn is_row(
+    alloc: Global,
+    reserved: [u64; 3],
+    bids: &[(u32, u32, u64, bool); 4],
+    reasons: [u16; 4],
+) -> Result<bool, OutOfMemory> {
+    let mut book = Book::new(alloc, &[Units(10_000_000); 3])?;
+    Ok(reserve_all(&mut book, reserved) && are_settled(&book, bids, reasons))
 }
 
 #[test]
-fn agrees_with_the_plain_choice(rt: HostRuntime) -> Result<(), OutOfMemory> {
+fn settles_the_rows(rt: HostRuntime) {
+    for (reserved, bids, reasons) in ROWS {
+        assert_eq!(rt;
+            is_row(rt.alloc(), reserved, &bids, reasons),
+            Ok(true),
+            "{bids:?}"
+        );
+    }
+}
+
+/// Which of the three reasons came up.
+fn reasons_in(offers: &[Offer; 12]) -> [bool; 3] {
+    let mut came = [false; 3];
+    for (place, reason) in [AWARDED, LOST_TO_HIGHER, OVER_BUDGET].iter().enumerate() {
+        came[place] = offers.iter().any(|o| o.reason == *reason);
+    }
+    came
+}
+
+/// Which reasons come up of any offers beside a book; None where the plain choice is another.
+fn settled(book: &Book, state: &mut u64) -> Option<[bool; 3]> {
+    if book.count() != 3 {
+        return None;
+    }
+    let mut offers = any_offers(state);
+    let mut plain = offers;
+    let is_same = choose(book, &offers, 1) == plain_choice(book, &plain, 1);
+    settle(book, &mut offers, 4);
+    for imp in 0..4 {
+        plain_decide(book, &mut plain, imp);
+    }
+    if is_same && offers == plain {
+        Some(reasons_in(&offers))
+    } else {
+        None
+    }
+}
+
+/// The same beside any book.
+fn settled_by(alloc: Global, seed: u64) -> Result<Option<[bool; 3]>, OutOfMemory> {
+    let mut state = seed;
+    let budgets = [
+        Units(1 + next(&mut state) % 200),
+        Units(1 + next(&mut state) % 200),
+        Units(1 + next(&mut state) % 200),
+    ];
+    let charges = [
+        next(&mut state) % 150,
+        next(&mut state) % 150,
+        next(&mut state) % 150,
+    ];
+    let mut book = Book::new(alloc, &budgets)?;
+    let _all = reserve_all(&mut book, charges);
+    Ok(settled(&book, &mut state))
+}
+
+/// The counts of the reasons, with those that came up once more.
+fn counted(counts: [u32; 3], came: [bool; 3]) -> [u32; 3] {
+    let mut counts = counts;
+    for place in 0..3 {
+        if came[place] {
+            counts[place] = counts[place].saturating_add(1);
+        }
+    }
+    counts
+}
+
+#[test]
+fn agrees_with_the_plain_choice(rt: HostRuntime) {
     let mut counts = [0u32; 3];
     for seed in 0..300 {
-        let mut state: u64 = seed;
-        let budgets = [
-            Units(1 + next(&mut state) % 200),
-            Units(1 + next(&mut state) % 200),
-            Units(1 + next(&mut state) % 200),
-        ];
-        let mut book = Book::new(rt.alloc(), &budgets)?;
-        for c in 0..3 {
-            let charge = Units(next(&mut state) % 150);
-            assert!(rt; c < book.count());
-            if book.fits(c, 0, charge) {
-                book.reserve(c, charge);
-            }
-        }
-        assert_eq!(rt; book.count(), 3);
-        let mut offers = any_offers(&mut state);
-        let mut plain = offers;
-        assert_eq!(rt;
-            choose(&book, &offers, 1),
-            plain_choice(&book, &plain, 1),
-            "at {seed}"
-        );
-        settle(&book, &mut offers, 4);
-        for imp in 0..4 {
-            plain_decide(&book, &mut plain, imp);
-        }
-        assert_eq!(rt; offers, plain, "at {seed}");
-        for (place, reason) in [AWARDED, LOST_TO_HIGHER, OVER_BUDGET].iter().enumerate() {
-            if offers.iter().any(|o| o.reason == *reason) {
-                counts[place] = counts[place].saturating_add(1);
-            }
-        }
+        let came = settled_by(rt.alloc(), seed).unwrap_or(None);
+        assert!(rt; came.is_some(), "at {seed}");
+        counts = counted(counts, came.unwrap_or([false; 3]));
     }
     // Each reason came up.
-    for count in counts {
-        assert!(rt; count > 50, "{counts:?}");
-    }
-    Ok(())
+    assert!(rt; counts.iter().all(|count| *count > 50), "{counts:?}");
 }
