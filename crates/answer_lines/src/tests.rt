@@ -5,8 +5,6 @@ use campaign_book::Book;
 use day_rules::{Ask, Entry};
 use deal_floor::Campaign;
 use std::alloc::Global;
-use std::process::Abort;
-use std::test::Fail;
 
 /// A bid of a table: its impression and its reason.
 type Bid = (u32, u16);
@@ -113,30 +111,41 @@ fn entries(alloc: Global, given: &[Given]) -> Result<Vec<Entry>, OutOfMemory> {
     Ok(entries)
 }
 
-/// The closing table of entries, with one campaign.
-fn table(alloc: Global, entries: &[Entry]) -> Result<String, OutOfMemory> {
-    let campaign = Campaign {
+/// The one campaign.
+fn campaign(alloc: Global) -> Result<Campaign, OutOfMemory> {
+    Ok(Campaign {
         bidder: 0,
         seat: name(alloc, "s")?,
         cid: name(alloc, "c")?,
         budget: Units(100),
-    };
+    })
+}
+
+/// The closing table of entries, with one campaign.
+fn table(alloc: Global, entries: &[Entry]) -> Result<String, OutOfMemory> {
+    let campaign = campaign(alloc)?;
     let book = Book::new(alloc, &[Units(100)])?;
     let mut out = String::new(alloc);
     push_table(&mut out, &[campaign], &book, entries)?;
     Ok(out)
 }
 
+/// The line of the campaign.
+const LINE: &str =
+    "{\"seat\":\"s\",\"cid\":\"c\",\"budget\":100,\"reserved\":0,\"billed\":0,\"slab\":0}\n";
+
+/// Whether the closing table of a row is the campaign's line and one of these counts.
+fn has_counts(alloc: Global, given: &[Given], counts: &str) -> Result<bool, OutOfMemory> {
+    let entries = entries(alloc, given)?;
+    let told = table(alloc, entries.as_slice())?;
+    let told = told.as_str().strip_prefix(LINE).unwrap_or("");
+    let told = told.strip_prefix("{").unwrap_or("");
+    Ok(told.strip_suffix("}\n") == Some(counts))
+}
+
 #[test]
-fn tells_the_counts(rt: HostRuntime) -> Result<(), Fail> {
-    let alloc = rt.alloc();
+fn tells_the_counts(rt: HostRuntime) {
     for (given, counts) in ROWS {
-        let entries = entries(alloc, given)?;
-        let told = table(alloc, entries.as_slice())?;
-        let row =
-            "{\"seat\":\"s\",\"cid\":\"c\",\"budget\":100,\"reserved\":0,\"billed\":0,\"slab\":0}\n";
-        let want = format!(in alloc; "{row}{{{counts}}}\n")?;
-        assert_eq!(rt; told, want);
+        assert_eq!(rt; has_counts(rt.alloc(), given, counts), Ok(true), "{counts}");
     }
-    Ok(())
 }

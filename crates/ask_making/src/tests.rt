@@ -7,7 +7,6 @@ use deal_floor::Roster;
 use rtb_request::BidRequest;
 use rtb_response::BidAnswer;
 use std::alloc::Global;
-use std::test::Fail;
 
 /// Two bidders and three campaigns.
 const ROSTER: &str =
@@ -48,6 +47,7 @@ const ASKS: [(&str, &str, &str, &str); 5] = [
     ),
 ];
 
+/// Adds an offer to a text.
 fn push_offer(out: &mut String, offer: &Offer) -> Result<(), OutOfMemory> {
     push_number(out, offer.imp as u64)?;
     out.push_str(" ")?;
@@ -60,6 +60,7 @@ fn push_offer(out: &mut String, offer: &Offer) -> Result<(), OutOfMemory> {
     push_number(out, offer.reason as u64)
 }
 
+/// Adds the texts of a bid to a text.
 fn push_kept(out: &mut String, kept: &Kept) -> Result<(), OutOfMemory> {
     push_number(out, kept.bid as u64)?;
     for text in [
@@ -77,6 +78,7 @@ fn push_kept(out: &mut String, kept: &Kept) -> Result<(), OutOfMemory> {
     Ok(())
 }
 
+/// Adds an ask to a text.
 fn push_ask(out: &mut String, ask: &Ask) -> Result<(), OutOfMemory> {
     out.push_str(ask.auction.as_str())?;
     out.push_str(" [")?;
@@ -98,55 +100,112 @@ fn push_ask(out: &mut String, ask: &Ask) -> Result<(), OutOfMemory> {
 }
 
 /// The answer to an auction that a text is. None where it is none.
-fn answer_of(alloc: Global, auction: &Id, text: &str) -> Result<Option<BidAnswer>, Fail> {
-    let Ok(tree) = read(alloc, text.as_bytes()) else {
-        return Err(Fail::from(OutOfMemory));
-    };
-    Ok(BidAnswer::of(alloc, &tree, auction).ok())
+fn answer_of(alloc: Global, auction: &Id, text: &str) -> Result<Option<BidAnswer>, OutOfMemory> {
+    match read(alloc, text.as_bytes()) {
+        Ok(tree) => Ok(BidAnswer::of(alloc, &tree, auction).ok()),
+        Err(_) => Err(OutOfMemory),
+    }
 }
 
-fn request_of(alloc: Global, text: &str) -> Result<BidRequest, Fail> {
+/// The request that a text is.
+fn request_of(alloc: Global, text: &str) -> Result<BidRequest, OutOfMemory> {
     let Ok(tree) = read(alloc, text.as_bytes()) else {
-        return Err(Fail::from(OutOfMemory));
+        return Err(OutOfMemory);
     };
-    let Ok(request) = BidRequest::of(alloc, &tree) else {
-        return Err(Fail::from(OutOfMemory));
-    };
-    Ok(request)
+    match BidRequest::of(alloc, &tree) {
+        Ok(request) => Ok(request),
+        Err(_) => Err(OutOfMemory),
+    }
 }
 
-fn roster_of(alloc: Global, text: &str) -> Result<Roster, Fail> {
-    let Ok(tree) = read(alloc, text.as_bytes()) else {
-        return Err(Fail::from(OutOfMemory));
+/// The roster.
+fn roster(alloc: Global) -> Result<Roster, OutOfMemory> {
+    let Ok(tree) = read(alloc, ROSTER.as_bytes()) else {
+        return Err(OutOfMemory);
     };
-    let Ok(roster) = Roster::of(alloc, &tree) else {
-        return Err(Fail::from(OutOfMemory));
-    };
-    Ok(roster)
+    match Roster::of(alloc, &tree) {
+        Ok(roster) => Ok(roster),
+        Err(_) => Err(OutOfMemory),
+    }
 }
 
-fn text_of(alloc: Global, ask: &Ask) -> Result<String, OutOfMemory> {
-    let mut text = String::new(alloc);
-    push_ask(&mut text, ask)?;
-    Ok(text)
+/// Whether an ask has this text.
+fn has_text(alloc: Global, ask: &Ask, text: &str) -> Result<bool, OutOfMemory> {
+    let mut told = String::new(alloc);
+    push_ask(&mut told, ask)?;
+    Ok(told.as_str() == text)
+}
+
+/// Whether a request and answers make the ask of this text.
+fn makes(
+    alloc: Global,
+    request: &BidRequest,
+    roster: &Roster,
+    answers: &[Option<BidAnswer>; 2],
+    text: &str,
+) -> Result<bool, OutOfMemory> {
+    if roster.bidders.as_slice().len() < 2 {
+        return Err(OutOfMemory);
+    }
+    let ask = make_ask(alloc, request, roster, answers, 7)?;
+    has_text(alloc, &ask, text)
+}
+
+/// Whether they do where the answers are lent.
+fn makes_lent(
+    alloc: Global,
+    request: &BidRequest,
+    roster: &Roster,
+    answers: &[Option<BidAnswer>; 2],
+    text: &str,
+) -> Result<bool, OutOfMemory> {
+    if roster.bidders.as_slice().len() < 2 {
+        return Err(OutOfMemory);
+    }
+    let [first, second] = answers;
+    let ask = make_ask_lent(
+        alloc,
+        request,
+        roster,
+        &[first.as_ref(), second.as_ref()],
+        7,
+    )?;
+    has_text(alloc, &ask, text)
+}
+
+/// Whether a request makes the ask of this text with two answers, both ways.
+fn makes_both(
+    alloc: Global,
+    request: &BidRequest,
+    answers: &[Option<BidAnswer>; 2],
+    text: &str,
+) -> Result<[bool; 2], OutOfMemory> {
+    let roster = roster(alloc)?;
+    let is_lent = makes_lent(alloc, request, &roster, answers, text)?;
+    Ok([is_lent, makes(alloc, request, &roster, answers, text)?])
+}
+
+/// Whether a row makes its ask.
+fn is_row(
+    alloc: Global,
+    request: &str,
+    first: &str,
+    second: &str,
+    text: &str,
+) -> Result<[bool; 2], OutOfMemory> {
+    let request = request_of(alloc, request)?;
+    let first = answer_of(alloc, &request.id, first)?;
+    let second = answer_of(alloc, &request.id, second)?;
+    makes_both(alloc, &request, &[first, second], text)
 }
 
 #[test]
-fn asks_have_all_bids_with_their_texts(rt: HostRuntime) -> Result<(), Fail> {
-    let alloc = rt.alloc();
-    let roster = roster_of(alloc, ROSTER)?;
-    if roster.bidders.as_slice().len() < 2 {
-        return Err(Fail::from(OutOfMemory));
+fn asks_have_all_bids_with_their_texts(rt: HostRuntime) {
+    for (request, first, second, text) in ASKS {
+        assert_eq!(rt;
+            is_row(rt.alloc(), request, first, second, text),
+            Ok([true; 2]),
+            "{text}"
+        );
     }
-    for (request, first, second, want) in ASKS {
-        let request = request_of(alloc, request)?;
-        let first = answer_of(alloc, &request.id, first)?;
-        let second = answer_of(alloc, &request.id, second)?;
-        let lent = [first.as_ref(), second.as_ref()];
-        let ask = make_ask_lent(alloc, &request, &roster, &lent, 7)?;
-        assert_eq!(rt; text_of(alloc, &ask)?.as_str(), want);
-        let ask = make_ask(alloc, &request, &roster, &[first, second], 7)?;
-        assert_eq!(rt; text_of(alloc, &ask)?.as_str(), want);
-    }
-    Ok(())
 }
