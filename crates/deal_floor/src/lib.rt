@@ -6,6 +6,8 @@
 #![tactic(auto)]
 
 mod admission;
+#[cfg(test)]
+mod admission_tests;
 mod asked;
 mod bidder_reader;
 mod campaign;

@@ -1,11 +1,8 @@
-//! Rosters and their faults, and bids that are admitted or refused, in tables.
-use crate::{Roster, RosterFault, admit, refused};
+//! Rosters and their faults, and campaigns that are sought, in tables.
+use crate::{Campaign, Place, Roster, RosterFault};
 use adx_json::read;
-use adx_units::{Id, Offer, OutOfMemory, Units, whole_up_to};
-use rtb_request::BidRequest;
-use rtb_response::BidAnswer;
+use adx_units::{OutOfMemory, Units};
 use std::alloc::Global;
-use std::test::Fail;
 
 /// Whether a fault is the one of that word: a member's name, or the fault's own with its place.
 fn is_fault(fault: RosterFault, want: &str) -> bool {
@@ -26,33 +23,41 @@ fn is_fault(fault: RosterFault, want: &str) -> bool {
 const GOOD: &str =
     r#"{"day":"2025-03-01","bidders":[{"name":"b1"},{"name":"b2"}],"campaigns":[{"bidder":"b1","seat":"s1","cid":"c1","budget":0.01}]"#;
 
-/// The roster of a row: the good one with the row's members in place of its own, or the row itself where it begins with
-/// no name.
-fn roster_text(alloc: Global, row: &str) -> Result<String, OutOfMemory> {
-    let mut text = String::new(alloc);
-    if !row.starts_with('"') {
-        text.push_str(row)?;
-        return Ok(text);
+/// A good roster with a member in place of its own.
+fn with_member(alloc: Global, member: &str) -> Result<String, OutOfMemory> {
+    let mut text = String::from_str(alloc, GOOD)?;
+    for part in [",", member, "}"] {
+        text.push_str(part)?;
     }
-    text.push_str(GOOD)?;
-    text.push_str(",")?;
-    text.push_str(row)?;
-    text.push_str("}")?;
     Ok(text)
 }
 
-/// Whether a row's first fault is the one of that word, or it has none and the word is "view".
-fn is_answer(alloc: Global, row: &str, want: &str) -> bool {
-    let Ok(text) = roster_text(alloc, row) else {
-        return false;
-    };
-    let Ok(tree) = read(alloc, text.as_bytes()) else {
-        return false;
-    };
-    match Roster::of(alloc, &tree) {
-        Ok(_) => want == "view",
-        Err(fault) => is_fault(fault, want),
+/// Whether a text's first fault is the one of that word, or it has none and the word is "view".
+fn is_judged(alloc: Global, text: &str, want: &str) -> bool {
+    match read(alloc, text.as_bytes()) {
+        Ok(tree) => match Roster::of(alloc, &tree) {
+            Ok(_) => want == "view",
+            Err(fault) => is_fault(fault, want),
+        },
+        Err(_) => false,
     }
+}
+
+/// The same of a row: a good roster with the row's members in place of its own, or the row itself where it begins with no
+/// name.
+fn is_answer(alloc: Global, row: &str, want: &str) -> bool {
+    if !row.starts_with('"') {
+        return is_judged(alloc, row, want);
+    }
+    match with_member(alloc, row) {
+        Ok(text) => is_judged(alloc, text.as_str(), want),
+        Err(_) => false,
+    }
+}
+
+/// The word of a line, and what is behind it.
+pub(crate) fn parts(line: &str) -> (&str, &str) {
+    line.split_once(' ').unwrap_or(("", ""))
 }
 
 /// In each line the word of the first fault, and then the members that a good roster gets, or a whole roster.
@@ -200,11 +205,9 @@ limits.bids "limits":{"text":"x","bids":"x"}
 limits.text "limits":{"text":"x","other":"x"}
 view "other":null"#;
 
-/// A member with a list of so many zeros.
-fn zeros(alloc: Global, name: &str, count: usize) -> Result<String, OutOfMemory> {
-    let mut text = String::new(alloc);
-    text.push_str(name)?;
-    text.push_str("[0")?;
+/// Campaigns that are so many zeros, behind replies that are none.
+fn zeros(alloc: Global, count: usize) -> Result<String, OutOfMemory> {
+    let mut text = String::from_str(alloc, "\"replies\":5,\"campaigns\":[0")?;
     for _ in 1..count {
         text.push_str(",0")?;
     }
@@ -212,18 +215,24 @@ fn zeros(alloc: Global, name: &str, count: usize) -> Result<String, OutOfMemory>
     Ok(text)
 }
 
+/// Whether a good roster with so many zeros for campaigns has the fault of that word.
+fn is_count(alloc: Global, count: usize, want: &str) -> bool {
+    match zeros(alloc, count) {
+        Ok(row) => is_answer(alloc, row.as_str(), want),
+        Err(_) => false,
+    }
+}
+
 #[test]
-fn names_the_first_fault(rt: HostRuntime) -> Result<(), Fail> {
+fn names_the_first_fault(rt: HostRuntime) {
     assert_eq!(rt; FAULTS.lines().count(), 143);
     for line in FAULTS.lines() {
-        let (want, row) = line.split_once(' ').ok_or("no roster")?;
+        let (want, row) = parts(line);
         assert!(rt; is_answer(rt.alloc(), row, want), "{line}");
     }
     for (count, want) in [(1_024, "campaign.bidder"), (1_025, "toomany")] {
-        let row = zeros(rt.alloc(), "\"replies\":5,\"campaigns\":", count)?;
-        assert!(rt; is_answer(rt.alloc(), row.as_str(), want), "{want}");
+        assert!(rt; is_count(rt.alloc(), count, want), "{want}");
     }
-    Ok(())
 }
 
 /// A roster with most of its members, and with white space that its digest doesn't see.
@@ -236,42 +245,62 @@ const DIGEST: [u8; 32] = [
     0x2c, 0xa8, 0xb7, 0xbd, 0x5d, 0xf3, 0x99, 0x7b, 0x36, 0xa6, 0x8d, 0xf0, 0xde, 0xc8, 0x21, 0x70,
 ];
 
-fn roster_of(alloc: Global, text: &str) -> Option<Roster> {
-    let Ok(tree) = read(alloc, text.as_bytes()) else {
-        return None;
-    };
-    match Roster::of(alloc, &tree) {
-        Ok(roster) => Some(roster),
+/// The roster of a text.
+pub(crate) fn roster_of(alloc: Global, text: &str) -> Option<Roster> {
+    match read(alloc, text.as_bytes()) {
+        Ok(tree) => match Roster::of(alloc, &tree) {
+            Ok(roster) => Some(roster),
+            Err(_) => None,
+        },
         Err(_) => None,
     }
 }
 
+/// Whether a bidder is asked there.
+fn is_at(bidder: Option<&Place>, host: &str, port: u16, path: &str) -> bool {
+    match bidder {
+        Some(place) => {
+            place.host.as_str() == host && place.port == port && place.path.as_str() == path
+        }
+        None => false,
+    }
+}
+
+/// Whether a campaign is that bidder's and has that budget.
+fn is_campaign(campaign: Option<&Campaign>, bidder: u32, budget: Units) -> bool {
+    match campaign {
+        Some(campaign) => campaign.bidder == bidder && campaign.budget == budget,
+        None => false,
+    }
+}
+
+/// What is so of the roster: its digest, its base, its moment and limits, its first and its last bidder, its first campaign,
+/// and how many replies and campaigns it has.
+fn seen(roster: &Roster) -> [bool; 7] {
+    let bidders = roster.bidders.as_slice();
+    let limits = &roster.limits;
+    [
+        roster.digest == DIGEST,
+        roster.base.as_str() == "http://localhost",
+        roster.now == 10 && limits.auctions == 1_000_000 && limits.bids == 7,
+        is_at(bidders.first(), "ads.example", 8080, "/bid"),
+        is_at(bidders.last(), "127.0.0.1", 80, "/"),
+        is_campaign(roster.campaigns.as_slice().first(), 1, Units(2_500_000_000)),
+        roster.replies.len() == 1 && roster.campaigns.len() == 3,
+    ]
+}
+
+/// What is so of the roster of a text.
+fn seen_of(alloc: Global, text: &str) -> Option<[bool; 7]> {
+    match roster_of(alloc, text) {
+        Some(roster) => Some(seen(&roster)),
+        None => None,
+    }
+}
+
 #[test]
-fn sees_a_roster(rt: HostRuntime) -> Result<(), Fail> {
-    let roster = roster_of(rt.alloc(), ROSTER).ok_or("no roster")?;
-    assert_eq!(rt; roster.digest, DIGEST);
-    assert_eq!(rt; roster.base.as_str(), "http://localhost");
-    assert_eq!(rt;
-        (roster.now, roster.limits.auctions, roster.limits.bids),
-        (10, 1_000_000, 7)
-    );
-    let first = roster.bidders.as_slice().first().ok_or("no bidder")?;
-    assert_eq!(rt;
-        (first.host.as_str(), first.port, first.path.as_str()),
-        ("ads.example", 8080, "/bid")
-    );
-    let last = roster.bidders.as_slice().last().ok_or("no bidder")?;
-    assert_eq!(rt;
-        (last.host.as_str(), last.port, last.path.as_str()),
-        ("127.0.0.1", 80, "/")
-    );
-    let campaign = roster.campaigns.as_slice().first().ok_or("no campaign")?;
-    assert_eq!(rt;
-        (campaign.bidder, campaign.budget),
-        (1, Units(2_500_000_000))
-    );
-    assert_eq!(rt; (roster.replies.len(), roster.campaigns.len()), (1, 3));
-    Ok(())
+fn sees_a_roster(rt: HostRuntime) {
+    assert_eq!(rt; seen_of(rt.alloc(), ROSTER), Some([true; 7]));
 }
 
 /// A bidder's place, a seat and a cid, and the place of its campaign.
@@ -286,157 +315,17 @@ const SOUGHT: [(u32, &str, &str, Option<usize>); 8] = [
     (2, "s2", "c1", None),
 ];
 
+/// Where the roster has a campaign; None where there is no roster.
+fn sought(alloc: Global, bidder: u32, seat: &str, cid: &str) -> Option<Option<usize>> {
+    match roster_of(alloc, ROSTER) {
+        Some(roster) => Some(roster.campaigns.place_of(bidder, seat, cid)),
+        None => None,
+    }
+}
+
 #[test]
-fn finds_campaigns(rt: HostRuntime) -> Result<(), Fail> {
-    let roster = roster_of(rt.alloc(), ROSTER).ok_or("no roster")?;
+fn finds_campaigns(rt: HostRuntime) {
     for (bidder, seat, cid, want) in SOUGHT {
-        assert_eq!(rt; roster.campaigns.place_of(bidder, seat, cid), want);
+        assert_eq!(rt; sought(rt.alloc(), bidder, seat, cid), Some(want));
     }
-    Ok(())
-}
-
-/// A request with four impressions: one is open, one is sold by deals alone, one isn't sold, one has a long life.
-const REQUEST: &str =
-    r#"{"id":"q","imp":[{"id":"1","bidfloor":1,"exp":300},{"id":"2","bidfloor":1,"pmp":{"private_auction":1,"deals":[{"id":"open","bidfloor":2},{"id":"fixed","bidfloor":3,"at":3},{"id":"free","at":3},{"id":"seats","wseat":["s9"]},{"id":"names","wadomain":["a.example","b.example"]}]}},{"id":"3","qty":{"multiplier":2}},{"id":"4","exp":2000000}],"bcat":["IAB25"],"badv":["bad.example"],"bseat":["s3"],"wseat":["s1","s2","s3"]}"#;
-
-/// The seats s1, s3 and s4 are the first bidder's, and s2 the second's.
-const BUYERS: &str =
-    r#"{"day":"2025-03-01","bidders":[{"name":"b1"},{"name":"b2"}],"campaigns":[{"bidder":"b2","seat":"s2","cid":"c1","budget":2.5},{"bidder":"b1","seat":"s1","cid":"c1","budget":1},{"bidder":"b1","seat":"s3","cid":"c1","budget":1},{"bidder":"b1","seat":"s4","cid":"c1","budget":1}]}"#;
-
-/// In each line the offer that the first bidder's bid is (impression, campaign, charge, life and reason), and then the
-/// bid's seat.
-const BIDS: &str =
-    r#"0,1,1500000,300,65535 {"seat":"s1","bid":[{"id":"x","impid":"1","price":1.5,"cid":"c1"}]}
-0,1,1500000,60,65535 {"seat":"s1","bid":[{"id":"x","impid":"1","price":1.5,"cid":"c1","exp":60}]}
-3,1,1500000,604800,65535 {"seat":"s1","bid":[{"id":"x","impid":"4","price":1.5,"cid":"c1"}]}
-3,1,1500000,604800,65535 {"seat":"s1","bid":[{"id":"x","impid":"4","price":1.5,"cid":"c1","exp":604801}]}
-1,1,2500000,3600,65535 {"seat":"s1","bid":[{"id":"x","impid":"2","price":2.5,"cid":"c1","dealid":"open"}]}
-1,1,3000000,3600,65535 {"seat":"s1","bid":[{"id":"x","impid":"2","price":5,"cid":"c1","dealid":"fixed"}]}
-1,1,1500000,3600,65535 {"seat":"s1","bid":[{"id":"x","impid":"2","price":1.5,"cid":"c1","dealid":"names","adomain":["b.example","a.example"]}]}
-0,1,1000000,300,65535 {"seat":"s1","bid":[{"id":"x","impid":"1","price":1,"cid":"c1"}]}
-0,1,1500000,300,65535 {"seat":"s1","bid":[{"id":"x","impid":"1","price":1.5,"cid":"c1"}],"group":1}
-0,1,1500000,300,65535 {"seat":"s1","bid":[{"id":"x","impid":"1","price":1.5,"cid":"c1"},{"id":"x","impid":"1","price":1.5,"cid":"c1"}],"group":0}
-0,0,0,0,3 {"seat":"s1","bid":[{"id":5,"impid":"1","price":1.5,"cid":"c1"}]}
-16,0,0,0,3 {"seat":"s1","bid":[{"id":"x","impid":"9","price":1.5,"cid":"c1"}]}
-16,0,0,0,3 {"seat":"s1","bid":[{"id":"x","price":1.5,"cid":"c1"}]}
-0,0,0,0,3 {"seat":"s1","bid":[{"id":"x","impid":"1","price":"1","cid":"c1"}]}
-0,0,0,0,3 {"seat":"s1","bid":[{"id":"x","impid":"1","price":0,"cid":"c1"}]}
-2,0,0,0,3 {"seat":"s1","bid":[{"id":"x","impid":"3","price":1.5,"cid":"c1"}]}
-0,0,0,0,3 {"seat":"s1","bid":[{"id":"x","impid":"1","price":1.5,"cid":"c2"}]}
-0,0,0,0,3 {"seat":"s1","bid":[{"id":"x","impid":"1","price":1.5}]}
-0,0,0,0,3 {"seat":"s2","bid":[{"id":"x","impid":"1","price":1.5,"cid":"c1"}]}
-0,0,0,0,3 {"seat":"s1","bid":[{"id":"x","impid":"1","price":1.5,"cid":"c1"},{"id":"x","impid":"1","price":1.5,"cid":"c1"}],"group":1}
-0,0,0,0,104 {"seat":"s3","bid":[{"id":"x","impid":"1","price":1.5,"cid":"c1"}]}
-0,0,0,0,104 {"seat":"s4","bid":[{"id":"x","impid":"1","price":1.5,"cid":"c1"}]}
-1,0,0,0,4 {"seat":"s1","bid":[{"id":"x","impid":"2","price":1.5,"cid":"c1"}]}
-0,0,0,0,4 {"seat":"s1","bid":[{"id":"x","impid":"1","price":1.5,"cid":"c1","dealid":"open"}]}
-1,0,0,0,4 {"seat":"s1","bid":[{"id":"x","impid":"2","price":1.5,"cid":"c1","dealid":""}]}
-1,0,0,0,4 {"seat":"s1","bid":[{"id":"x","impid":"2","price":1.5,"cid":"c1","dealid":"seats"}]}
-1,0,0,0,4 {"seat":"s1","bid":[{"id":"x","impid":"2","price":1.5,"cid":"c1","dealid":"names"}]}
-1,0,0,0,4 {"seat":"s1","bid":[{"id":"x","impid":"2","price":1.5,"cid":"c1","dealid":"names","adomain":["a.example","c.example"]}]}
-1,0,0,0,4 {"seat":"s1","bid":[{"id":"x","impid":"2","price":1.5,"cid":"c1","dealid":"free"}]}
-0,0,0,0,100 {"seat":"s1","bid":[{"id":"x","impid":"1","price":0.999999,"cid":"c1"}]}
-1,0,0,0,101 {"seat":"s1","bid":[{"id":"x","impid":"2","price":1.9,"cid":"c1","dealid":"open"}]}
-1,0,0,0,101 {"seat":"s1","bid":[{"id":"x","impid":"2","price":2.9,"cid":"c1","dealid":"fixed"}]}
-0,0,0,0,205 {"seat":"s1","bid":[{"id":"x","impid":"1","price":1.5,"cid":"c1","adomain":["a.example","bad.example"]}]}
-0,0,0,0,209 {"seat":"s1","bid":[{"id":"x","impid":"1","price":1.5,"cid":"c1","cat":["IAB1","IAB25"]}]}
-0,1,1500000,300,65535 {"seat":"s1","bid":[{"id":"x","impid":"1","price":1.5,"cid":"c1","adomain":["a.example",5],"cat":["IAB1","IAB25-1"]}]}
-0,0,0,0,3 {"seat":"s4","bid":[{"id":"x","impid":"1","price":1.5,"cid":"c2"}]}
-1,0,0,0,104 {"seat":"s4","bid":[{"id":"x","impid":"2","price":1.5,"cid":"c1"}]}
-1,0,0,0,4 {"seat":"s1","bid":[{"id":"x","impid":"2","price":0.5,"cid":"c1"}]}
-1,0,0,0,4 {"seat":"s1","bid":[{"id":"x","impid":"2","price":1.5,"cid":"c1","dealid":"seats","adomain":["bad.example"]}]}
-0,0,0,0,100 {"seat":"s1","bid":[{"id":"x","impid":"1","price":0.5,"cid":"c1","adomain":["bad.example"]}]}
-1,0,0,0,101 {"seat":"s1","bid":[{"id":"x","impid":"2","price":1,"cid":"c1","dealid":"open","cat":["IAB25"]}]}
-0,0,0,0,205 {"seat":"s1","bid":[{"id":"x","impid":"1","price":1.5,"cid":"c1","adomain":["bad.example"],"cat":["IAB25"]}]}"#;
-
-fn answer_of(alloc: Global, seat: &str) -> Option<BidAnswer> {
-    let mut text = String::new(alloc);
-    text.push_str("{\"id\":\"q\",\"seatbid\":[").ok()?;
-    text.push_str(seat).ok()?;
-    text.push_str("]}").ok()?;
-    let Ok(tree) = read(alloc, text.as_bytes()) else {
-        return None;
-    };
-    let Ok(Some(id)) = Id::of(alloc, "q") else {
-        return None;
-    };
-    match BidAnswer::of(alloc, &tree, &id) {
-        Ok(answer) => Some(answer),
-        Err(_) => None,
-    }
-}
-
-fn request_of(alloc: Global, text: &str) -> Option<BidRequest> {
-    let Ok(tree) = read(alloc, text.as_bytes()) else {
-        return None;
-    };
-    match BidRequest::of(alloc, &tree) {
-        Ok(request) => Some(request),
-        Err(_) => None,
-    }
-}
-
-/// The offer of the first bid of a seat, by the first bidder.
-fn offer_of(request: &BidRequest, roster: &Roster, answer: &BidAnswer) -> Option<Offer> {
-    let seat = answer.seats.as_slice().first()?;
-    let bid = seat.bids.as_slice().first()?;
-    match admit(request, roster, 0, answer.bidid.as_str(), seat, bid) {
-        Ok(offer) => Some(offer),
-        Err(reason) => Some(refused(request, bid, reason)),
-    }
-}
-
-/// The number that a text of digits is.
-fn number(text: Option<&str>) -> Option<u64> {
-    whole_up_to(text?.as_bytes(), u64::MAX)
-}
-
-/// Whether an offer is the one that a line tells, of its five numbers.
-fn is_offer(offer: &Offer, want: &str) -> bool {
-    let mut words = want.split(',');
-    number(words.next()) == Some(u64::from(offer.imp))
-        && number(words.next()) == Some(u64::from(offer.campaign))
-        && number(words.next()) == Some(offer.charge.0)
-        && number(words.next()) == Some(u64::from(offer.life))
-        && number(words.next()) == Some(u64::from(offer.reason))
-}
-
-#[test]
-fn admits_and_refuses(rt: HostRuntime) -> Result<(), Fail> {
-    let request = request_of(rt.alloc(), REQUEST).ok_or("no request")?;
-    let roster = roster_of(rt.alloc(), BUYERS).ok_or("no roster")?;
-    assert_eq!(rt; BIDS.lines().count(), 42);
-    for line in BIDS.lines() {
-        let (want, seat) = line.split_once(' ').ok_or("no seat")?;
-        let answer = answer_of(rt.alloc(), seat).ok_or("no answer")?;
-        let offer = offer_of(&request, &roster, &answer).ok_or("no bid")?;
-        assert!(rt; is_offer(&offer, want), "{line}");
-    }
-    Ok(())
-}
-
-/// A seat with one bid whose `nurl` has so many bytes; its seat and its body have 14.
-fn long_seat(alloc: Global, len: usize) -> Result<String, OutOfMemory> {
-    let mut text = String::new(alloc);
-    text.push_str(
-        "{\"seat\":\"s1\",\"bid\":[{\"id\":\"x\",\"impid\":\"1\",\"price\":1.5,\"cid\":\"c1\",\"nurl\":\"",
-    )?;
-    for _ in 0..len {
-        text.push('x')?;
-    }
-    text.push_str("\"}]}")?;
-    Ok(text)
-}
-
-#[test]
-fn refuses_too_much_text(rt: HostRuntime) -> Result<(), Fail> {
-    let request = request_of(rt.alloc(), REQUEST).ok_or("no request")?;
-    let roster = roster_of(rt.alloc(), BUYERS).ok_or("no roster")?;
-    for (len, want) in [(32_754, "0,1,1500000,300,65535"), (32_755, "0,0,0,0,3")] {
-        let seat = long_seat(rt.alloc(), len)?;
-        let answer = answer_of(rt.alloc(), seat.as_str()).ok_or("no answer")?;
-        let offer = offer_of(&request, &roster, &answer).ok_or("no bid")?;
-        assert!(rt; is_offer(&offer, want));
-    }
-    Ok(())
 }
