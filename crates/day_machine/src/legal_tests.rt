@@ -33,20 +33,37 @@ enum Given {
     Expire(u64),
 }
 
+/// Two texts.
+fn two(alloc: Global, one: &str, other: &str) -> Result<(Text, Text), OutOfMemory> {
+    Ok((Text::of(alloc, one)?, Text::of(alloc, other)?))
+}
+
+/// A text of no bytes.
+fn none(alloc: Global) -> Text {
+    Text::from(String::new(alloc))
+}
+
+/// The texts of a bid of a row.
+fn kept_of(alloc: Global, (bid, nurl, lurl, body): Texts) -> Result<Kept, OutOfMemory> {
+    let (seat, nurl) = two(alloc, "s", nurl)?;
+    let (lurl, body) = two(alloc, lurl, body)?;
+    Ok(Kept {
+        bid,
+        seat,
+        bidid: none(alloc),
+        adid: none(alloc),
+        nurl,
+        burl: none(alloc),
+        lurl,
+        body,
+    })
+}
+
 /// The texts of a row.
 fn kept(alloc: Global, rows: &[Texts]) -> Result<Vec<Kept>, OutOfMemory> {
     let mut kept = Vec::new(alloc);
-    for (bid, nurl, lurl, body) in rows.iter().copied() {
-        kept.push(Kept {
-            bid,
-            seat: Text::of(alloc, "s")?,
-            bidid: Text::of(alloc, "")?,
-            adid: Text::of(alloc, "")?,
-            nurl: Text::of(alloc, nurl)?,
-            burl: Text::of(alloc, "")?,
-            lurl: Text::of(alloc, lurl)?,
-            body: Text::of(alloc, body)?,
-        })?;
+    for row in rows {
+        kept.push(kept_of(alloc, *row)?)?;
     }
     Ok(kept)
 }
@@ -66,26 +83,41 @@ fn offers(alloc: Global, bids: &[Bid]) -> Result<Vec<Offer>, OutOfMemory> {
     Ok(offers)
 }
 
+/// A name.
+fn id(alloc: Global, name: &str) -> Result<Id, OutOfMemory> {
+    match Id::of(alloc, name)? {
+        Some(id) => Ok(id),
+        None => Err(OutOfMemory),
+    }
+}
+
 /// The ids of a row's impressions.
 fn imps(alloc: Global, names: &[&'static str]) -> Result<Vec<Id>, OutOfMemory> {
     let mut imps = Vec::new(alloc);
     for name in names {
-        imps.push(Id::of(alloc, name)?.ok_or(OutOfMemory)?)?;
+        imps.push(id(alloc, name)?)?;
     }
     Ok(imps)
 }
 
-/// The ask of a row.
-fn ask(alloc: Global, row: Row) -> Result<Ask, OutOfMemory> {
+/// The ask of a row with these offers.
+fn ask_of(alloc: Global, row: Row, offers: Vec<Offer>) -> Result<Ask, OutOfMemory> {
+    let imps = imps(alloc, row.imps)?;
+    let kept = kept(alloc, row.kept)?;
     Ok(Ask {
-        auction: Id::of(alloc, row.auction)?.ok_or(OutOfMemory)?,
+        auction: id(alloc, row.auction)?,
         digest: [7; 32],
         now: row.now,
         first: row.first,
-        imps: Sequence::from(imps(alloc, row.imps)?),
-        offers: Sequence::from(offers(alloc, row.bids)?),
-        kept: Sequence::from(kept(alloc, row.kept)?),
+        imps: Sequence::from(imps),
+        offers: Sequence::from(offers),
+        kept: Sequence::from(kept),
     })
+}
+
+/// The ask of a row.
+fn ask(alloc: Global, row: Row) -> Result<Ask, OutOfMemory> {
+    ask_of(alloc, row, offers(alloc, row.bids)?)
 }
 
 /// The entry of a row.
@@ -107,6 +139,11 @@ fn follow(day: &mut Day, entry: Entry) -> Result<bool, OutOfMemory> {
     day.prepare(&entry)?;
     day.commit(entry);
     Ok(true)
+}
+
+/// Adds the entry of a row where it is legal, and tells whether it was.
+fn follow_by(alloc: Global, day: &mut Day, given: Given) -> Result<bool, OutOfMemory> {
+    follow(day, entry(alloc, given)?)
 }
 
 /// The first ask: of two bids that weigh the same the first is awarded, the other one's notice of loss
@@ -240,50 +277,57 @@ fn rows() -> [(Given, bool); 46] {
 
 #[test]
 fn legal_entries_follow_and_others_do_not(rt: HostRuntime) -> Result<(), Fail> {
-    let alloc = rt.alloc();
-    let mut day = open(alloc, 2, 5, 1_000)?;
+    let mut day = open(rt.alloc(), 2, 5, 1_000)?;
     for (place, (given, want)) in rows().into_iter().enumerate() {
-        let entry = entry(alloc, given)?;
-        let legal = follow(&mut day, entry)?;
-        assert_eq!(rt; legal, want, "in row {place}");
+        assert_eq!(rt;
+            follow_by(rt.alloc(), &mut day, given),
+            Ok(want),
+            "in row {place}"
+        );
     }
     Ok(())
 }
 
-/// An ask of so many equal bids, of which the first is awarded; the last has that reason.
-fn ask_of_many(alloc: Global, count: usize, last: u16) -> Result<Ask, OutOfMemory> {
+/// The reason of the bid at a place of so many: the first is awarded, and the last has that reason.
+fn reason_at(place: usize, count: usize, last: u16) -> u16 {
+    match place {
+        0 => 0,
+        place if place == count.saturating_sub(1) => last,
+        _ => 102,
+    }
+}
+
+/// So many equal bids with those reasons.
+fn many(alloc: Global, count: usize, last: u16) -> Result<Vec<Offer>, OutOfMemory> {
     let mut many = Vec::new(alloc);
     for place in 0..count {
-        let reason = if place == 0 {
-            0
-        } else if place + 1 == count {
-            last
-        } else {
-            102
-        };
         many.push(Offer {
             imp: 0,
             campaign: 1,
             charge: Units(1),
             life: 50,
-            reason,
+            reason: reason_at(place, count, last),
         })?;
     }
-    let mut ask = ask(
-        alloc,
-        Row {
-            kept: &[(0, "n", "", "{}")],
-            ..A
-        },
-    )?;
-    ask.offers = Sequence::from(many);
-    Ok(ask)
+    Ok(many)
+}
+
+/// The first ask's one text, for an ask of many bids.
+const C: Row = Row {
+    kept: &[(0, "n", "", "{}")],
+    ..A
+};
+
+/// Whether an ask of so many equal bids may follow a day that has none, of which the first is awarded; the last has that
+/// reason.
+fn is_legal_of_many(alloc: Global, count: usize, last: u16) -> Result<bool, OutOfMemory> {
+    let entry = Entry::Ask(ask_of(alloc, C, many(alloc, count, last)?)?);
+    let day = open(alloc, 2, 2_000, 1_000)?;
+    Ok(day.legal(&entry))
 }
 
 #[test]
-fn asks_of_up_to_as_many_bids_as_there_may_be_are_judged(rt: HostRuntime) -> Result<(), Fail> {
-    let alloc = rt.alloc();
-    let day = open(alloc, 2, 2_000, 1_000)?;
+fn asks_of_up_to_as_many_bids_as_there_may_be_are_judged(rt: HostRuntime) {
     for (count, last, want) in [
         (64, 102, true),
         (64, 1001, false),
@@ -293,8 +337,10 @@ fn asks_of_up_to_as_many_bids_as_there_may_be_are_judged(rt: HostRuntime) -> Res
         (1_024, 65_535, false),
         (1_025, 102, false),
     ] {
-        let entry = Entry::Ask(ask_of_many(alloc, count, last)?);
-        assert_eq!(rt; day.legal(&entry), want, "of {count} bids");
+        assert_eq!(rt;
+            is_legal_of_many(rt.alloc(), count, last),
+            Ok(want),
+            "of {count} bids"
+        );
     }
-    Ok(())
 }

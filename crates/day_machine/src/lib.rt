@@ -26,4 +26,6 @@ mod legal_tests;
 #[cfg(test)]
 mod plain;
 #[cfg(test)]
+mod random_tests;
+#[cfg(test)]
 mod tests;

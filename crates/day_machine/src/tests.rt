@@ -1,4 +1,4 @@
-//! A day played by tables of calls, and small random days beside a plain slow program.
+//! A day played by tables of calls.
 ghost use Rattle.std.specs.Prelude.{◌≡◌, ◌≤◌, ◌^◌, ◌<◌, ℕ, All, IfOk, IfSome, length, slice_index_or};
 ghost use Rattle.adx_units.specs.declared.offer.TheConstants.{ADMITTED as ADMITTED_MARK};
 ghost use Rattle.day_rules.specs.Asks.{IsAdmittedOffer, IsUndecided, IsWellFormed};
@@ -7,15 +7,13 @@ ghost use Rattle.day_rules.specs.Legal.{MayFollow};
 ghost use Rattle.day_asks.specs.KeptTexts.{IsShort};
 
 use super::*;
-use crate::plain;
 use adx_units::{ADMITTED, Id, Offer, OutOfMemory, Sequence, Text, Units};
 use notice_book::{End, NoticeKind};
 use std::alloc::Global;
-use std::process::Abort;
 use std::test::Fail;
 
 /// A bid: its campaign, charge and life.
-type Bid = (u32, u64, u32);
+pub(crate) type Bid = (u32, u64, u32);
 
 /// The offer of a bid.
 fn offer(bid: Bid) -> Offer
@@ -33,7 +31,7 @@ fn offer(bid: Bid) -> Offer
 }
 
 /// The offers of bids.
-fn offers(alloc: Global, bids: &[Bid]) -> Result<Vec<Offer>, OutOfMemory>
+pub(crate) fn offers(alloc: Global, bids: &[Bid]) -> Result<Vec<Offer>, OutOfMemory>
     ensures admitted { IfOk result (λ v. All (IsAdmittedOffer 2 1) v.items) }
     ensures undecided { IfOk result (λ v. All (λ o. o.reason ≡ ADMITTED_MARK) v.items) }
     ensures long { IfOk result (λ v. length v.items ≡ length bids.now) }
@@ -66,7 +64,7 @@ fn texts_of(alloc: Global, place: u32) -> Result<Kept, OutOfMemory>
 }
 
 /// The texts of so many bids.
-fn texts(alloc: Global, count: u32) -> Result<Vec<Kept>, OutOfMemory>
+pub(crate) fn texts(alloc: Global, count: u32) -> Result<Vec<Kept>, OutOfMemory>
     ensures long { IfOk result (λ v. length v.items ≡ count) }
     ensures bids { IfOk result (λ v. (k : ℕ) (d : KeptValue) → k < count → (slice_index_or v.items k d).bid ≡ k) }
     ensures short { IfOk result (λ v. All IsShort v.items) }
@@ -99,7 +97,7 @@ fn ask(alloc: Global, auction: &str, digest: u8, now: u64, bids: &[Bid]) -> Resu
 }
 
 /// The budgets of the two campaigns.
-const BUDGETS: [u64; 2] = [100, 1_000];
+pub(crate) const BUDGETS: [u64; 2] = [100, 1_000];
 
 /// A day of the two campaigns.
 pub(crate) fn open(alloc: Global, auctions: u64, bids: u64, text: u64) -> Result<Day, OutOfMemory>
@@ -128,14 +126,14 @@ fn take(day: &mut Day, planned: (Answer, Option<Entry>)) -> Result<Answer, OutOf
 
 /// A call of a table: an ask with the first so many of two bids, a notice, or a tick.
 #[derive(Clone, Copy)]
-enum Call {
+pub(crate) enum Call {
     Ask(&'static str, u8, u64, Bid, Bid, usize),
     Notice(NoticeKind, &'static str, u32),
     Tick(u64),
 }
 
 /// The day's answer to a call, whose entry it takes.
-fn answer(alloc: Global, day: &mut Day, call: Call) -> Result<Answer, OutOfMemory>
+pub(crate) fn answer(alloc: Global, day: &mut Day, call: Call) -> Result<Answer, OutOfMemory>
     requires { length day.old.terms.budgets ≡ 2 }
     ensures { day.new.terms ≡ day.old.terms }
 {
@@ -235,24 +233,37 @@ fn rows() -> [(Call, Answer); 26] {
     ]
 }
 
+/// The reserved and billed money of both campaigns.
+pub(crate) fn money_of(day: &Day) -> Option<[(u64, u64); 2]> {
+    let book = day.book();
+    if book.count() != 2 {
+        return None;
+    }
+    Some([
+        (book.reserved(0).0, book.billed(0).0),
+        (book.reserved(1).0, book.billed(1).0),
+    ])
+}
+
+/// How many calls from the first on are answered as they are to be.
+fn right_answers(alloc: Global, day: &mut Day, calls: &[(Call, Answer)]) -> usize
+    requires { length day.old.terms.budgets ≡ 2 }
+{
+    for (place, (call, want)) in calls.iter().copied().enumerate() {
+        if answer(alloc, day, call) != Ok(want) {
+            return place;
+        }
+    }
+    calls.len()
+}
+
 #[test]
 fn plays_a_small_day(rt: HostRuntime) -> Result<(), Fail> {
     let mut day = open(rt.alloc(), 6, 8, 100_000)?;
-    for (call, want) in rows() {
-        let given = answer(rt.alloc(), &mut day, call)?;
-        assert_eq!(rt; given, want);
-    }
+    assert_eq!(rt; right_answers(rt.alloc(), &mut day, &rows()), 26);
     assert_eq!(rt; day.seen("b", &[3; 32]), Seen::Same { entry: 1 });
     assert_eq!(rt; day.seen("z", &[3; 32]), Seen::New);
-    assert_eq!(rt; day.book().count(), 2);
-    assert_eq!(rt;
-        (day.book().reserved(0), day.book().billed(0)),
-        (Units(100), Units(0))
-    );
-    assert_eq!(rt;
-        (day.book().reserved(1), day.book().billed(1)),
-        (Units(0), Units(30))
-    );
+    assert_eq!(rt; money_of(&day), Some([(100, 0), (0, 30)]));
     Ok(())
 }
 
@@ -360,162 +371,30 @@ const WORKED: [Worked; 7] = [
     },
 ];
 
-#[test]
-fn worked_days_hold(rt: HostRuntime) -> Result<(), Fail> {
+/// How many calls of a worked day are answered as they are to be, and what money is reserved and billed behind them.
+fn worked_out(
+    alloc: Global,
+    calls: &[(Call, Answer)],
+) -> Result<(usize, Option<[(u64, u64); 2]>), OutOfMemory> {
+    let budgets = [Units(10_000_000), Units(10_000_000)];
     let limits = DayLimits {
         auctions: 10,
         bids: 100,
         text: 10_000,
     };
-    for (row, worked) in WORKED.iter().enumerate() {
-        let budgets = [Units(10_000_000), Units(10_000_000)];
-        let mut day = Day::new(rt.alloc(), &budgets, limits)?;
-        for (call, want) in worked.calls {
-            let given = answer(rt.alloc(), &mut day, *call)?;
-            assert_eq!(rt; given, *want, "in row {row}");
-        }
-        assert_eq!(rt; day.book().count(), 2);
-        for (campaign, (reserved, billed)) in worked.money.iter().copied().enumerate() {
-            let campaign = (campaign % 2) as u32;
-            assert_eq!(rt;
-                day.book().reserved(campaign),
-                Units(reserved),
-                "in row {row}"
-            );
-            assert_eq!(rt; day.book().billed(campaign), Units(billed), "in row {row}");
-        }
-    }
-    Ok(())
-}
-
-/// The next number of a fixed sequence (SplitMix64), below a bound.
-fn next(state: &mut u64, bound: u64) -> u64
-    requires { 1 ≤ bound }
-    ensures { result < bound }
-{
-    *state = state.wrapping_add(0x9e37_79b9_7f4a_7c15);
-    let first = (*state ^ (*state >> 30)).wrapping_mul(0xbf58_476d_1ce4_e5b9);
-    let second = (first ^ (first >> 27)).wrapping_mul(0x94d0_49bb_1331_11eb);
-    (second ^ (second >> 31)) % bound
-}
-
-/// A call of a small day.
-fn any_call(state: &mut u64) -> Call {
-    const NAMES: [&str; 6] = ["a", "b", "c", "d", "e", "f"];
-    let name = NAMES[next(state, 6) as usize];
-    let n = next(state, 6) as u32;
-    let kinds = [NoticeKind::Win, NoticeKind::Bill, NoticeKind::Loss];
-    let now = next(state, 90);
-    match next(state, 4) {
-        0 => {
-            let first = (
-                next(state, 2) as u32,
-                next(state, 120),
-                next(state, 30) as u32,
-            );
-            let second = (
-                next(state, 2) as u32,
-                next(state, 120),
-                next(state, 30) as u32,
-            );
-            let digest = next(state, 2) as u8;
-            Call::Ask(name, digest, now, first, second, next(state, 3) as usize)
-        }
-        1 | 2 => Call::Notice(kinds[next(state, 3) as usize], name, n),
-        _ => Call::Tick(now),
-    }
-}
-
-/// What the plain slow program answers to a call that passes no limit.
-fn plain_answer(alloc: Global, entries: &[Entry], call: Call) -> Result<Answer, OutOfMemory> {
-    match call {
-        Call::Ask(auction, digest, _now, first, second, count) => {
-            if let Some(answer) = plain::known(entries, auction, &[digest; 32]) {
-                return Ok(answer);
-            }
-            let entry = entries.len() as u64;
-            let both = [first, second];
-            let offers = offers(alloc, &both[..count.min(2)])?;
-            let settled = plain::settled(alloc, entries, &BUDGETS, &offers, 1)?;
-            if settled.iter().any(|offer| offer.reason == 0) {
-                return Ok(Answer::Awarded { entry });
-            }
-            Ok(Answer::NoSale { entry })
-        }
-        Call::Notice(kind, auction, award) => {
-            Ok(plain::notice(alloc, entries, kind, auction, award)?)
-        }
-        Call::Tick(now) => {
-            let awards = plain::awards_of(alloc, entries)?;
-            let ended = plain::due(&awards, plain::moment(entries, now));
-            Ok(Answer::Ticked { ended })
-        }
-    }
-}
-
-/// Compares the day's awards and money with those of the plain slow program.
-fn compare(rt: &impl Abort, alloc: Global, day: &Day) -> Result<(), OutOfMemory> {
-    let awards = plain::awards_of(alloc, day.entries())?;
-    for n in 0..=day.awards().len() {
-        assert_eq!(rt;
-            day.awards().get(n).copied(),
-            awards.get(n as usize).copied()
-        );
-    }
-    assert_eq!(rt; day.book().count(), 2);
-    for campaign in 0..2 {
-        let reserved = plain::money(&awards, campaign, None);
-        let billed = plain::money(&awards, campaign, Some(End::Billed));
-        assert_eq!(rt; day.book().reserved(campaign), Units(reserved));
-        assert_eq!(rt; day.book().billed(campaign), Units(billed));
-    }
-    Ok(())
-}
-
-/// Compares the ask that a call added with what the plain slow program makes of its bids: the reason of
-/// each, and the texts that stay. A notice and a tick have none.
-fn compare_ask(
-    rt: &impl Abort,
-    alloc: Global,
-    entries: &[Entry],
-    call: Call,
-) -> Result<(), OutOfMemory> {
-    let Call::Ask(_auction, _digest, _now, first, second, count) = call else {
-        return Ok(());
-    };
-    let Some((Entry::Ask(ask), earlier)) = entries.split_last() else {
-        panic!(rt; "the last entry is no ask");
-    };
-    let both = [first, second];
-    let bids = &both[..count.min(2)];
-    let settled = plain::settled(alloc, earlier, &BUDGETS, &offers(alloc, bids)?, 1)?;
-    assert_eq!(rt; ask.offers.as_slice(), settled.as_slice());
-    assert!(rt; plain::keeps(ask, &texts(alloc, bids.len() as u32)?));
-    Ok(())
-}
-
-/// Plays a small day of calls that look random.
-fn play(rt: &impl Abort, alloc: Global, seed: u64) -> Result<(), OutOfMemory> {
-    let mut state = seed;
-    let mut day = open(alloc, 1_000, 10_000, 1_000_000)?;
-    for _turn in 0..40 {
-        let call = any_call(&mut state);
-        let want = plain_answer(alloc, day.entries(), call)?;
-        let count = day.entries().len();
-        let given = answer(alloc, &mut day, call)?;
-        assert_eq!(rt; given, want, "at seed {seed}");
-        compare(rt, alloc, &day)?;
-        if count < day.entries().len() {
-            compare_ask(rt, alloc, day.entries(), call)?;
-        }
-    }
-    Ok(())
+    let mut day = Day::new(alloc, &budgets, limits)?;
+    let right = right_answers(alloc, &mut day, calls);
+    Ok((right, money_of(&day)))
 }
 
 #[test]
-fn plays_as_the_plain_program_does(rt: HostRuntime) -> Result<(), Fail> {
-    for seed in 0..60 {
-        play(&rt, rt.alloc(), seed)?;
+fn worked_days_hold(rt: HostRuntime) {
+    for (row, worked) in WORKED.iter().enumerate() {
+        let want = (worked.calls.len(), Some(worked.money));
+        assert_eq!(rt;
+            worked_out(rt.alloc(), worked.calls),
+            Ok(want),
+            "in row {row}"
+        );
     }
-    Ok(())
 }
