@@ -1,7 +1,8 @@
 //! Messages by the rules of RFC 9110 and RFC 9112, each read in pieces and whole.
 use crate::{Conn, HttpFault, Message, Verb};
 use adx_io::MemorySource;
-use std::alloc::{AllocError, Global};
+use adx_units::OutOfMemory;
+use std::alloc::Global;
 use std::fmt::Write;
 use std::test::Fail;
 
@@ -10,7 +11,7 @@ const LIMIT: u32 = 20;
 
 /// What a row says of its bytes: `<` stands for CR LF, `>` for LF alone, `{` for CR alone and `}` for
 /// NUL.
-fn bytes_of(alloc: Global, text: &str) -> Result<Vec<u8>, AllocError> {
+fn bytes_of(alloc: Global, text: &str) -> Result<Vec<u8>, OutOfMemory> {
     let mut bytes = Vec::new(alloc);
     for byte in text.as_bytes() {
         match *byte {
@@ -49,13 +50,14 @@ fn verb_name(verb: Verb) -> &'static str {
 }
 
 /// A message behind the ones before.
-fn push_message(out: &mut String, message: &Message<'_>) -> Result<(), AllocError> {
+fn push_message(out: &mut String, message: &Message<'_>) -> Result<(), OutOfMemory> {
     out.push_str(verb_name(message.verb))?;
     out.push_str(if message.keep { " keep " } else { " close " })?;
     out.push_str(std::str::from_utf8(message.target).unwrap_or("?"))?;
     out.push_str(" ")?;
     out.push_str(std::str::from_utf8(message.body).unwrap_or("?"))?;
-    out.push_str(";")
+    out.push_str(";")?;
+    Ok(())
 }
 
 /// What the next message gives; false where it is the last.
@@ -63,32 +65,73 @@ fn push_next(
     out: &mut String,
     conn: &mut Conn,
     source: &mut MemorySource,
-) -> Result<bool, AllocError> {
+) -> Result<bool, OutOfMemory> {
     match conn.next_message(source) {
         Ok(Some(message)) => match push_message(out, &message) {
             Ok(_) => Ok(true),
             Err(wanting) => Err(wanting),
         },
-        Ok(None) => match out.push_str("end") {
-            Ok(_) => Ok(false),
-            Err(wanting) => Err(wanting),
-        },
-        Err(fault) => match out.push_str(name_of(fault)) {
-            Ok(_) => Ok(false),
-            Err(wanting) => Err(wanting),
-        },
+        Ok(None) => {
+            out.push_str("end")?;
+            Ok(false)
+        }
+        Err(fault) => {
+            out.push_str(name_of(fault))?;
+            Ok(false)
+        }
     }
 }
 
-/// What all messages of the bytes give, one behind the other.
-fn told(alloc: Global, conn: &mut Conn, bytes: &[u8], step: usize) -> Result<String, Fail> {
+/// What all messages give, one behind the other.
+fn push_messages(
+    out: &mut String,
+    conn: &mut Conn,
+    source: &mut MemorySource,
+) -> Result<(), OutOfMemory> {
+    for _ in 0..8 {
+        if !push_next(out, conn, source)? {
+            break;
+        }
+    }
+    Ok(())
+}
+
+/// What a response gives.
+fn push_response(
+    out: &mut String,
+    conn: &mut Conn,
+    source: &mut MemorySource,
+) -> Result<(), OutOfMemory> {
+    match conn.read_response(source) {
+        Ok(response) => {
+            let body = std::str::from_utf8(response.body).unwrap_or("?");
+            write!(out, "{}:{body}", response.status).map_err(|_| OutOfMemory)
+        }
+        Err(fault) => Ok(out.push_str(name_of(fault))?),
+    }
+}
+
+/// What bytes are.
+#[derive(Clone, Copy)]
+enum Side {
+    Requests,
+    Response,
+}
+
+/// What the bytes give in pieces of so many bytes; 0 is whole.
+fn told(
+    alloc: Global,
+    conn: &mut Conn,
+    side: Side,
+    bytes: &[u8],
+    step: usize,
+) -> Result<String, OutOfMemory> {
     let mut source = MemorySource::new(alloc, bytes, step, &[])?;
     let mut out = String::new(alloc);
     conn.clear();
-    for _ in 0..8 {
-        if !push_next(&mut out, conn, &mut source)? {
-            break;
-        }
+    match side {
+        Side::Requests => push_messages(&mut out, conn, &mut source)?,
+        Side::Response => push_response(&mut out, conn, &mut source)?,
     }
     Ok(out)
 }
@@ -97,12 +140,30 @@ fn told(alloc: Global, conn: &mut Conn, bytes: &[u8], step: usize) -> Result<Str
 fn gives(
     alloc: Global,
     conn: &mut Conn,
+    side: Side,
     bytes: &[u8],
     step: usize,
     wanted: &str,
-) -> Result<bool, Fail> {
-    let got = told(alloc, conn, bytes, step)?;
-    Ok(got.as_str() == wanted)
+) -> bool {
+    match told(alloc, conn, side, bytes, step) {
+        Ok(got) => got.as_str() == wanted,
+        Err(_) => false,
+    }
+}
+
+/// Whether the bytes of a row give what it says in pieces of 1, 2, 3 and 7 bytes and whole.
+fn row_gives(alloc: Global, conn: &mut Conn, side: Side, row: &str) -> [bool; 5] {
+    let (text, wanted) = row.split_once(" => ").unwrap_or(("", "?"));
+    match bytes_of(alloc, text) {
+        Ok(bytes) => [
+            gives(alloc, conn, side, &bytes, 1, wanted),
+            gives(alloc, conn, side, &bytes, 2, wanted),
+            gives(alloc, conn, side, &bytes, 3, wanted),
+            gives(alloc, conn, side, &bytes, 7, wanted),
+            gives(alloc, conn, side, &bytes, 0, wanted),
+        ],
+        Err(_) => [false; 5],
+    }
 }
 
 /// Rows of bytes and what they give.
@@ -224,48 +285,15 @@ POST /p HTTP/1.1<Host: x<Transfer-Encoding: chunked<<0<A<A<A<A<A<A<A<A<A<A<A<A<A
 POST /p HTTP/1.1<Host: x<Transfer-Encoding: chunked<<0<A<A<A<A<A<A<A<A<A<A<A<A<A<A<A<A<A<A<A<A<A<A<A<A<A<A<A<A<A<A<A<A<A<A<A<A<A<A<A<A<A<A<A<A<A<A<A<A<A<A<A<A<A<A<A<A<A<A<A<A<A<A<A<A<A< => BadChunk
 POST /p HTTP/1.0<Transfer-Encoding: chunked<<1<a<0<< => Post close /p a;end";
 
-/// Each row in pieces of 1, 2, 3 and 7 bytes and whole.
 #[test]
 fn reads_messages(rt: HostRuntime) -> Result<(), Fail> {
     assert_eq!(rt; ROWS.lines().count(), 117);
     let mut conn = Conn::new(rt.alloc(), LIMIT)?;
     for row in ROWS.lines() {
-        let (text, wanted) = row.split_once(" => ").ok_or("no answer")?;
-        let bytes = bytes_of(rt.alloc(), text)?;
-        assert!(rt; gives(rt.alloc(), &mut conn, &bytes, 1, wanted)?, "{row}");
-        assert!(rt; gives(rt.alloc(), &mut conn, &bytes, 2, wanted)?, "{row}");
-        assert!(rt; gives(rt.alloc(), &mut conn, &bytes, 3, wanted)?, "{row}");
-        assert!(rt; gives(rt.alloc(), &mut conn, &bytes, 7, wanted)?, "{row}");
-        assert!(rt; gives(rt.alloc(), &mut conn, &bytes, 0, wanted)?, "{row}");
+        let given = row_gives(rt.alloc(), &mut conn, Side::Requests, row);
+        assert_eq!(rt; given, [true; 5], "{row}");
     }
     Ok(())
-}
-
-/// What the response of the bytes gives.
-fn answered(alloc: Global, conn: &mut Conn, bytes: &[u8], step: usize) -> Result<String, Fail> {
-    let mut source = MemorySource::new(alloc, bytes, step, &[])?;
-    let mut out = String::new(alloc);
-    conn.clear();
-    match conn.read_response(&mut source) {
-        Ok(response) => {
-            write!(&mut out, "{}:", response.status)?;
-            out.push_str(std::str::from_utf8(response.body).unwrap_or("?"))?;
-        }
-        Err(fault) => out.push_str(name_of(fault))?,
-    }
-    Ok(out)
-}
-
-/// Whether the response of the bytes gives this in pieces of so many bytes; 0 is whole.
-fn answers(
-    alloc: Global,
-    conn: &mut Conn,
-    bytes: &[u8],
-    step: usize,
-    wanted: &str,
-) -> Result<bool, Fail> {
-    let got = answered(alloc, conn, bytes, step)?;
-    Ok(got.as_str() == wanted)
 }
 
 /// Rows of bytes and the status and body that they give.
@@ -298,34 +326,44 @@ HTTP/1.1 200 OK<A: b< c<< => BadHead
 GET / HTTP/1.1<Host: x<< => BadHead
 HTTP/1.1 200 OK< => Cut";
 
-/// Each row in pieces of 1, 2, 3 and 7 bytes and whole.
 #[test]
 fn reads_responses(rt: HostRuntime) -> Result<(), Fail> {
     assert_eq!(rt; RESPONSES.lines().count(), 28);
     let mut conn = Conn::new(rt.alloc(), LIMIT)?;
     for row in RESPONSES.lines() {
-        let (text, wanted) = row.split_once(" => ").ok_or("no answer")?;
-        let bytes = bytes_of(rt.alloc(), text)?;
-        assert!(rt; answers(rt.alloc(), &mut conn, &bytes, 1, wanted)?, "{row}");
-        assert!(rt; answers(rt.alloc(), &mut conn, &bytes, 2, wanted)?, "{row}");
-        assert!(rt; answers(rt.alloc(), &mut conn, &bytes, 3, wanted)?, "{row}");
-        assert!(rt; answers(rt.alloc(), &mut conn, &bytes, 7, wanted)?, "{row}");
-        assert!(rt; answers(rt.alloc(), &mut conn, &bytes, 0, wanted)?, "{row}");
+        let given = row_gives(rt.alloc(), &mut conn, Side::Response, row);
+        assert_eq!(rt; given, [true; 5], "{row}");
     }
     Ok(())
+}
+
+/// What two calls behind a fault give, and one behind `clear`.
+fn push_cleared(
+    out: &mut String,
+    conn: &mut Conn,
+    source: &mut MemorySource,
+) -> Result<(), OutOfMemory> {
+    push_next(out, conn, source)?;
+    push_next(out, conn, source)?;
+    conn.clear();
+    push_next(out, conn, source)?;
+    Ok(())
+}
+
+/// The same for the bytes of a row.
+fn cleared(alloc: Global, conn: &mut Conn, row: &str) -> Result<String, OutOfMemory> {
+    let bytes = bytes_of(alloc, row)?;
+    let mut source = MemorySource::new(alloc, &bytes, 0, &[])?;
+    let mut out = String::new(alloc);
+    push_cleared(&mut out, conn, &mut source)?;
+    Ok(out)
 }
 
 /// After a fault each call answers `Cut` until `clear`.
 #[test]
 fn keeps_a_fault(rt: HostRuntime) -> Result<(), Fail> {
-    let bytes = bytes_of(rt.alloc(), "GET<<GET / HTTP/1.1<Host: x<<")?;
-    let mut source = MemorySource::new(rt.alloc(), &bytes, 0, &[])?;
-    let mut out = String::new(rt.alloc());
     let mut conn = Conn::new(rt.alloc(), LIMIT)?;
-    push_next(&mut out, &mut conn, &mut source)?;
-    push_next(&mut out, &mut conn, &mut source)?;
-    conn.clear();
-    push_next(&mut out, &mut conn, &mut source)?;
+    let out = cleared(rt.alloc(), &mut conn, "GET<<GET / HTTP/1.1<Host: x<<")?;
     assert_eq!(rt; out.as_str(), "BadHeadCutend");
     Ok(())
 }
