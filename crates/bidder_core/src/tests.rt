@@ -1,7 +1,7 @@
 //! A bidder's price lines with their faults, its answers as bytes, and its ledger, in tables.
 use crate::{Bidder, BidderRuling};
 use adx_json::{Json, read, write};
-use adx_units::{Id, Units, price_of, whole_up_to};
+use adx_units::{Id, OutOfMemory, Units, price_of, whole_up_to};
 use deal_floor::RosterFault;
 use notice_book::{End, NoticeKind};
 use rtb_request::{BidRequest, OfferedImps};
@@ -10,13 +10,18 @@ use std::test::Fail;
 
 /// The bidder of a price line, where it has no fault.
 fn bidder_of(alloc: Global, text: &str) -> Option<Bidder> {
-    let Ok(tree) = read(alloc, text.as_bytes()) else {
-        return None;
-    };
-    match Bidder::of(alloc, &tree) {
-        Ok(bidder) => Some(bidder),
+    match read(alloc, text.as_bytes()) {
+        Ok(tree) => match Bidder::of(alloc, &tree) {
+            Ok(bidder) => Some(bidder),
+            Err(_) => None,
+        },
         Err(_) => None,
     }
+}
+
+/// The word of a line, and what is behind it.
+fn parts(line: &str) -> (&str, &str) {
+    line.split_once(' ').unwrap_or(("", ""))
 }
 
 /// Whether a fault is the one of that word: a member's name, or the fault's own with its place.
@@ -35,12 +40,12 @@ fn is_fault(fault: RosterFault, want: &str) -> bool {
 
 /// Whether a price line's first fault is the one of that word, or it has none and the word is "line".
 fn is_judged(alloc: Global, text: &str, want: &str) -> bool {
-    let Ok(tree) = read(alloc, text.as_bytes()) else {
-        return false;
-    };
-    match Bidder::of(alloc, &tree) {
-        Ok(_) => want == "line",
-        Err(fault) => is_fault(fault, want),
+    match read(alloc, text.as_bytes()) {
+        Ok(tree) => match Bidder::of(alloc, &tree) {
+            Ok(_) => want == "line",
+            Err(fault) => is_fault(fault, want),
+        },
+        Err(_) => false,
     }
 }
 
@@ -78,7 +83,7 @@ repeated@1 {"seat":"s","prices":[{"cid":"c1","price":1},{"cid":"c1","price":2},{
 repeated@2 {"seat":"s","prices":[{"cid":"c1","price":1},{"cid":"c2","price":1},{"cid":"c1","price":1}]}"#;
 
 /// A price line with so many prices, the last of which is no object.
-fn prices_text(alloc: Global, count: usize) -> Result<String, Fail> {
+fn prices_text(alloc: Global, count: usize) -> Result<String, OutOfMemory> {
     let mut text = String::from_str(alloc, r#"{"seat":"s","prices":[0"#)?;
     for _ in 1..count {
         text.push_str(",0")?;
@@ -87,18 +92,24 @@ fn prices_text(alloc: Global, count: usize) -> Result<String, Fail> {
     Ok(text)
 }
 
+/// Whether a price line with so many prices has the fault of that word.
+fn is_count_judged(alloc: Global, count: usize, want: &str) -> bool {
+    match prices_text(alloc, count) {
+        Ok(text) => is_judged(alloc, text.as_str(), want),
+        Err(_) => false,
+    }
+}
+
 #[test]
-fn names_the_first_fault(rt: HostRuntime) -> Result<(), Fail> {
+fn names_the_first_fault(rt: HostRuntime) {
     assert_eq!(rt; FAULTS.lines().count(), 31);
     for line in FAULTS.lines() {
-        let (want, text) = line.split_once(' ').ok_or("no price line")?;
+        let (want, text) = parts(line);
         assert!(rt; is_judged(rt.alloc(), text, want), "{line}");
     }
     for (count, want) in [(64, "price.cid"), (65, "toomany")] {
-        let text = prices_text(rt.alloc(), count)?;
-        assert!(rt; is_judged(rt.alloc(), text.as_str(), want), "{want}");
+        assert!(rt; is_count_judged(rt.alloc(), count, want), "{want}");
     }
-    Ok(())
 }
 
 /// Whether an answer has these bytes, or there is none where they are empty.
@@ -112,28 +123,35 @@ fn is_written(alloc: Global, answer: &Option<Json>, want: &str) -> bool {
     }
 }
 
-/// Whether a bidder answers what a request offers with these bytes, or with none where they are empty.
+/// Whether a bidder answers what a request's tree offers with these bytes, or with none where they are empty.
 fn is_offer_answered(alloc: Global, bidder: &Bidder, tree: &Json, want: &str) -> bool {
-    let Ok(offered) = OfferedImps::of(alloc, tree) else {
-        return false;
-    };
-    match bidder.answer_offered(alloc, &offered) {
-        Ok(answer) => is_written(alloc, &answer, want),
+    match OfferedImps::of(alloc, tree) {
+        Ok(offered) => match bidder.answer_offered(alloc, &offered) {
+            Ok(answer) => is_written(alloc, &answer, want),
+            Err(_) => false,
+        },
+        Err(_) => false,
+    }
+}
+
+/// Whether a bidder answers a request's tree with these bytes, or with none where they are empty.
+fn is_request_answered(alloc: Global, bidder: &Bidder, tree: &Json, want: &str) -> bool {
+    match BidRequest::of(alloc, tree) {
+        Ok(request) => match bidder.answer(alloc, &request) {
+            Ok(answer) => is_written(alloc, &answer, want),
+            Err(_) => false,
+        },
         Err(_) => false,
     }
 }
 
 /// Whether a bidder answers a request with these bytes by both of its calls, or with none where they are empty.
 fn is_answered(alloc: Global, bidder: &Bidder, request: &str, want: &str) -> bool {
-    let Ok(tree) = read(alloc, request.as_bytes()) else {
-        return false;
-    };
-    let Ok(request) = BidRequest::of(alloc, &tree) else {
-        return false;
-    };
-    match bidder.answer(alloc, &request) {
-        Ok(answer) => is_written(alloc, &answer, want)
-            && is_offer_answered(alloc, bidder, &tree, want),
+    match read(alloc, request.as_bytes()) {
+        Ok(tree) => {
+            is_request_answered(alloc, bidder, &tree, want)
+                && is_offer_answered(alloc, bidder, &tree, want)
+        }
         Err(_) => false,
     }
 }
@@ -151,17 +169,26 @@ const ANSWERS: &str =
 0 {"id":"a1","imp":[{"id":"1","bidfloor":3},{"id":"2","bidfloor":2.5}]} {"id":"a1","seatbid":[{"seat":"s1","bid":[{"id":"1-0","impid":"2","price":2.5,"cid":"c1","nurl":"http://127.0.0.1/n/win?a=${AUCTION_ID}&b=1-0&p=${AUCTION_PRICE}","burl":"http://127.0.0.1/n/bill?a=${AUCTION_ID}&b=1-0&p=${AUCTION_PRICE}","lurl":"http://127.0.0.1/n/loss?a=${AUCTION_ID}&b=1-0"}]}],"cur":"USD"}
 1 {"id":"a/\"","imp":[{"id":"é","bidfloor":1}]} {"id":"a/\"","seatbid":[{"seat":"s\"2","bid":[{"id":"0-0","impid":"é","price":1,"cid":"c1","nurl":"https://b.example/a/n/win?a=${AUCTION_ID}&b=0-0&p=${AUCTION_PRICE}","burl":"https://b.example/a/n/bill?a=${AUCTION_ID}&b=0-0&p=${AUCTION_PRICE}","lurl":"https://b.example/a/n/loss?a=${AUCTION_ID}&b=0-0"},{"id":"0-1","impid":"é","price":1000000,"cid":"c2","nurl":"https://b.example/a/n/win?a=${AUCTION_ID}&b=0-1&p=${AUCTION_PRICE}","burl":"https://b.example/a/n/bill?a=${AUCTION_ID}&b=0-1&p=${AUCTION_PRICE}","lurl":"https://b.example/a/n/loss?a=${AUCTION_ID}&b=0-1"}]}],"cur":"USD"}"#;
 
-#[test]
-fn answers_a_request(rt: HostRuntime) -> Result<(), Fail> {
-    let alloc = rt.alloc();
-    for line in ANSWERS.lines() {
-        let (place, row) = line.split_once(' ').ok_or("no place")?;
-        let (request, want) = row.split_once(' ').ok_or("no request")?;
-        let text = if place == "0" { LINES[0] } else { LINES[1] };
-        let bidder = bidder_of(alloc, text).ok_or("no bidder")?;
-        assert!(rt; is_answered(alloc, &bidder, request, want), "{line}");
+/// Whether the bidder of a price line answers so.
+fn is_answered_by(alloc: Global, price_line: &str, request: &str, want: &str) -> bool {
+    match bidder_of(alloc, price_line) {
+        Some(bidder) => is_answered(alloc, &bidder, request, want),
+        None => false,
     }
-    Ok(())
+}
+
+#[test]
+fn answers_a_request(rt: HostRuntime) {
+    assert_eq!(rt; ANSWERS.lines().count(), 4);
+    for line in ANSWERS.lines() {
+        let (place, row) = parts(line);
+        let (request, want) = parts(row);
+        let price_line = if place == "0" { LINES[0] } else { LINES[1] };
+        assert!(rt;
+            is_answered_by(rt.alloc(), price_line, request, want),
+            "{line}"
+        );
+    }
 }
 
 /// In each line a notice's kind, auction, bid and price, what it comes to, and behind it the sum of the bills at the first
@@ -194,6 +221,7 @@ bill a1 +0-0 1 unknown 5000000 3
 bill a1 0-0-0 1 unknown 5000000 3
 bill a1 x 1 unknown 5000000 3"#;
 
+/// The kind of a word.
 fn kind_of(word: &str) -> Option<NoticeKind> {
     match word {
         "win" => Some(NoticeKind::Win),
@@ -203,6 +231,7 @@ fn kind_of(word: &str) -> Option<NoticeKind> {
     }
 }
 
+/// Whether a ruling is the one of that word.
 fn is_ruling(ruling: BidderRuling, want: &str) -> bool {
     match ruling {
         BidderRuling::Counted => want == "counted",
@@ -214,45 +243,87 @@ fn is_ruling(ruling: BidderRuling, want: &str) -> bool {
     }
 }
 
-/// Tells a bidder the notice of a line, and whether it came to what the line says.
-fn is_told(alloc: Global, bidder: &mut Bidder, line: &str) -> Option<bool> {
+/// A notice of a line, what it comes to, and the sum and number behind it.
+#[derive(Clone, Copy)]
+struct Told<'a> {
+    kind: NoticeKind,
+    auction: &'a str,
+    bid: &'a str,
+    price: Units,
+    ruling: &'a str,
+    billed: u64,
+    count: u64,
+}
+
+/// The notice of a line.
+fn notice_of(line: &str) -> Option<Told<'_>> {
     let mut words = line.split(' ');
     let kind = kind_of(words.next()?)?;
-    let Ok(Some(auction)) = Id::of(alloc, words.next()?) else {
-        return None;
-    };
+    let auction = words.next()?;
     let bid = words.next()?;
-    let Ok(price) = price_of(words.next()?.as_bytes()) else {
-        return None;
-    };
-    let want = words.next()?;
-    let billed = whole_up_to(words.next()?.as_bytes(), u64::MAX)?;
-    let count = whole_up_to(words.next()?.as_bytes(), u64::MAX)?;
-    let Ok(ruling) = bidder.notice(alloc, kind, &auction, bid, price) else {
-        return None;
-    };
-    if bidder.prices().is_empty() {
-        return None;
+    let price = price_of(words.next()?.as_bytes()).ok()?;
+    Some(Told {
+        kind,
+        auction,
+        bid,
+        price,
+        ruling: words.next()?,
+        billed: whole_up_to(words.next()?.as_bytes(), u64::MAX)?,
+        count: whole_up_to(words.next()?.as_bytes(), u64::MAX)?,
+    })
+}
+
+/// What a notice comes to.
+fn ruling_of(alloc: Global, bidder: &mut Bidder, told: &Told<'_>) -> Option<BidderRuling> {
+    match Id::of(alloc, told.auction) {
+        Ok(Some(auction)) => bidder
+            .notice(alloc, told.kind, &auction, told.bid, told.price)
+            .ok(),
+        Ok(None) | Err(_) => None,
     }
-    let sums = bidder.billed(0) == u128::from(billed) && bidder.bill_count(0) == count;
-    Some(sums && is_ruling(ruling, want))
+}
+
+/// Whether the bills at the first price have that sum and that number.
+fn is_billed(bidder: &Bidder, billed: u64, count: u64) -> bool {
+    !bidder.prices().is_empty()
+        && bidder.billed(0) == u128::from(billed)
+        && bidder.bill_count(0) == count
+}
+
+/// Whether the notice of a line comes to what the line says.
+fn is_told(alloc: Global, bidder: &mut Bidder, line: &str) -> bool {
+    let Some(told) = notice_of(line) else {
+        return false;
+    };
+    match ruling_of(alloc, bidder, &told) {
+        Some(ruling) => {
+            is_ruling(ruling, told.ruling) && is_billed(bidder, told.billed, told.count)
+        }
+        None => false,
+    }
+}
+
+/// Whether the ledger's first row is the bill of the first notice.
+fn is_first_bill(bidder: &Bidder) -> bool {
+    match bidder.ledger().first() {
+        Some(row) => {
+            row.auction.as_str() == "a1"
+                && row.bid.as_str() == "0-0"
+                && row.kind == NoticeKind::Bill
+                && row.price == Units(2_500_000)
+        }
+        None => false,
+    }
 }
 
 #[test]
 fn counts_each_notice_once(rt: HostRuntime) -> Result<(), Fail> {
-    let alloc = rt.alloc();
-    let mut bidder = bidder_of(alloc, LINES[1]).ok_or("no bidder")?;
+    let mut bidder = bidder_of(rt.alloc(), LINES[1]).ok_or("no bidder")?;
     assert!(rt; bidder.ledger().is_empty());
     for line in NOTICES.lines() {
-        let told = is_told(alloc, &mut bidder, line).ok_or("no notice")?;
-        assert!(rt; told, "{line}");
+        assert!(rt; is_told(rt.alloc(), &mut bidder, line), "{line}");
     }
     assert_eq!(rt; bidder.ledger().len(), 9);
-    let first = bidder.ledger().first().ok_or("no row")?;
-    assert_eq!(rt; (first.auction.as_str(), first.bid.as_str()), ("a1", "0-0"));
-    assert_eq!(rt;
-        (first.kind, first.price),
-        (NoticeKind::Bill, Units(2_500_000))
-    );
+    assert!(rt; is_first_bill(&bidder));
     Ok(())
 }
