@@ -12,6 +12,8 @@ mod gathering;
 mod head;
 mod lane;
 #[cfg(test)]
+mod link_tests;
+#[cfg(test)]
 mod tests;
 
 pub use answer::{ANSWER_LIMIT, BidderAnswer, Refusal};
