@@ -12,8 +12,8 @@ ghost use Rattle.outbox.specs.Steps.{AsksFor, Continues, post_in};
 ghost use Rattle.std.specs.List.{flat_map};
 
 use crate::asking::{awarded_rows, push_lost};
-use crate::post::{OPPORTUNITY_EXPIRED, Post};
-use crate::pushing::{push_bill, push_loss, push_win};
+use crate::post::{OPPORTUNITY_EXPIRED, Post, PostKind};
+use crate::pushing::push_notice;
 use crate::report::{Report, report_of};
 use crate::rows::Rows;
 use crate::trying::{keep_left, try_all};
@@ -76,7 +76,9 @@ impl Outbox {
     }
 
     /// How many awards it keeps a row of: just those of which a post may still come.
-    pub fn rows(&self) -> usize {
+    pub fn rows(&self) -> usize
+        ensures { result ≡ length self.now.kept.rows }
+    {
         self.kept.len()
     }
 
@@ -185,7 +187,16 @@ impl Outbox {
         ensures { AsksFor (EntryValue.Win n) result self.old self.new }
     {
         if let Some(row) = self.kept.get(n) {
-            push_win(self.alloc, &mut self.pending, self.followed, row)?;
+            push_notice(
+                self.alloc,
+                &mut self.pending,
+                self.followed,
+                PostKind::Nurl,
+                row,
+                row.nurl.as_str(),
+                Some(row.charge),
+                0,
+            )?;
         }
         self.kept.win(n);
         Ok(())
@@ -196,7 +207,16 @@ impl Outbox {
         ensures { AsksFor (EntryValue.Bill n) result self.old self.new }
     {
         if let Some(row) = self.kept.get(n) {
-            push_bill(self.alloc, &mut self.pending, self.followed, row)?;
+            push_notice(
+                self.alloc,
+                &mut self.pending,
+                self.followed,
+                PostKind::Burl,
+                row,
+                row.burl.as_str(),
+                Some(row.charge),
+                0,
+            )?;
         }
         self.kept.bill(n);
         Ok(())
@@ -207,12 +227,15 @@ impl Outbox {
         ensures { AsksFor (EntryValue.Loss n) result self.old self.new }
     {
         if let Some(row) = self.kept.get(n) {
-            push_loss(
+            push_notice(
                 self.alloc,
                 &mut self.pending,
                 self.followed,
-                LOST_TO_HIGHER,
+                PostKind::Lurl,
                 row,
+                row.lurl.as_str(),
+                None,
+                LOST_TO_HIGHER,
             )?;
         }
         self.kept.end(n);
@@ -257,7 +280,16 @@ fn push_due(
 {
     match kept.get(n) {
         None => Ok(()),
-        Some(row) => push_loss(alloc, out, place, OPPORTUNITY_EXPIRED, row),
+        Some(row) => push_notice(
+            alloc,
+            out,
+            place,
+            PostKind::Lurl,
+            row,
+            row.lurl.as_str(),
+            None,
+            OPPORTUNITY_EXPIRED,
+        ),
     }
 }
 

@@ -3,11 +3,11 @@ ghost use Rattle.std.specs.Prelude.{◌≡◌, ◌++◌, OnOk, OnErr, Some, None
 ghost use Rattle.notice_macros.specs.Expansion.{url_expansion};
 ghost use Rattle.outbox.specs.declared.post.PostKind.{PostKind as Kind};
 ghost use Rattle.outbox.specs.Posts.{post_of};
-ghost use Rattle.outbox.specs.Rows.{row_bill, row_loss, row_win};
+ghost use Rattle.outbox.specs.Rows.{row_values};
 
 use crate::post::{Post, PostKind};
 use crate::row::Row;
-use adx_units::{OutOfMemory, Text};
+use adx_units::{OutOfMemory, Text, Units};
 use notice_macros::{Values, expand_url};
 use std::alloc::Global;
 
@@ -42,45 +42,20 @@ pub(crate) fn push_lurl(
     push_post(out, place, PostKind::Lurl, url)
 }
 
-/// Adds the post that tells of a win.
-pub(crate) fn push_win(
+/// Adds the post of one of a row's URLs, with a price or without one, and with the number of a loss.
+pub(crate) fn push_notice(
     alloc: Global,
     out: &mut Vec<Post>,
     place: u64,
+    kind: PostKind,
     row: &Row,
-) -> Result<(), OutOfMemory>
-    ensures more { OnOk result (out.new.items ≡ out.old.items ++ row_win place row.now) }
-    ensures same { OnErr result (out.new.items ≡ out.old.items) }
-{
-    let url = row.url(alloc, row.nurl.as_str(), Some(row.charge), 0)?;
-    push_post(out, place, PostKind::Nurl, url)
-}
-
-/// Adds the post that tells of a bill.
-pub(crate) fn push_bill(
-    alloc: Global,
-    out: &mut Vec<Post>,
-    place: u64,
-    row: &Row,
-) -> Result<(), OutOfMemory>
-    ensures more { OnOk result (out.new.items ≡ out.old.items ++ row_bill place row.now) }
-    ensures same { OnErr result (out.new.items ≡ out.old.items) }
-{
-    let url = row.url(alloc, row.burl.as_str(), Some(row.charge), 0)?;
-    push_post(out, place, PostKind::Burl, url)
-}
-
-/// Adds the post that tells of a loss, with its number.
-pub(crate) fn push_loss(
-    alloc: Global,
-    out: &mut Vec<Post>,
-    place: u64,
+    url: &str,
+    price: Option<Units>,
     loss: u16,
-    row: &Row,
 ) -> Result<(), OutOfMemory>
-    ensures more { OnOk result (out.new.items ≡ out.old.items ++ row_loss place loss row.now) }
+    ensures more { OnOk result (out.new.items ≡ out.old.items ++ post_of place kind (url_expansion (row_values row.now price loss) url.now)) }
     ensures same { OnErr result (out.new.items ≡ out.old.items) }
 {
-    let url = row.url(alloc, row.lurl.as_str(), None, loss)?;
-    push_post(out, place, PostKind::Lurl, url)
+    let url = row.url(alloc, url, price, loss)?;
+    push_post(out, place, kind, url)
 }

@@ -1,5 +1,5 @@
 //! What an outbox keeps of awards, by their numbers.
-ghost use Rattle.std.specs.Prelude.{◌≡◌, ◌^◌, ◌<◌, ◌∷◌, ◌++◌, nat_lt, if◌then◌else◌, IfOk, OnOk, OnErr, [], option_copied};
+ghost use Rattle.std.specs.Prelude.{◌≡◌, ◌^◌, ◌<◌, ◌∷◌, ◌++◌, nat_lt, if◌then◌else◌, IfOk, OnOk, OnErr, [], length, option_copied};
 ghost use Rattle.std.specs.Ordering.{nat_cmp};
 ghost use Rattle.std.specs.List.Sorted.{IsStrictlySortedBy};
 ghost use Rattle.std.specs.Map.{keys_of};
@@ -57,7 +57,9 @@ impl Rows {
     }
 
     /// How many rows there are.
-    pub(crate) fn len(&self) -> usize {
+    pub(crate) fn len(&self) -> usize
+        ensures { result ≡ length self.now.rows }
+    {
         self.rows.len()
     }
 

@@ -5,23 +5,19 @@ use adx_units::{Id, Offer, OutOfMemory, Sequence, Text, Units};
 use day_rules::{Ask, Entry, Kept};
 use std::alloc::Global;
 use std::fmt::Write;
-use std::test::Fail;
 
-/// The URLs of an awarded bid: its nurl, burl and lurl.
-type Urls = [&'static str; 3];
-
-/// URLs that show what is put in.
-const SHOWN: Urls = [
+/// URLs of an awarded bid, its nurl, burl and lurl, that show what is put in.
+const SHOWN: [&str; 3] = [
     "http://n/w?${AUCTION_PRICE}&${AUCTION_LOSS}&${AUCTION_ID}",
     "http://n/b?${AUCTION_PRICE}&${AUCTION_BID_ID}${AUCTION_AD_ID}",
     "http://n/l?${AUCTION_LOSS}&${AUCTION_PRICE}&${AUCTION_IMP_ID}${AUCTION_SEAT_ID}",
 ];
 
 /// No URL but that of a win.
-const WIN_ALONE: Urls = ["http://n/w", "", ""];
+const WIN_ALONE: [&str; 3] = ["http://n/w", "", ""];
 
 /// No URL but one that nothing is left of.
-const EMPTY: Urls = ["${AUCTION_MBR}", "${AUCTION_MIN_TO_WIN}", ""];
+const EMPTY: [&str; 3] = ["${AUCTION_MBR}", "${AUCTION_MIN_TO_WIN}", ""];
 
 /// Histories, one a line: the entries, the number of rows at their end, and the posts. `A` is an ask at 10 whose first
 /// bid is awarded and lives 3,600 seconds, whose second lost to it, and whose third was refused and names no impression;
@@ -76,17 +72,26 @@ HTTP/1.1 200 OK<Content-Length: 0<< | 0 | failed
 HTTP/1.1 200 OK<< | 1 | failed
 ";
 
+/// Three texts.
+fn three(alloc: Global, texts: [&str; 3]) -> Result<(Text, Text, Text), OutOfMemory> {
+    let [first, second, third] = texts;
+    let first = Text::of(alloc, first)?;
+    let second = Text::of(alloc, second)?;
+    Ok((first, second, Text::of(alloc, third)?))
+}
+
 /// The texts of a bid.
-fn kept(alloc: Global, bid: u32, urls: Urls) -> Result<Kept, OutOfMemory> {
-    let [nurl, burl, lurl] = urls;
+fn kept(alloc: Global, bid: u32, urls: [&str; 3]) -> Result<Kept, OutOfMemory> {
+    let (seat, bidid, adid) = three(alloc, ["s", "i", "d"])?;
+    let (nurl, burl, lurl) = three(alloc, urls)?;
     Ok(Kept {
         bid,
-        seat: Text::of(alloc, "s")?,
-        bidid: Text::of(alloc, "i")?,
-        adid: Text::of(alloc, "d")?,
-        nurl: Text::of(alloc, nurl)?,
-        burl: Text::of(alloc, burl)?,
-        lurl: Text::of(alloc, lurl)?,
+        seat,
+        bidid,
+        adid,
+        nurl,
+        burl,
+        lurl,
         body: Text::of(alloc, "{}")?,
     })
 }
@@ -103,62 +108,74 @@ fn offer(imp: u32, reason: u16) -> Offer {
 }
 
 /// The texts of three bids; the last two have a lurl alone.
-fn texts(alloc: Global, urls: Urls) -> Result<Vec<Kept>, OutOfMemory> {
+fn texts(alloc: Global, urls: [&str; 3]) -> Result<Vec<Kept>, OutOfMemory> {
     let [_, _, lurl] = urls;
     let mut texts = Vec::new(alloc);
-    texts.push(kept(alloc, 0, urls)?)?;
-    texts.push(kept(alloc, 1, ["", "", lurl])?)?;
-    texts.push(kept(alloc, 2, ["", "", lurl])?)?;
+    for (bid, urls) in [(0, urls), (1, ["", "", lurl]), (2, ["", "", lurl])] {
+        texts.push(kept(alloc, bid, urls)?)?;
+    }
     Ok(texts)
 }
 
 /// Three offers: one that is awarded, one that lost to it, and one that was refused and names no impression.
 fn offers(alloc: Global) -> Result<Vec<Offer>, OutOfMemory> {
-    let mut offers = Vec::new(alloc);
-    offers.push(offer(0, 0))?;
-    offers.push(offer(0, 102))?;
-    offers.push(offer(16, 3))?;
-    Ok(offers)
+    let offers = [offer(0, 0), offer(0, 102), offer(16, 3)];
+    Ok(Vec::from_slice(alloc, &offers)?)
 }
 
-/// An ask of these three offers with some texts, and the number of its award.
-fn ask_with(alloc: Global, first: u32, texts: Vec<Kept>) -> Result<Ask, OutOfMemory> {
+/// A name.
+fn name(alloc: Global, text: &str) -> Result<Id, OutOfMemory> {
+    match Id::of(alloc, text)? {
+        Some(name) => Ok(name),
+        None => Err(OutOfMemory),
+    }
+}
+
+/// The one impression.
+fn imps(alloc: Global) -> Result<Vec<Id>, OutOfMemory> {
     let mut imps = Vec::new(alloc);
-    imps.push(Id::of(alloc, "1")?.ok_or(OutOfMemory)?)?;
-    Ok(Ask {
-        auction: Id::of(alloc, "a/1")?.ok_or(OutOfMemory)?,
-        digest: [0; 32],
-        now: 10,
-        first,
-        imps: Sequence::from(imps),
-        offers: Sequence::from(offers(alloc)?),
-        kept: Sequence::from(texts),
-    })
+    imps.push(name(alloc, "1")?)?;
+    Ok(imps)
 }
 
 /// An ask of three bids, the first of which is awarded, and the number of its award.
-fn ask(alloc: Global, first: u32, urls: Urls) -> Result<Ask, OutOfMemory> {
-    ask_with(alloc, first, texts(alloc, urls)?)
+fn ask(alloc: Global, first: u32, urls: [&str; 3]) -> Result<Ask, OutOfMemory> {
+    Ok(Ask {
+        auction: name(alloc, "a/1")?,
+        digest: [0; 32],
+        now: 10,
+        first,
+        imps: Sequence::from(imps(alloc)?),
+        offers: Sequence::from(offers(alloc)?),
+        kept: Sequence::from(texts(alloc, urls)?),
+    })
+}
+
+/// The entry that a word names, where `first` awards were made before.
+fn entry(alloc: Global, word: &str, first: u32, urls: [&str; 3]) -> Result<Entry, OutOfMemory> {
+    let Some((letter, number)) = word.split_at_checked(1) else {
+        return Err(OutOfMemory);
+    };
+    let number = number.parse::<u32>().unwrap_or(0);
+    match letter {
+        "A" => Ok(Entry::Ask(ask(alloc, first, urls)?)),
+        "W" => Ok(Entry::Win { award: number }),
+        "B" => Ok(Entry::Bill { award: number }),
+        "L" => Ok(Entry::Loss { award: number }),
+        _ => Ok(Entry::Expire {
+            now: u64::from(number),
+        }),
+    }
 }
 
 /// The entries that a row names.
-fn entries(alloc: Global, row: &str, urls: Urls) -> Result<Vec<Entry>, OutOfMemory> {
+fn entries(alloc: Global, row: &str, urls: [&str; 3]) -> Result<Vec<Entry>, OutOfMemory> {
     let mut entries = Vec::new(alloc);
     let mut first = 0u32;
     for word in row.split(' ') {
-        let (letter, number) = word.split_at_checked(1).ok_or(OutOfMemory)?;
-        let number = number.parse::<u32>().unwrap_or(0);
-        match letter {
-            "A" => {
-                entries.push(Entry::Ask(ask(alloc, first, urls)?))?;
-                first = first.saturating_add(1);
-            }
-            "W" => entries.push(Entry::Win { award: number })?,
-            "B" => entries.push(Entry::Bill { award: number })?,
-            "L" => entries.push(Entry::Loss { award: number })?,
-            _ => entries.push(Entry::Expire {
-                now: u64::from(number),
-            })?,
+        entries.push(entry(alloc, word, first, urls)?)?;
+        if word == "A" {
+            first = first.saturating_add(1);
         }
     }
     Ok(entries)
@@ -173,36 +190,46 @@ fn word(kind: PostKind) -> &'static str {
     }
 }
 
-/// The posts, one behind the other.
-fn shown(alloc: Global, posts: &[Post]) -> Result<String, Fail> {
-    let mut out = String::new(alloc);
-    for post in posts {
-        write!(
-            out,
-            "{} {} {};",
-            word(post.kind),
-            post.entry,
-            post.url.as_str()
-        )?;
+/// Adds a post to a text.
+fn show(out: &mut String, post: &Post) -> Result<(), OutOfMemory> {
+    let (word, entry, url) = (word(post.kind), post.entry, post.url.as_str());
+    match write!(out, "{word} {entry} {url};") {
+        Ok(()) => Ok(()),
+        Err(_) => Err(OutOfMemory),
     }
-    Ok(out)
+}
+
+/// Whether the pending posts of an outbox are these, one behind the other.
+fn shows(alloc: Global, outbox: &Outbox, posts: &str) -> Result<bool, OutOfMemory> {
+    let mut out = String::new(alloc);
+    for post in outbox.pending() {
+        show(&mut out, post)?;
+    }
+    Ok(out.as_str() == posts)
 }
 
 /// An outbox that followed what a row names.
-fn outbox(alloc: Global, row: &str, urls: Urls) -> Result<Outbox, OutOfMemory> {
+fn outbox(alloc: Global, row: &str, urls: [&str; 3]) -> Result<Outbox, OutOfMemory> {
+    let entries = entries(alloc, row, urls)?;
     let mut outbox = Outbox::new(alloc)?;
-    outbox.follow(&entries(alloc, row, urls)?)?;
+    outbox.follow(&entries)?;
     Ok(outbox)
+}
+
+/// Adds a letter to a text, or CR LF for `<`.
+fn unfold(out: &mut String, letter: char) -> Result<(), OutOfMemory> {
+    match letter {
+        '<' => out.push_str("\r\n")?,
+        other => out.push(other)?,
+    }
+    Ok(())
 }
 
 /// A text with CR LF for `<`.
 fn unfolded(alloc: Global, row: &str) -> Result<Text, OutOfMemory> {
     let mut out = String::new(alloc);
     for letter in row.chars() {
-        match letter {
-            '<' => out.push_str("\r\n")?,
-            other => out.push(other)?,
-        }
+        unfold(&mut out, letter)?;
     }
     Ok(Text::from(out))
 }
@@ -229,57 +256,40 @@ fn report_of(outcome: &str) -> Report {
     }
 }
 
-/// How many rows an outbox keeps behind a history, and its posts.
-fn told(alloc: Global, names: &str, urls: Urls) -> Result<String, Fail> {
+/// Whether an outbox has followed a history, and keeps so many rows then and has these posts.
+fn tells(alloc: Global, names: &str, urls: [&str; 3], wanted: &str) -> Result<bool, OutOfMemory> {
     let outbox = outbox(alloc, names, urls)?;
-    let posts = shown(alloc, outbox.pending())?;
-    let mut out = String::new(alloc);
-    write!(out, "{} | {}", outbox.rows(), posts.as_str())?;
-    Ok(out)
+    let followed = names.split(' ').count() as u64;
+    match wanted.split_once(" | ") {
+        Some((rows, posts)) => Ok(
+            shows(alloc, &outbox, posts)?
+                && outbox.followed() == followed
+                && rows.parse::<usize>() == Ok(outbox.rows()),
+        ),
+        None => Ok(false),
+    }
 }
 
 #[test]
-fn histories_give_their_posts(rt: HostRuntime) -> Result<(), Fail> {
+fn histories_give_their_posts(rt: HostRuntime) {
     for row in HISTORIES.lines() {
-        let (names, wanted) = row.split_once(" | ").ok_or(OutOfMemory)?;
-        assert_eq!(rt; told(rt.alloc(), names, SHOWN)?.as_str(), wanted);
+        let (names, wanted) = row.split_once(" | ").unwrap_or((row, ""));
+        assert_eq!(rt; tells(rt.alloc(), names, SHOWN, wanted), Ok(true), "{row}");
     }
-    Ok(())
 }
 
 /// Histories whose bids have other URLs, with what is told of them.
-const FEW: [(&str, Urls, &str); 3] = [
+const FEW: [(&str, [&str; 3], &str); 3] = [
     ("A B0", WIN_ALONE, "1 | "),
     ("A W0", WIN_ALONE, "0 | nurl 1 http://n/w;"),
     ("A W0 B0", EMPTY, "0 | "),
 ];
 
 #[test]
-fn texts_that_are_empty_give_no_post(rt: HostRuntime) -> Result<(), Fail> {
+fn texts_that_are_empty_give_no_post(rt: HostRuntime) {
     for (names, urls, wanted) in FEW {
-        assert_eq!(rt; told(rt.alloc(), names, urls)?.as_str(), wanted);
+        assert_eq!(rt; tells(rt.alloc(), names, urls, wanted), Ok(true), "{names}");
     }
-    assert_eq!(rt; outbox(rt.alloc(), "A W0 B0", EMPTY)?.followed(), 3);
-    Ok(())
-}
-
-/// An outbox that followed an ask whose award has these texts, and a notice.
-fn notified(alloc: Global, texts: Kept, notice: Entry) -> Result<Outbox, OutOfMemory> {
-    let mut kept = Vec::new(alloc);
-    kept.push(texts)?;
-    let mut entries = Vec::new(alloc);
-    entries.push(Entry::Ask(ask_with(alloc, 0, kept)?))?;
-    entries.push(notice)?;
-    let mut outbox = Outbox::new(alloc)?;
-    outbox.follow(&entries)?;
-    Ok(outbox)
-}
-
-/// An outbox with a win's post to this URL.
-fn won(alloc: Global, url: Text) -> Result<Outbox, OutOfMemory> {
-    let mut texts = kept(alloc, 0, EMPTY)?;
-    texts.nurl = url;
-    notified(alloc, texts, Entry::Win { award: 0 })
 }
 
 /// Whether a link was asked what a row says, or nothing where it says nothing, and the report is so.
@@ -294,48 +304,68 @@ fn is_asked(
             let wanted = unfolded(alloc, asked)?;
             Ok(report == report_of("delivered") && link.asked(0) == Some(wanted.as_bytes()))
         }
-        None => Ok(report == report_of("undeliverable") && link.asked(0).is_none()),
+        None => Ok(
+            asked.is_empty() && report == report_of("undeliverable") && link.asked(0).is_none(),
+        ),
     }
 }
 
-/// Whether the post to a URL is asked as a row says, and is settled.
+/// Whether the one post of an outbox is asked as a row says, and is settled.
+fn asks(
+    alloc: Global,
+    outbox: &mut Outbox,
+    link: &mut MemoryLink,
+    asked: &str,
+) -> Result<bool, OutOfMemory> {
+    let report = outbox.pump(link)?;
+    Ok(outbox.pending().is_empty() && is_asked(alloc, link, report, asked)?)
+}
+
+/// Whether the post of a win to a URL is asked as a row says, and is settled.
 fn is_called(alloc: Global, url: &str, asked: &str) -> Result<bool, OutOfMemory> {
-    let mut outbox = won(alloc, Text::of(alloc, url)?)?;
+    let [_, burl, lurl] = EMPTY;
+    let mut outbox = outbox(alloc, "A W0", [url, burl, lurl])?;
     let mut link = MemoryLink::new(alloc, &[])?;
-    let report = outbox.pump(&mut link)?;
-    Ok(outbox.pending().is_empty() && is_asked(alloc, &link, report, asked)?)
+    asks(alloc, &mut outbox, &mut link, asked)
 }
 
 #[test]
-fn urls_are_called(rt: HostRuntime) -> Result<(), Fail> {
+fn urls_are_called(rt: HostRuntime) {
     for row in CALLED.lines() {
-        let (url, asked) = row.split_once(" |").ok_or(OutOfMemory)?;
-        assert!(rt; is_called(rt.alloc(), url, asked)?, "{row}");
+        let (url, asked) = row.split_once(" |").unwrap_or((row, "-"));
+        assert_eq!(rt; is_called(rt.alloc(), url, asked), Ok(true), "{row}");
     }
-    Ok(())
 }
 
-/// Whether an answer, and a call of the link that fails, come to an outcome.
-fn settles(alloc: Global, answer: &str, fails: &str, outcome: &str) -> Result<bool, OutOfMemory> {
+/// Whether the last post of an outbox comes to an outcome.
+fn settles(outbox: &mut Outbox, link: &mut MemoryLink, outcome: &str) -> Result<bool, OutOfMemory> {
+    let report = outbox.pump(link)?;
+    let stays = usize::from(outcome != "delivered");
+    Ok(report == report_of(outcome) && outbox.pending().len() == stays)
+}
+
+/// Whether an answer, and a call of the link that fails, come to an outcome, in one start of the link.
+fn comes_to(alloc: Global, answer: &str, fails: &str, outcome: &str) -> Result<bool, OutOfMemory> {
     let mut outbox = outbox(alloc, "A W0", WIN_ALONE)?;
     let mut link = link(alloc, answer, fails)?;
-    let report = outbox.pump(&mut link)?;
-    let stays = usize::from(outcome != "delivered");
-    Ok(report == report_of(outcome) && outbox.pending().len() == stays && link.asked(1).is_none())
+    Ok(settles(&mut outbox, &mut link, outcome)? && link.asked(1).is_none())
 }
 
 #[test]
-fn answers_settle_posts(rt: HostRuntime) -> Result<(), Fail> {
+fn answers_settle_posts(rt: HostRuntime) {
     for row in ANSWERS.lines() {
-        let (answer, rest) = row.split_once(" | ").ok_or(OutOfMemory)?;
-        let (fails, outcome) = rest.split_once(" | ").ok_or(OutOfMemory)?;
-        assert!(rt; settles(rt.alloc(), answer, fails, outcome)?, "{row}");
+        let (answer, rest) = row.split_once(" | ").unwrap_or((row, ""));
+        let (fails, outcome) = rest.split_once(" | ").unwrap_or((rest, ""));
+        assert_eq!(rt;
+            comes_to(rt.alloc(), answer, fails, outcome),
+            Ok(true),
+            "{row}"
+        );
     }
-    Ok(())
 }
 
 /// The URLs of a bid whose two posts are pumped.
-const TWO: Urls = [
+const TWO: [&str; 3] = [
     "http://n.example/w?p=${AUCTION_PRICE}&q=${AUCTION_PRICE:B64}&a=${AUCTION_MBR}&o=${OTHER}",
     "http://n.example/b",
     "",
@@ -346,29 +376,36 @@ const BOTH: &str =
     "burl 1 http://n.example/b;nurl 2 http://n.example/w?p=2.5&q=Mi41&a=&o=${OTHER};";
 
 /// What is reported where of two posts the first met a fault and the second was delivered.
-fn half_delivered() -> Report {
-    Report {
-        delivered: 1,
-        failed: 1,
-        answered: 0,
-        undeliverable: 0,
-    }
+const HALF_DELIVERED: Report = Report {
+    delivered: 1,
+    failed: 1,
+    answered: 0,
+    undeliverable: 0,
+};
+
+/// Whether of those two posts the first stays behind a fault.
+fn half_stays(
+    alloc: Global,
+    outbox: &mut Outbox,
+    link: &mut MemoryLink,
+) -> Result<[bool; 3], OutOfMemory> {
+    let both = shows(alloc, outbox, BOTH)?;
+    let report = outbox.pump(link)?;
+    let first = shows(alloc, outbox, "burl 1 http://n.example/b;")?;
+    Ok([both, report == HALF_DELIVERED, first])
+}
+
+/// Whether it does, and is delivered by the next pump.
+fn stays_then_goes(alloc: Global) -> Result<([bool; 3], bool), OutOfMemory> {
+    let mut outbox = outbox(alloc, "A B0 W0", TWO)?;
+    let mut link = link(alloc, "", "s")?;
+    let half = half_stays(alloc, &mut outbox, &mut link)?;
+    Ok((half, settles(&mut outbox, &mut link, "delivered")?))
 }
 
 #[test]
-fn a_post_stays_behind_a_fault(rt: HostRuntime) -> Result<(), Fail> {
-    let alloc = rt.alloc();
-    let mut outbox = outbox(alloc, "A B0 W0", TWO)?;
-    assert_eq!(rt; shown(alloc, outbox.pending())?.as_str(), BOTH);
-    let mut link = link(alloc, "", "s")?;
-    assert_eq!(rt; outbox.pump(&mut link)?, half_delivered());
-    assert_eq!(rt;
-        shown(alloc, outbox.pending())?.as_str(),
-        "burl 1 http://n.example/b;"
-    );
-    assert_eq!(rt; outbox.pump(&mut link)?, report_of("delivered"));
-    assert_eq!(rt; outbox.pending().len(), 0);
-    Ok(())
+fn a_post_stays_behind_a_fault(rt: HostRuntime) {
+    assert_eq!(rt; stays_then_goes(rt.alloc()), Ok(([true; 3], true)));
 }
 
 /// A text with 32,768 letters in it.
@@ -381,14 +418,18 @@ fn long(alloc: Global, front: &str, back: &str) -> Result<Text, OutOfMemory> {
     Ok(Text::from(text))
 }
 
-#[test]
-fn a_long_url_is_called(rt: HostRuntime) -> Result<(), Fail> {
-    let url = long(rt.alloc(), "http://n.example/", "")?;
+/// Whether the post to such a URL is asked.
+fn is_long_called(alloc: Global) -> Result<bool, OutOfMemory> {
+    let url = long(alloc, "http://n.example/", "")?;
     let asked = long(
-        rt.alloc(),
+        alloc,
         " GET /",
         " HTTP/1.1<Host: n.example:80<Connection: close<<",
     )?;
-    assert!(rt; is_called(rt.alloc(), url.as_str(), asked.as_str())?);
-    Ok(())
+    is_called(alloc, url.as_str(), asked.as_str())
+}
+
+#[test]
+fn a_long_url_is_called(rt: HostRuntime) {
+    assert_eq!(rt; is_long_called(rt.alloc()), Ok(true));
 }
