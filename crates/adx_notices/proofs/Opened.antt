@@ -1,25 +1,14 @@
--- What a day that was opened leaves on its disk, and what is put where it wasn't.
-use Rattle.std.proofs.Common.{◌≡◌, ⊎_elim, inl, inr, ℕ, List, [], ◌++◌, Option, Some, Result, Ok, Err, refl, sym, ap, ◌∙◌, subst, append-nil}
+-- What a day that was opened leaves on its disk.
+use Rattle.std.proofs.Common.{◌≡◌, ⊎_elim, ℕ, List, [], Option, subst, append-nil}
 use Rattle.adx_io.specs.Disks.{LeavesOnly}
-use Rattle.adx_io.specs.Streams.{Took}
-use Rattle.adx_io.specs.Talk.{TalkState}
-use Rattle.adx_io.specs.declared.stop.Stop.{Stop}
-use Rattle.adx_io.proofs.Moved.{took_none}
 use Rattle.adx_desk.specs.Desks.{OnDisk}
 use Rattle.adx_desk.specs.Histories.{DeskTerms, IsHistoryOf}
 use Rattle.adx_desk.specs.Opened.{Opens}
 use Rattle.adx_desk.specs.Openings.{StandsAsOneOf}
 use Rattle.adx_desk.specs.Rosters.{desk_terms}
-use Rattle.adx_desk.specs.declared.fault.DeskFault.{DeskFault}
 use Rattle.adx_desk.proofs.Keeping.{keeps_histories}
-use Rattle.day_rules.specs.declared.entry.Entry.{Entry}
 use Rattle.day_rules.specs.Legal.{IsLegal}
 use Rattle.deal_floor.specs.declared.roster.Roster.{Roster}
-use Rattle.script_day.specs.Courses.{GivesUpBy, ending_by}
-use Rattle.script_day.specs.Output.{unopened_line}
-use Rattle.script_day.specs.Parts.{PutsEnd, PutsUnopened}
-use Rattle.script_day.specs.declared.ending.Ending.{Ending}
-use Rattle.script_day.proofs.Putting.{cut_or_put}
 use Rattle.adx_notices.specs.Notices.{KeepsHistory}
 
 -- each loan is one of a disk
@@ -50,20 +39,3 @@ module _ {D E : Type 0} (disk_of : E → D) (faults : D → ℕ) (reads : D → 
   stands_lent roster old desk before now first last opens legal counted =
       subst (λ (d : D). KeepsHistory faults reads may_leave moment left_since roster desk.desk.history before d) last
       (subst (λ (d : D). KeepsHistory faults reads may_leave moment left_since roster desk.desk.history d (disk_of desk.disk)) first (stands_as roster old desk opens legal counted))
-
--- an opening that gave up: how the run ends, and what was put
-module _ (before : TalkState) (now : Option (List ℕ)) (result : Result (Unit {0}) Ending) (none : before.out ≡ []) where
-  why_put : (line : List ℕ) (wanted : Result (Unit {0}) Ending) → PutsEnd before.held now (before.out ++ line) wanted result → PutsEnd before.held now line wanted result
-  why_put line wanted puts = subst (λ (out : List ℕ). PutsEnd before.held now (out ++ line) wanted result) none puts
-
-  unput : now ≡ before.held → Took before.held now []
-  unput same = same ∙ took_none before.held
-
-  pub gave_up : (why : DeskFault) → PutsUnopened before now why result → GivesUpBy why result × PutsEnd before.held now (unopened_line why) (Err (ending_by why)) result
-  gave_up DeskFault.DiskFault (same, is) = (is, inl (is, unput same))
-  gave_up (DeskFault.JournalFull size) puts = (cut_or_put _ _ _ (Err Ending.NoHistory) result puts, why_put (unopened_line (DeskFault.JournalFull size)) (Err Ending.NoHistory) puts)
-  gave_up (DeskFault.BadEntry at) puts = (cut_or_put _ _ _ (Err Ending.NoHistory) result puts, why_put (unopened_line (DeskFault.BadEntry at)) (Err Ending.NoHistory) puts)
-  gave_up (DeskFault.OtherRoster kept) puts = (cut_or_put _ _ _ (Err Ending.NoHistory) result puts, why_put (unopened_line (DeskFault.OtherRoster kept)) (Err Ending.NoHistory) puts)
-  gave_up (DeskFault.NotAJournal at) puts = (cut_or_put _ _ _ (Err Ending.NoHistory) result puts, why_put (unopened_line (DeskFault.NotAJournal at)) (Err Ending.NoHistory) puts)
-  gave_up (DeskFault.BadLength at) puts = (cut_or_put _ _ _ (Err Ending.NoHistory) result puts, why_put (unopened_line (DeskFault.BadLength at)) (Err Ending.NoHistory) puts)
-  gave_up DeskFault.OutOfMemory (same, is) = (is, inl (is, unput same))

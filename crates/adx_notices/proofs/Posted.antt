@@ -1,5 +1,5 @@
 -- The posts that are pending behind a whole history.
-use Rattle.std.proofs.Common.{◌≡◌, ◌∙◌, ◌≤◌, List, [], ◌++◌, length, take, ap, arith, subst, Result, Ok}
+use Rattle.std.proofs.Common.{◌≡◌, ◌∙◌, List, [], ◌++◌, take, ap, arith, subst, Result, Ok}
 use Rattle.std.proofs.lemmas.List.{take_all}
 use Rattle.adx_units.specs.declared.memory.OutOfMemory.{OutOfMemory}
 use Rattle.day_rules.specs.declared.entry.Entry.{Entry}

@@ -14,7 +14,8 @@ use Rattle.day_rules.specs.declared.entry.Entry.{Entry}
 use Rattle.day_rules.specs.Legal.{IsLegal}
 use Rattle.deal_floor.specs.declared.roster.Roster.{Roster}
 use Rattle.script_day.specs.Courses.{GivesUpBy, ending_by, given_up}
-use Rattle.script_day.specs.Endings.{IsLineAtMost, LeftBehind}
+use Rattle.script_day.specs.Endings.{LeftBehind}
+use Rattle.script_day.specs.Firsts.{StopsAt}
 use Rattle.script_day.specs.OnDisk.{CourseOn}
 use Rattle.script_day.specs.Output.{roster_refused_line, unopened_line}
 use Rattle.script_day.specs.Parts.{CutFails, PutsEnd, WholeFails}
@@ -44,16 +45,6 @@ IsRefused why input left =
     ((line rest : List ℕ) × HasNoNewline line × (input ≡ ended line ++ rest) × WholeFails line why × LeftBehind rest left)
     ⊎ ((HasNoNewline input × (length input ≤ INPUT_LIMIT) × CutFails input why × (left ≡ []))
     ⊎ ((part : List ℕ) × (more : ℕ) × MayGoOn part × (input ≡ part ++ more ∷ left) × (length part ≡ INPUT_LIMIT) × (why ≡ RosterRefusal.Long)))
-
--- what of a rest is left in the source: all of it but at most a first line, which wasn't answered, and one piece more
-abbrev pub IsUnanswered : List ℕ → List ℕ → Type 0
-IsUnanswered rest left = (line behind : List ℕ) × IsLineAtMost line × (rest ≡ line ++ behind) × LeftBehind behind left
-
--- the same by what stopped the run: at a fault of the source all that came was read
-abbrev pub StopsAt : Stop → List ℕ → List ℕ → Type 0
-StopsAt Stop.ReadFault rest left = left ≡ rest
-StopsAt Stop.WriteFault rest left = IsUnanswered rest left
-StopsAt Stop.OutOfMemory rest left = IsUnanswered rest left
 
 -- the run was stopped so behind a first part of the input
 abbrev pub IsStopped : Stop → List ℕ → List ℕ → Type 0

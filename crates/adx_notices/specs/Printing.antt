@@ -5,9 +5,10 @@ use Rattle.adx_io.specs.Talk.{Reads, TalkState}
 use Rattle.adx_io.specs.declared.rest.Rest.{Rest}
 use Rattle.adx_io.specs.declared.stop.Stop.{Stop}
 use Rattle.deal_floor.specs.declared.roster.Roster.{Roster}
-use Rattle.script_day.specs.Endings.{LeftBehind, TookFront}
+use Rattle.script_day.specs.Endings.{TookFront}
+use Rattle.script_day.specs.Firsts.{IsLeftAt}
 use Rattle.script_day.specs.Output.{roster_refused_line}
-use Rattle.script_day.specs.Parts.{IsShortRoster, PutsEnd, WholeFails}
+use Rattle.script_day.specs.Parts.{PutsEnd}
 use Rattle.script_day.specs.Running.{PutsFront}
 use Rattle.script_day.specs.Steps.{IsAborted}
 use Rattle.script_day.specs.declared.ending.Ending.{Ending}
@@ -29,12 +30,6 @@ SkipsRest before now (Ok Rest.Whole) old new = (bytes : List ℕ) × Reads befor
 SkipsRest before now (Ok Rest.PastLimit) old new = (part : List ℕ) × (more : ℕ) × (old.left ≡ part ++ more ∷ new.left) × (length part ≡ before.allowed)
 SkipsRest before now (Err stop) old new = (bytes : List ℕ) × Reads before now old new bytes
 
--- what is left where the run stopped so behind what it read
-abbrev pub IsLeftAt : Stop → List ℕ → List ℕ → Type 0
-IsLeftAt Stop.ReadFault rest left = left ≡ rest
-IsLeftAt Stop.WriteFault rest left = LeftBehind rest left
-IsLeftAt Stop.OutOfMemory rest left = LeftBehind rest left
-
 -- what is left of what comes behind a roster's line: nothing, and it was within its limit; or it passes the limit; or
 -- the run stopped in it
 abbrev pub IsRead : ℕ → Tape → Tape → Type 0
@@ -53,12 +48,3 @@ module _ {D : Type 0} (faults : D → ℕ) (reads : D → Option (List ℕ)) (ma
       (WhereTold before.tape tape (IsRead before.allowed) × EndsOpened faults reads may_leave moment left_since r before.held held_now old new result)
       ⊎ ((new ≡ old) × ((WhereTold before.tape tape (IsPast before.allowed) × PutsEnd before.held held_now (roster_refused_line RosterRefusal.Long) (Err Ending.Refused) result)
       ⊎ ((stop : Stop) × WhereTold before.tape tape (IsPart stop before.allowed) × (held_now ≡ before.held) × (result ≡ Err (Ending.Stopped stop)))))
-
-  -- what came of a whole first line, of which this is known: it is a roster's, and what stands behind it ended so; or it is
-  -- none, and was refused; or memory was refused before
-  abbrev pub EndsFirst : (List ℕ → Type 0) → TalkState → Option Tape → Option (List ℕ) → D → D → Result (Unit {0}) Ending → Type 0
-  EndsFirst Known before tape held_now old new result =
-      ((r : Roster) × ((line : List ℕ) → Known line → IsShortRoster line r) × EndsRest r before tape held_now old new result)
-      ⊎ ((new ≡ old) × (((why : RosterRefusal) × ((line : List ℕ) → Known line → WholeFails line why)
-      × WhereTold before.tape tape (λ rest now. LeftBehind rest.left now.left) × PutsEnd before.held held_now (roster_refused_line why) (Err Ending.Refused) result)
-      ⊎ (WhereTold before.tape tape (λ rest now. LeftBehind rest.left now.left) × (held_now ≡ before.held) × (result ≡ Err (Ending.Stopped Stop.OutOfMemory)))))

@@ -22,10 +22,11 @@ pub(crate) fn skip_rest<S: Source, K: Sink>(talk: &mut Talk<'_, S, K>) -> Result
     ensures same { place_of talk.new ≡ place_of talk.old }
 {
     'lines: loop {
-        match talk.next_line(0)? {
-            Next::Line => {}
-            Next::End => return Ok(Rest::Whole),
-            Next::PastLimit => return Ok(Rest::PastLimit),
+        match talk.next_line(0) {
+            Ok(Next::Line) => {}
+            Ok(Next::End) => return Ok(Rest::Whole),
+            Ok(Next::PastLimit) => return Ok(Rest::PastLimit),
+            Err(stop) => return Err(stop),
         }
     }
 }

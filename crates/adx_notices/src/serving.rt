@@ -1,6 +1,5 @@
 //! The notices of a day, from its roster line to the line of its last post.
-ghost use Rattle.std.specs.Prelude.{◌≡◌, ◌≢◌, ◌≤◌, ℕ, List, [], length, Ok, Err};
-ghost use Rattle.adx_io.specs.Lines.{Keeps};
+ghost use Rattle.std.specs.Prelude.{◌≡◌, ◌≢◌, ◌≤◌, [], length, Ok, Err};
 ghost use Rattle.adx_io.specs.Streams.{Rises};
 ghost use Rattle.adx_io.specs.TalkState.{place_of, state_of};
 ghost use Rattle.adx_io.specs.declared.line_buffer.TheConstants.{CHUNK};
@@ -11,21 +10,19 @@ ghost use Rattle.day_rules.specs.Terms.{Terms};
 ghost use Rattle.script_day.specs.Parts.{PutsEnd};
 ghost use Rattle.script_day.specs.Steps.{HasCauses};
 ghost use Rattle.script_day.specs.declared.ending.Ending.TheVariants.{DiskFault as FaultOfDisk, Stopped};
-ghost use Rattle.script_day.specs.declared.limits.TheConstants.{INPUT_LIMIT as input_limit, LINE_LIMIT as line_limit};
+ghost use Rattle.script_day.specs.declared.limits.TheConstants.{INPUT_LIMIT as input_limit};
 ghost use Rattle.adx_notices.specs.Notices.{EndsNotices, EndsOpened};
 ghost use Rattle.adx_notices.specs.PostLines.{notice_lines};
-ghost use Rattle.adx_notices.specs.Printing.{EndsFirst, EndsRest};
+ghost use Rattle.adx_notices.specs.Printing.{EndsRest};
 
 use crate::printing::tell_posts;
 use crate::rest::skip_rest;
 use adx_desk::Desk;
-use adx_io::{Disk, LineBuffer, Next, Rest, Sink, Source, Talk};
+use adx_io::{Disk, LineBuffer, Rest, Sink, Source, Talk};
 use day_rules::Entry;
 use deal_floor::Roster;
 use outbox::Outbox;
-use script_day::{
-    Ending, FirstLine, INPUT_LIMIT, LINE_LIMIT, cut_first, first_line, give_up, refuse_roster,
-};
+use script_day::{Ending, INPUT_LIMIT, first_roster, give_up, refuse_roster};
 use script_lines::RosterRefusal;
 use std::alloc::Global;
 
@@ -90,26 +87,7 @@ fn serve_behind<S: Source, K: Sink, D: Disk>(
 {
     match skip_rest(talk)? {
         Rest::Whole => serve_roster(alloc, roster, disk, talk),
-        Rest::PastLimit => refuse_roster(alloc, talk, RosterRefusal::Long),
-    }
-}
-
-/// Serves the day of the first line, whose newline was read, or refuses it.
-fn serve_first<S: Source, K: Sink, D: Disk>(
-    alloc: Global,
-    disk: &mut D,
-    talk: &mut Talk<'_, S, K>,
-) -> Result<(), Ending>
-    requires unwritten { (state_of talk.old).out ≡ [] }
-    requires ahead { length talk.old.buffer.now.pending ≤ CHUNK }
-    ensures ends { EndsFirst D.faults D.reads D.may_leave D.moment D.left_since (Keeps line_limit talk.old.buffer.now.overlong talk.old.buffer.now.line) (state_of talk.old) (S.tape talk.new.source.now) (K.held talk.new.sink.now) disk.old disk.new result }
-    ensures lasts { D.lasts disk.old disk.new }
-    ensures causes { HasCauses (state_of talk.old) (state_of talk.new) result }
-    ensures same { place_of talk.new ≡ place_of talk.old }
-{
-    match first_line(alloc, talk.buffer)? {
-        FirstLine::Whole { roster } => serve_behind(alloc, &roster, disk, talk),
-        FirstLine::Refused { why } => refuse_roster(alloc, talk, why),
+        Rest::PastLimit => Err(refuse_roster(alloc, talk, RosterRefusal::Long)),
     }
 }
 
@@ -126,13 +104,9 @@ fn serve<S: Source, K: Sink, D: Disk>(
     ensures causes { HasCauses (state_of talk.old) (state_of talk.new) result }
     ensures same { place_of talk.new ≡ place_of talk.old }
 {
-    match talk.next_line(LINE_LIMIT)? {
-        Next::Line => serve_first(alloc, disk, talk),
-        Next::End => {
-            let why = cut_first(talk.buffer);
-            refuse_roster(alloc, talk, why)
-        }
-        Next::PastLimit => refuse_roster(alloc, talk, RosterRefusal::Long),
+    match first_roster(alloc, talk) {
+        Ok(roster) => serve_behind(alloc, &roster, disk, talk),
+        Err(ending) => Err(ending),
     }
 }
 

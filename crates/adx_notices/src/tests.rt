@@ -1,9 +1,9 @@
 //! The notices of a day: what days owe, inputs that are refused, files of other kinds, and faults of each object.
 use crate::serve_notices;
 use adx_io::{Disk, MemoryDisk, MemorySink, MemorySource, Stop};
+use adx_units::OutOfMemory;
 use script_day::{Ending, serve_day};
 use std::alloc::{AllocError, Global};
-use std::test::Fail;
 
 /// The roster's line.
 const ROSTER: &str =
@@ -65,55 +65,82 @@ fn word_of(ended: Result<(), Ending>) -> &'static str {
     }
 }
 
-/// Serves a day of these calls on a disk.
-fn serve_calls(alloc: Global, calls: &str, disk: &mut MemoryDisk) -> Result<(), Fail> {
+/// The bytes of a text, in which `;` stands for a newline and `R` for the roster's line.
+fn bytes_of(alloc: Global, text: &str) -> Result<Vec<u8>, OutOfMemory> {
+    let mut bytes = Vec::new(alloc);
+    add_with(&mut bytes, text, 'R', ROSTER)?;
+    Ok(bytes)
+}
+
+/// The input of a day of these calls.
+fn day_of(alloc: Global, calls: &str) -> Result<Vec<u8>, OutOfMemory> {
     let mut input = Vec::new(alloc);
     add_lines(&mut input, ROSTER)?;
     for call in calls.split(", ") {
         add_call(&mut input, call)?;
     }
-    let mut source = MemorySource::new(alloc, &input, 0, &[])?;
-    let mut sink = MemorySink::new(alloc, 0, &[])?;
-    match serve_day(alloc, &mut source, &mut sink, disk) {
-        Ok(()) => Ok(()),
-        Err(_) => Err("no day".into()),
-    }
+    Ok(input)
 }
 
-/// Whether an input gives this output on a disk, in pieces of so many bytes; 0 is whole. In the input `R` stands for the
-/// roster's line.
+/// Serves the day of an input on a disk, and tells whether it was read to its end.
+fn is_served(alloc: Global, input: &[u8], disk: &mut MemoryDisk) -> Result<bool, OutOfMemory> {
+    let mut source = MemorySource::new(alloc, input, 0, &[])?;
+    let mut sink = MemorySink::new(alloc, 0, &[])?;
+    Ok(serve_day(alloc, &mut source, &mut sink, disk).is_ok())
+}
+
+/// A disk that keeps a day of these calls; one that keeps nothing where the day isn't served.
+fn kept(alloc: Global, calls: &str) -> Result<MemoryDisk, OutOfMemory> {
+    let input = day_of(alloc, calls)?;
+    let mut disk = MemoryDisk::new(alloc, b"", &[], None)?;
+    if is_served(alloc, &input, &mut disk)? {
+        return Ok(disk);
+    }
+    MemoryDisk::new(alloc, b"no day", &[], None)
+}
+
+/// Whether an input gives this output on a disk, in pieces of so many bytes; 0 is whole.
 fn gives(
     alloc: Global,
-    input: &str,
-    output: &str,
+    input: &[u8],
+    output: &[u8],
     step: usize,
     end: &str,
     disk: &mut MemoryDisk,
-) -> Result<bool, Fail> {
-    let mut bytes = Vec::new(alloc);
-    add_with(&mut bytes, input, 'R', ROSTER)?;
-    let mut wanted = Vec::new(alloc);
-    add_lines(&mut wanted, output)?;
-    let mut source = MemorySource::new(alloc, &bytes, step, &[])?;
+) -> Result<bool, OutOfMemory> {
+    let mut source = MemorySource::new(alloc, input, step, &[])?;
     let mut sink = MemorySink::new(alloc, step, &[])?;
     let ended = word_of(serve_notices(alloc, &mut source, &mut sink, disk));
-    Ok(ended == end && sink.taken() == wanted.as_slice())
+    Ok(ended == end && sink.taken() == output)
 }
 
 /// The same whole, byte by byte, and in pieces of five bytes.
 fn gives_in_pieces(
     alloc: Global,
-    input: &str,
-    output: &str,
+    input: &[u8],
+    output: &[u8],
     end: &str,
     disk: &mut MemoryDisk,
-) -> Result<bool, Fail> {
+) -> Result<bool, OutOfMemory> {
     for step in [0, 1, 5] {
         if !gives(alloc, input, output, step, end, disk)? {
             return Ok(false);
         }
     }
     Ok(true)
+}
+
+/// The same of texts.
+fn gives_texts(
+    alloc: Global,
+    input: &str,
+    output: &str,
+    end: &str,
+    disk: &mut MemoryDisk,
+) -> Result<bool, OutOfMemory> {
+    let bytes = bytes_of(alloc, input)?;
+    let wanted = bytes_of(alloc, output)?;
+    gives_in_pieces(alloc, &bytes, &wanted, end, disk)
 }
 
 /// Days and the lines of their posts: `calls => lines`.
@@ -128,20 +155,20 @@ ask ${AUCTION_AD_ID}, notice win, notice bill =>
 ask https://[::1]:0/ a b, notice win => lurl https://[::1]:0/ a b;nurl https://[::1]:0/ a b;
 ask user@n, {"x":1};, [;, notice win => lurl user@n;nurl user@n;"#;
 
-/// Whether a day of these calls has these lines.
-fn has_lines(alloc: Global, calls: &str, lines: &str) -> Result<bool, Fail> {
-    let mut disk = MemoryDisk::new(alloc, b"", &[], None)?;
-    serve_calls(alloc, calls, &mut disk)?;
-    gives_in_pieces(alloc, "R", lines, "told", &mut disk)
+/// Whether the day of a row's calls has its lines.
+fn has_lines(alloc: Global, row: &str) -> Result<bool, OutOfMemory> {
+    let Some((calls, lines)) = row.split_once(" => ") else {
+        return Ok(false);
+    };
+    let mut disk = kept(alloc, calls)?;
+    gives_texts(alloc, "R", lines, "told", &mut disk)
 }
 
 #[test]
-fn tells_the_posts_of_a_day(rt: HostRuntime) -> Result<(), Fail> {
+fn tells_the_posts_of_a_day(rt: HostRuntime) {
     for row in DAYS.lines() {
-        let (calls, lines) = row.split_once(" => ").ok_or("no lines")?;
-        assert!(rt; has_lines(rt.alloc(), calls, lines)?, "{row}");
+        assert_eq!(rt; has_lines(rt.alloc(), row), Ok(true), "{row}");
     }
-    Ok(())
 }
 
 /// Inputs on the disk of a day, what they give, and how the run ends: `input => output => end`.
@@ -152,19 +179,23 @@ const INPUTS: &str = r#" => {"answer":"roster","why":"cut"}; => refused
 R => lurl u?102; => told
 RR{}; and; ;; more => lurl u?102; => told"#;
 
+/// Whether a row's input ends as it says.
+fn ends_so(alloc: Global, row: &str) -> Result<bool, OutOfMemory> {
+    let Some((input, rest)) = row.split_once(" => ") else {
+        return Ok(false);
+    };
+    let Some((output, end)) = rest.split_once(" => ") else {
+        return Ok(false);
+    };
+    let mut disk = kept(alloc, "ask u?${AUCTION_LOSS}")?;
+    gives_texts(alloc, input, output, end, &mut disk)
+}
+
 #[test]
-fn ends_as_its_input_says(rt: HostRuntime) -> Result<(), Fail> {
-    let mut disk = MemoryDisk::new(rt.alloc(), b"", &[], None)?;
-    serve_calls(rt.alloc(), "ask u?${AUCTION_LOSS}", &mut disk)?;
+fn ends_as_its_input_says(rt: HostRuntime) {
     for row in INPUTS.lines() {
-        let (input, rest) = row.split_once(" => ").ok_or("no output")?;
-        let (output, end) = rest.split_once(" => ").ok_or("no end")?;
-        assert!(rt;
-            gives_in_pieces(rt.alloc(), input, output, end, &mut disk)?,
-            "{row}"
-        );
+        assert_eq!(rt; ends_so(rt.alloc(), row), Ok(true), "{row}");
     }
-    Ok(())
 }
 
 /// A roster of another budget.
@@ -174,16 +205,14 @@ const OTHER_ROSTER: &str =
 /// The digest of the roster, as a refusal tells it.
 const OTHER_DIGEST: &str = r#"{"answer":"journal","why":"otherroster","kept":""#;
 
-/// How the run on a disk ends, and the front of its output of so many bytes.
+/// How the run of an input on a disk ends, where its output begins with this front.
 fn tells(
     alloc: Global,
-    input: &str,
+    input: &[u8],
     disk: &mut MemoryDisk,
     front: &str,
-) -> Result<&'static str, Fail> {
-    let mut bytes = Vec::new(alloc);
-    add_lines(&mut bytes, input)?;
-    let mut source = MemorySource::new(alloc, &bytes, 0, &[])?;
+) -> Result<&'static str, OutOfMemory> {
+    let mut source = MemorySource::new(alloc, input, 0, &[])?;
     let mut sink = MemorySink::new(alloc, 0, &[])?;
     let ended = word_of(serve_notices(alloc, &mut source, &mut sink, disk));
     if sink.taken().starts_with(front.as_bytes()) {
@@ -193,53 +222,70 @@ fn tells(
 }
 
 /// Whether a file that is no journal is told as such.
-fn refuses_no_journal(alloc: Global) -> Result<bool, Fail> {
+fn refuses_no_journal(alloc: Global) -> Result<bool, OutOfMemory> {
     let mut disk = MemoryDisk::new(alloc, b"hello", &[], None)?;
     let line = r#"{"answer":"journal","why":"notajournal","at":0};"#;
-    gives(alloc, "R", line, 0, "history", &mut disk)
+    gives_texts(alloc, "R", line, "history", &mut disk)
+}
+
+/// How the run of a roster ends on a disk that keeps a day, behind a run of another roster.
+fn told_behind(alloc: Global, disk: &mut MemoryDisk) -> Result<&'static str, OutOfMemory> {
+    let own = bytes_of(alloc, "R")?;
+    tells(alloc, &own, disk, "lurl u\n")
 }
 
 /// How the run of another roster ends on a disk that keeps a day, and that of its own.
-fn told_apart(alloc: Global) -> Result<(&'static str, &'static str), Fail> {
-    let mut disk = MemoryDisk::new(alloc, b"", &[], None)?;
-    serve_calls(alloc, "ask u", &mut disk)?;
-    let other = tells(alloc, OTHER_ROSTER, &mut disk, OTHER_DIGEST)?;
-    let own = tells(alloc, ROSTER, &mut disk, "lurl u\n")?;
-    Ok((other, own))
+fn told_apart(alloc: Global) -> Result<(&'static str, &'static str), OutOfMemory> {
+    let mut disk = kept(alloc, "ask u")?;
+    let input = bytes_of(alloc, OTHER_ROSTER)?;
+    let other = tells(alloc, &input, &mut disk, OTHER_DIGEST)?;
+    Ok((other, told_behind(alloc, &mut disk)?))
 }
 
 #[test]
-fn refuses_other_files(rt: HostRuntime) -> Result<(), Fail> {
-    assert!(rt; refuses_no_journal(rt.alloc())?);
-    assert_eq!(rt; told_apart(rt.alloc())?, ("history", "told"));
-    Ok(())
+fn refuses_other_files(rt: HostRuntime) {
+    assert_eq!(rt; refuses_no_journal(rt.alloc()), Ok(true));
+    assert_eq!(rt; told_apart(rt.alloc()), Ok(("history", "told")));
+}
+
+/// The bytes that a disk's file has.
+fn file_of(alloc: Global, disk: &mut MemoryDisk) -> Result<Vec<u8>, OutOfMemory> {
+    let size = disk.size().unwrap_or(0);
+    let mut file = Vec::from_elem(alloc, 0, size as usize)?;
+    let _ = disk.read(0, &mut file);
+    Ok(file)
 }
 
 /// A disk that keeps a day with two posts, of which these reads fail.
-fn failing_disk(alloc: Global, reading: &[u64]) -> Result<MemoryDisk, Fail> {
-    let mut kept = MemoryDisk::new(alloc, b"", &[], None)?;
-    serve_calls(alloc, "ask http://n.example/, notice win", &mut kept)?;
-    let size = kept.size().ok().ok_or("no size")?;
-    let mut file = Vec::new(alloc);
-    file.resize(size as usize, 0)?;
-    kept.read(0, &mut file).ok().ok_or("no bytes")?;
-    Ok(MemoryDisk::new(alloc, &file, reading, None)?)
+fn failing_disk(alloc: Global, reading: &[u64]) -> Result<MemoryDisk, OutOfMemory> {
+    let mut there = kept(alloc, "ask http://n.example/, notice win")?;
+    let file = file_of(alloc, &mut there)?;
+    MemoryDisk::new(alloc, &file, reading, None)
 }
 
-/// How a run ends where these calls of its source, its sink and its disk fail, and how much was written.
+/// How a run on a disk ends where these calls of its source and its sink fail, and how much was written.
+fn fails_on(
+    alloc: Global,
+    taking: &[u64],
+    putting: &[u64],
+    disk: &mut MemoryDisk,
+) -> Result<(&'static str, usize), OutOfMemory> {
+    let input = bytes_of(alloc, "R")?;
+    let mut source = MemorySource::new(alloc, &input, 0, taking)?;
+    let mut sink = MemorySink::new(alloc, 20, putting)?;
+    let ended = word_of(serve_notices(alloc, &mut source, &mut sink, disk));
+    Ok((ended, sink.taken().len()))
+}
+
+/// The same where these reads of the disk fail too.
 fn fails(
     alloc: Global,
     taking: &[u64],
     putting: &[u64],
     reading: &[u64],
-) -> Result<(&'static str, usize), Fail> {
+) -> Result<(&'static str, usize), OutOfMemory> {
     let mut disk = failing_disk(alloc, reading)?;
-    let mut bytes = Vec::new(alloc);
-    add_lines(&mut bytes, ROSTER)?;
-    let mut source = MemorySource::new(alloc, &bytes, 0, taking)?;
-    let mut sink = MemorySink::new(alloc, 20, putting)?;
-    let ended = word_of(serve_notices(alloc, &mut source, &mut sink, &mut disk));
-    Ok((ended, sink.taken().len()))
+    fails_on(alloc, taking, putting, &mut disk)
 }
 
 /// The calls of the source, the sink and the disk that fail, how the run ends, and how much was written.
@@ -254,12 +300,11 @@ const FAULTS: [(&[u64], &[u64], &[u64], &str, usize); 7] = [
 ];
 
 #[test]
-fn ends_by_the_fault_of_a_call(rt: HostRuntime) -> Result<(), Fail> {
+fn ends_by_the_fault_of_a_call(rt: HostRuntime) {
     for (taking, putting, reading, end, written) in FAULTS {
         assert_eq!(rt;
-            fails(rt.alloc(), taking, putting, reading)?,
-            (end, written)
+            fails(rt.alloc(), taking, putting, reading),
+            Ok((end, written))
         );
     }
-    Ok(())
 }

@@ -1,20 +1,18 @@
 -- How a bidder's run ended, from what came of its first line.
-use Rattle.std.proofs.Common.{◌≡◌, inl, inr, ℕ, ◌-◌, ◌≤◌, List, [], ◌∷◌, ◌++◌, length, take, take_all, refl, sym, ap, ◌∙◌, subst, arith, append-nil, Option, Some, None, Result, Ok, Err}
-use Rattle.std.proofs.Math.Seq.{take-nil}
-use Rattle.adx_io.specs.Lines.{HasNoNewline, Keeps, tape_behind}
-use Rattle.adx_io.specs.declared.line_buffer.TheConstants.{CHUNK}
-use Rattle.adx_io.specs.Streams.{Tape, WhereTold, Took}
-use Rattle.adx_io.specs.Talk.{Puts, PutsAll, PutsNext, ReadsNext, TalkState, ended}
-use Rattle.adx_io.proofs.Moved.{took_none}
-use Rattle.adx_io.specs.declared.talk.Next.{Next}
+use Rattle.std.proofs.Common.{◌≡◌, inl, inr, ℕ, List, [], ◌++◌, refl, sym, ap, ◌∙◌, subst, zero-le, Option, Some, None, Result, Err}
+use Rattle.adx_io.specs.Lines.{HasNoNewline, tape_behind}
+use Rattle.adx_io.specs.Streams.{Tape, WhereTold}
+use Rattle.adx_io.specs.Talk.{TalkState, ended}
 use Rattle.adx_io.specs.declared.stop.Stop.{Stop}
 use Rattle.bidder_core.specs.Seen.{BidderState}
 use Rattle.http_connection.specs.declared.conn.ConnEnd.{ConnEnd}
 use Rattle.script_day.specs.Endings.{LeftBehind}
+use Rattle.script_day.specs.Firsts.{EndsLineless, HasNoLine, IsLeftAt, ReadsLine, StopsInLine}
 use Rattle.script_day.specs.Output.{roster_refused_line}
-use Rattle.script_day.specs.Parts.{CutFails, PutsEnd}
+use Rattle.script_day.specs.Parts.{PutsEnd}
 use Rattle.script_day.specs.declared.ending.Ending.{Ending}
 use Rattle.script_day.specs.declared.limits.TheConstants.{INPUT_LIMIT}
+use Rattle.script_day.proofs.Told.{told_map, told_then, unread_tape}
 use Rattle.script_lines.specs.declared.refusal.RosterRefusal.{RosterRefusal}
 use Rattle.bidder_day.specs.Bidding.{ComesBehind, EndsBidder, HasNoPrices, ServesBehind, StopsFirst}
 use Rattle.bidder_day.specs.Prices.{IsShortPrices}
@@ -46,23 +44,16 @@ module _ (tape tape_now : Option Tape) (held held_now : Option (List ℕ)) where
   stopped Stop.OutOfMemory stops = inr (inr stops)
 
   -- a whole first line, of which this is known, and what comes behind it
-  module _ (Known : List ℕ → Type 0) (behind : Option Tape) (reads : WhereTold tape behind (λ before rest. (line : List ℕ) × HasNoNewline line × Known line × (before.left ≡ ended line ++ rest.left))) where
-    over_line : (P : List ℕ → List ℕ → Type 0) (Q : Tape → Tape → Type 0) → ((before rest now : Tape) (line : List ℕ) → HasNoNewline line → Known line → before.left ≡ ended line ++ rest.left → P rest.left now.left → Q before now)
-        → WhereTold behind tape_now (λ rest now. P rest.left now.left) → WhereTold tape tape_now Q
-    over_line P Q step left = through tape behind tape_now reads left where
-      through : (t b n : Option Tape) → WhereTold t b (λ before rest. (line : List ℕ) × HasNoNewline line × Known line × (before.left ≡ ended line ++ rest.left)) → WhereTold b n (λ rest now. P rest.left now.left) → WhereTold t n Q
-      through None None n r l = l
-      through None (Some b) n r l = absurd (cc r)
-      through (Some t) None n r l = absurd r
-      through (Some t) (Some b) None r l = absurd l
-      through (Some t) (Some b) (Some n) r l = step t b n r.0 r.1 r.2 r.3 l
+  module _ (Known : List ℕ → Type 0) (before mid : TalkState) (reads : WhereTold tape mid.tape (ReadsLine Known before mid)) where
+    abbrev behind : Option Tape
+    behind = mid.tape
+
+    over_line : (P Q : Tape → Tape → Type 0) → WhereTold behind tape_now P → ((x y z : Tape) → ReadsLine Known before mid x y → P y z → Q x z) → WhereTold tape tape_now Q
+    over_line P Q left step = told_then tape behind tape_now (ReadsLine Known before mid) P Q reads left step
 
     known_comes : (bidder : BidderState) → ((line : List ℕ) → Known line → IsShortPrices line bidder) → ComesBehind bidder tape behind
-    known_comes bidder prices = through tape behind reads where
-      through : (t b : Option Tape) → WhereTold t b (λ before rest. (line : List ℕ) × HasNoNewline line × Known line × (before.left ≡ ended line ++ rest.left)) → ComesBehind bidder t b
-      through None b r = r
-      through (Some t) None r = r
-      through (Some t) (Some b) r = (r.0, r.1, prices r.0 r.2, r.3)
+    known_comes bidder prices =
+        told_map tape behind (ReadsLine Known before mid) (λ x y. (line : List ℕ) × HasNoNewline line × IsShortPrices line bidder × (x.left ≡ ended line ++ y.left)) reads (λ x y r. (r.0, r.1, prices r.0 r.2, r.3.next))
 
     first_served : (result : Result (Unit {0}) Ending) → ServesLine Known behind tape_now held held_now result → EndsBidder tape tape_now held held_now result
     first_served result s = let e = s.ends in subst (EndsBidder tape tape_now held held_now) (sym e.ends) (by_end e.end (record {
@@ -78,12 +69,12 @@ module _ (tape tape_now : Option Tape) (held held_now : Option (List ℕ)) where
 
     first_refused : (result : Result (Unit {0}) Ending) → RefusesLine Known behind tape_now held held_now result → EndsBidder tape tape_now held held_now result
     first_refused result r = refused r.why result
-        (over_line LeftBehind (λ before now. HasNoPrices r.why before.left now.left) (λ before rest now line whole known is left. inl (line, rest.left, whole, is, r.fails line known, left)) r.left) r.puts
+        (over_line (λ y z. LeftBehind y.left z.left) (λ x z. HasNoPrices r.why x.left z.left) r.left (λ x y z l left. inl (l.0, y.left, l.1, l.3.next, r.fails l.0 l.2, left))) r.puts
 
     first_unread : (result : Result (Unit {0}) Ending) → WantsMemory behind tape_now held held_now result → EndsBidder tape tape_now held held_now result
     first_unread result w = subst (EndsBidder tape tape_now held held_now) (sym w.ends) (stopped Stop.OutOfMemory (record {
       unwritten = w.unwritten;
-      front = over_line LeftBehind (λ before now. (read rest : List ℕ) × (before.left ≡ read ++ rest) × LeftBehind rest now.left) (λ before rest now line whole known is left. (ended line, rest.left, is, left)) w.left;
+      front = over_line (λ y z. LeftBehind y.left z.left) (λ x z. (read rest : List ℕ) × (x.left ≡ read ++ rest) × LeftBehind rest z.left) w.left (λ x y z l left. (ended l.0, y.left, l.3.next, left));
     }))
 
     -- what came of it
@@ -92,96 +83,33 @@ module _ (tape tape_now : Option Tape) (held held_now : Option (List ℕ)) where
     first_ends result (inr (inl r)) = first_refused result r
     first_ends result (inr (inr w)) = first_unread result w
 
-abbrev with_taken : Tape → List ℕ → Tape
-with_taken t taken = record t { taken = taken }
-
 -- what was taken of a source and not looked at is a piece of what comes
 pub piece_left : (pending : List ℕ) (told : Option Tape) → WhereTold (tape_behind pending told) told (λ rest now. (piece : List ℕ) × (rest.left ≡ piece ++ now.left))
 piece_left pending None = refl
 piece_left pending (Some t) = (pending, refl)
 
-pub within_left : (pending : List ℕ) (told : Option Tape) → length pending ≤ CHUNK → WhereTold (tape_behind pending told) told (λ rest now. LeftBehind rest.left now.left)
-within_left pending None few = refl
-within_left pending (Some t) few = (pending, few, refl)
+-- an input that has no price line first, since it has no whole line within its limit
+no_prices : (limit : ℕ) (why : RosterRefusal) (input left : List ℕ) → limit ≡ INPUT_LIMIT → HasNoLine limit why input left → HasNoPrices why input left
+no_prices limit why input left whole (inl (piece, short, cut, none)) = inr (inl (piece, cut, none))
+no_prices limit why input left whole (inr (line, more, piece, is, long, cause)) = inr (inr (line, more, piece, is, long ∙ whole, cause))
 
-abbrev left_in : Option Tape → List ℕ
-left_in None = []
-left_in (Some t) = t.left
+-- what is left where the run stopped in the first line
+left_by : (stop : Stop) (rest left : List ℕ) → IsLeftAt stop rest left → LeftBehind rest left
+left_by Stop.ReadFault rest left is = ([], zero-le, sym is)
+left_by Stop.WriteFault rest left behind = behind
+left_by Stop.OutOfMemory rest left behind = behind
 
--- what is read of a talk
-module _ (before now : TalkState) where
-  pub read_line : (limit : ℕ) → WhereTold before.tape now.tape (ReadsNext limit before now (Ok Next.Line))
-      → WhereTold before.tape now.tape (λ old new. (line : List ℕ) × HasNoNewline line × Keeps limit now.overlong now.line line × (old.left ≡ ended line ++ new.left))
-  read_line limit reads = through before.tape now.tape reads where
-    through : (t n : Option Tape) → WhereTold t n (ReadsNext limit before now (Ok Next.Line)) → WhereTold t n (λ old new. (line : List ℕ) × HasNoNewline line × Keeps limit now.overlong now.line line × (old.left ≡ ended line ++ new.left))
-    through None n r = r
-    through (Some t) None r = r
-    through (Some t) (Some n) r = (r.0, r.1.no_newline, r.1.keeps, r.2.next)
-
-  -- the input ended before a newline
-  pub read_cut : (limit : ℕ) (why : RosterRefusal) (told : Option Tape) → now.tape ≡ tape_behind [] told → ((line : List ℕ) → Keeps limit now.overlong now.line line → CutFails line why) → WhereTold before.tape now.tape (ReadsNext limit before now (Ok Next.End))
-      → WhereTold before.tape told (λ old new. HasNoPrices why old.left new.left)
-  read_cut limit why told is fails reads = through before.tape now.tape told is reads where
-    through : (t n s : Option Tape) → n ≡ tape_behind [] s → WhereTold t n (ReadsNext limit before now (Ok Next.End)) → WhereTold t s (λ old new. HasNoPrices why old.left new.left)
-    through None None None e r = refl
-    through None None (Some s) e r = absurd (cc e)
-    through None (Some n) s e r = absurd (cc r)
-    through (Some t) None s e r = absurd r
-    through (Some t) (Some n) None e r = absurd (cc e)
-    through (Some t) (Some n) (Some s) e r =
-        let none = sym (ap left_in e) ∙ r.3 in
-        inr (inl (
-          subst HasNoNewline (sym (r.2.next ∙ ap (λ (rest : List ℕ). r.0 ++ rest) r.3 ∙ append-nil r.0)) r.1.no_newline,
-          subst (λ (line : List ℕ). CutFails line why) (sym (r.2.next ∙ ap (λ (rest : List ℕ). r.0 ++ rest) r.3 ∙ append-nil r.0)) (fails r.0 r.1.keeps),
-          none,
-        ))
-
-  -- no newline stands within the limit of the input
-  pub read_past : (limit : ℕ) (told : Option Tape) → now.tape ≡ tape_behind [] told → before.allowed ≡ INPUT_LIMIT → WhereTold before.tape now.tape (ReadsNext limit before now (Ok Next.PastLimit))
-      → WhereTold before.tape told (λ old new. HasNoPrices RosterRefusal.Long old.left new.left)
-  read_past limit told is whole reads = through before.tape now.tape told is reads where
-    through : (t n s : Option Tape) → n ≡ tape_behind [] s → WhereTold t n (ReadsNext limit before now (Ok Next.PastLimit)) → WhereTold t s (λ old new. HasNoPrices RosterRefusal.Long old.left new.left)
-    through None None None e r = refl
-    through None None (Some s) e r = absurd (cc e)
-    through None (Some n) s e r = absurd (cc r)
-    through (Some t) None s e r = absurd r
-    through (Some t) (Some n) None e r = absurd (cc e)
-    through (Some t) (Some n) (Some s) e r = inr (inr (r.0, r.1, r.2, r.3 ∙ ap (λ (left : List ℕ). r.0 ++ r.1 ∷ left) (ap left_in e), r.4 ∙ whole, refl))
-
-  -- the search for a newline was stopped
-  pub read_stop : (limit : ℕ) (stop : Stop) (pending : List ℕ) (told : Option Tape) → now.tape ≡ tape_behind pending told → length pending ≤ CHUNK → WhereTold before.tape now.tape (ReadsNext limit before now (Err stop))
-      → WhereTold before.tape told (λ old new. (read rest : List ℕ) × (old.left ≡ read ++ rest) × LeftBehind rest new.left)
-  read_stop limit stop pending told is few reads = through before.tape now.tape told is reads where
-    through : (t n s : Option Tape) → n ≡ tape_behind pending s → WhereTold t n (ReadsNext limit before now (Err stop)) → WhereTold t s (λ old new. (read rest : List ℕ) × (old.left ≡ read ++ rest) × LeftBehind rest new.left)
-    through None None None e r = refl
-    through None None (Some s) e r = absurd (cc e)
-    through None (Some n) s e r = absurd (cc r)
-    through (Some t) None s e r = absurd r
-    through (Some t) (Some n) None e r = absurd (cc e)
-    through (Some t) (Some n) (Some s) e r = (r.0, n.left, r.2.next, (pending, few, ap left_in e))
-
-  -- nothing was put where nothing was to be written
-  none_in_front : (front back : List ℕ) → [] ≡ front ++ back → front ≡ []
-  none_in_front [] back is = refl
-  none_in_front (b ∷ front) back is = absurd (cc is)
-
-  unheld : (front : List ℕ) → front ≡ [] → Took before.held now.held front → now.held ≡ before.held
-  unheld front none took = subst (Took before.held now.held) none took ∙ sym (took_none before.held)
-
-  pub held_line : before.out ≡ [] → Puts before now → now.held ≡ before.held
-  held_line none puts = unheld puts.front (none_in_front puts.front now.out (sym none ∙ puts.split)) puts.took
-
-  pub held_all : before.out ≡ [] → PutsAll before now → now.held ≡ before.held
-  held_all none puts = unheld before.out none puts.took
-
-  pub held_stop : (stop : Stop) → before.out ≡ [] → PutsNext before now (Err stop) → now.held ≡ before.held
-  held_stop Stop.ReadFault none puts = held_all none puts
-  held_stop Stop.WriteFault none puts = unheld (take puts.0 before.out) (ap (take puts.0) none ∙ take-nil puts.0) puts.2
-  held_stop Stop.OutOfMemory none puts = held_line none puts
-
-unread_tape : (t : Option Tape) → tape_behind [] t ≡ t
-unread_tape None = refl
-unread_tape (Some t) = ap (λ (taken : List ℕ). Some (with_taken t taken)) (take_all (length t.taken - 0) t.taken (omega arith))
+-- the run ended before its first line was read
+pub lineless_ends : (before : TalkState) (tape_now : Option Tape) (held_now : Option (List ℕ)) (ending : Ending) → before.allowed ≡ INPUT_LIMIT → EndsLineless before tape_now held_now ending → EndsBidder before.tape tape_now before.held held_now (Err ending)
+lineless_ends before tape_now held_now ending whole (inl (why, first, puts)) =
+    refused before.tape tape_now before.held held_now why (Err ending)
+    (told_map before.tape tape_now (λ x z. HasNoLine before.allowed why x.left z.left) (λ x z. HasNoPrices why x.left z.left) first (λ x z none. no_prices before.allowed why x.left z.left whole none)) puts
+lineless_ends before tape_now held_now ending whole (inr (stop, first, unput, is)) =
+    subst (λ (e : Ending). EndsBidder before.tape tape_now before.held held_now (Err e)) (sym is)
+    (stopped before.tape tape_now before.held held_now stop (record {
+      unwritten = unput;
+      front = told_map before.tape tape_now (λ x z. StopsInLine IsLeftAt before.allowed stop x.left z.left) (λ x z. (read rest : List ℕ) × (x.left ≡ read ++ rest) × LeftBehind rest z.left) first (λ x z r. (r.0, r.1, r.3, left_by stop r.1 z.left r.5));
+    }))
 
 -- the run's tapes and sinks are those of the talk; nothing was taken before it began
 pub run_ends : (begun tape tape_now last : Option Tape) (held_begun held held_now held_last : Option (List ℕ)) (result : Result (Unit {0}) Ending)

@@ -1,5 +1,5 @@
 //! A bidder's run: its price line, and the connection behind it.
-ghost use Rattle.std.specs.Prelude.{◌≡◌, ◌≢◌, ◌≤◌, List, ℕ, [], length, Ok, Err};
+ghost use Rattle.std.specs.Prelude.{◌≡◌, ◌≢◌, ◌≤◌, [], length, Ok, Err};
 ghost use Rattle.adx_io.specs.Lines.{Keeps, TookLast, tape_behind};
 ghost use Rattle.bidder_http.specs.Messages.{BidderAnswers, BidderGivesUp};
 ghost use Rattle.http_service.specs.Connections.{EndsWith, HasCauses as ConnCauses};
@@ -15,12 +15,11 @@ ghost use Rattle.bidder_day.specs.Bidding.{EndsBidder};
 ghost use Rattle.bidder_day.specs.Serving.{EndsBehind, EndsFirst, ending_by};
 
 use crate::prices::{FirstPrices, first_prices};
-use adx_io::{LineBuffer, Lines, Next, Sink, Source, Stop, Talk};
+use adx_io::{LineBuffer, Lines, Sink, Source, Stop, Talk};
 use bidder_core::Bidder;
 use bidder_http::serve_bidder;
 use http_connection::ConnEnd;
-use script_day::{Ending, INPUT_LIMIT, LINE_LIMIT, cut_first, refuse_roster};
-use script_lines::RosterRefusal;
+use script_day::{Ending, INPUT_LIMIT, read_first, refuse_roster};
 use std::alloc::Global;
 
 /// How the run ends whose connection ended so.
@@ -84,7 +83,7 @@ fn serve_first<S: Source, K: Sink>(alloc: Global, talk: &mut Talk<'_, S, K>) -> 
             let mut bidder = bidder;
             serve_behind(alloc, &mut bidder, talk)
         }
-        FirstPrices::Refused { why } => refuse_roster(alloc, talk, why),
+        FirstPrices::Refused { why } => Err(refuse_roster(alloc, talk, why)),
     }
 }
 
@@ -96,13 +95,9 @@ fn serve<S: Source, K: Sink>(alloc: Global, talk: &mut Talk<'_, S, K>) -> Result
     ensures causes { HasCauses (state_of talk.old) (state_of talk.new) result }
     ensures same { place_of talk.new ≡ place_of talk.old }
 {
-    match talk.next_line(LINE_LIMIT)? {
-        Next::Line => serve_first(alloc, talk),
-        Next::End => {
-            let why = cut_first(talk.buffer);
-            refuse_roster(alloc, talk, why)
-        }
-        Next::PastLimit => refuse_roster(alloc, talk, RosterRefusal::Long),
+    match read_first(alloc, talk) {
+        Ok(()) => serve_first(alloc, talk),
+        Err(ending) => Err(ending),
     }
 }
 

@@ -93,7 +93,7 @@ cause_rises a b (DeskFault.NotAJournal at_) result ends cause at = absurd (not_r
 cause_rises a b (DeskFault.BadLength at_) result ends cause at = absurd (not_refused result ends at)
 cause_rises a b DeskFault.OutOfMemory result ends cause at = absurd (cc (sym ends ∙ at))
 
-cause_stays : (a b : ℕ) (why : DeskFault) (result : Result (Unit {0}) Ending) → GivesUpBy why result → HasDiskCause a b why → result ≢ Err Ending.DiskFault → b ≡ a
+pub cause_stays : (a b : ℕ) (why : DeskFault) (result : Result (Unit {0}) Ending) → GivesUpBy why result → HasDiskCause a b why → result ≢ Err Ending.DiskFault → b ≡ a
 cause_stays a b DeskFault.DiskFault result ends cause other = absurd (other ends)
 cause_stays a b (DeskFault.JournalFull size) result ends cause other = cause
 cause_stays a b (DeskFault.BadEntry at) result ends cause other = cause

@@ -1,4 +1,5 @@
 pub mod FirstLines
+pub mod FirstReads
 pub mod OneMeaning
 pub mod AnswerLaws
 pub mod ToldAnswers

@@ -1,8 +1,9 @@
 -- Tapes that are told, at a talk and at its source.
-use Rattle.std.proofs.Common.{◌≡◌, List, ℕ, [], Option, Some, None, refl, sym, subst}
+use Rattle.std.proofs.Common.{◌≡◌, ◌-◌, ◌≤◌, List, ℕ, [], length, take_all, Option, Some, None, refl, sym, ap, subst, arith}
 use Rattle.adx_io.specs.Lines.{tape_behind, with_pending}
 use Rattle.adx_io.specs.Streams.{Tape, WhereTold}
-use Rattle.script_day.specs.Running.{TellsOn}
+use Rattle.adx_io.specs.declared.line_buffer.TheConstants.{CHUNK}
+use Rattle.script_day.specs.Endings.{LeftBehind}
 
 -- nothing happened yet
 pub told_start : (a : Option Tape) (R : Tape → Tape → Type 0) → ((t : Tape) → R t t) → WhereTold a a R
@@ -42,9 +43,20 @@ told_source None pending (Some z) R Q r step = absurd (cc r)
 told_source (Some x) pending None R Q r step = absurd r
 told_source (Some x) pending (Some z) R Q r step = step x z r
 
--- what is told goes on to be told
-pub tells_on : (a b : Option Tape) (R : Tape → Tape → Type 0) → WhereTold a b R → TellsOn a b
-tells_on a b R told = told_map a b R (λ _ _. Unit {0}) told (λ x y r. tt)
+-- one step after another
+pub told_then : (a b c : Option Tape) (R S Q : Tape → Tape → Type 0) → WhereTold a b R → WhereTold b c S → ((x y z : Tape) → R x y → S y z → Q x z) → WhereTold a c Q
+told_then None None c R S Q r s step = s
+told_then None (Some y) c R S Q r s step = absurd (cc r)
+told_then (Some x) None c R S Q r s step = absurd r
+told_then (Some x) (Some y) None R S Q r s step = absurd s
+told_then (Some x) (Some y) (Some z) R S Q r s step = step x y z r s
 
-pub ahead_tells : (pending : List ℕ) (t now : Option Tape) → now ≡ t → TellsOn (tape_behind pending t) now
-ahead_tells pending t now same = subst (TellsOn (tape_behind pending t)) (sym same) (told_ahead pending t (λ _ _. Unit {0}) (λ z. tt))
+-- a piece that was taken and not looked at is left behind
+pub left_behind : (pending : List ℕ) (told now : Option Tape) → length pending ≤ CHUNK → now ≡ told → WhereTold (tape_behind pending told) now (λ rest left. LeftBehind rest.left left.left)
+left_behind pending told now few same =
+    subst (λ (t : Option Tape). WhereTold (tape_behind pending told) t (λ rest left. LeftBehind rest.left left.left)) (sym same) (told_ahead pending told (λ rest left. LeftBehind rest.left left.left) (λ z. (pending, few, refl)))
+
+-- a talk that took nothing yet isn't ahead of its source
+pub unread_tape : (t : Option Tape) → tape_behind [] t ≡ t
+unread_tape None = refl
+unread_tape (Some t) = ap (λ (taken : List ℕ). Some (record t { taken = taken })) (take_all (length t.taken - 0) t.taken (omega arith))

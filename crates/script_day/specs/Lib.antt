@@ -8,6 +8,7 @@ pub mod Courses
 pub mod Script
 pub mod OnDisk
 pub mod Parts
+pub mod Firsts
 pub mod Running
 pub mod Answering
 pub mod Days

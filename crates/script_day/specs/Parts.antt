@@ -10,7 +10,6 @@ use Rattle.script_lines.specs.declared.refusal.RosterRefusal.{RosterRefusal}
 use Rattle.script_day.specs.Endings.{TookFront}
 use Rattle.script_day.specs.Output.{unopened_line}
 use Rattle.script_day.specs.Steps.{IsAborted}
-use Rattle.script_day.specs.declared.day.FirstLine.{FirstLine}
 use Rattle.script_day.specs.declared.ending.Ending.{Ending}
 use Rattle.script_day.specs.declared.limits.TheConstants.{LINE_LIMIT}
 
@@ -41,8 +40,3 @@ WholeFails line why = ((LINE_LIMIT < length line) × (why ≡ RosterRefusal.Long
 -- why a first line without a newline is none: it is too long, or cut
 abbrev pub CutFails : List ℕ → RosterRefusal → Type 0
 CutFails line why = ((LINE_LIMIT < length line) × (why ≡ RosterRefusal.Long)) ⊎ ((length line ≤ LINE_LIMIT) × (why ≡ RosterRefusal.Cut))
-
--- what was found of a whole first line
-abbrev pub FindsFirst : List ℕ → FirstLine → Type 0
-FindsFirst line (FirstLine.Whole r) = IsShortRoster line r
-FindsFirst line (FirstLine.Refused why) = WholeFails line why

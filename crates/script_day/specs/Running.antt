@@ -1,25 +1,24 @@
 -- How a run over the lines of a script goes on and ends. Only private clauses cite this file.
-use Rattle.std.specs.Prelude.{◌≡◌, ◌⊎◌, ℕ, ◌+◌, ◌≤◌, List, ◌++◌, length, All, Option, Result, Err}
+use Rattle.std.specs.Prelude.{◌≡◌, ◌⊎◌, ℕ, ◌+◌, ◌≤◌, List, ◌++◌, length, All, Option, Result}
 use Rattle.std.specs.List.{flat_map}
 use Rattle.adx_io.specs.Lines.{HasNoNewline, tape_behind}
 use Rattle.adx_io.specs.Streams.{Tape, WhereTold, Took}
 use Rattle.adx_io.specs.Talk.{TalkState, Reads, ended}
 use Rattle.adx_io.specs.declared.line_buffer.TheConstants.{CHUNK}
-use Rattle.adx_io.specs.declared.stop.Stop.{Stop}
 use Rattle.adx_desk.specs.Desks.{OnDisk}
 use Rattle.adx_desk.specs.Rosters.{desk_terms}
 use Rattle.adx_desk.specs.declared.fault.DeskFault.{DeskFault}
 use Rattle.day_rules.specs.declared.entry.Entry.{Entry}
 use Rattle.deal_floor.specs.declared.roster.Roster.{Roster}
-use Rattle.script_lines.specs.declared.refusal.RosterRefusal.{RosterRefusal}
 use Rattle.script_day.specs.declared.ending.Ending.{Ending}
+use Rattle.script_day.specs.declared.first.FirstLine.{FirstLine}
 use Rattle.script_day.specs.Answering.{DeskRuns}
 use Rattle.script_day.specs.Courses.{Course, EndsBy, EndsServed, given_up, taken_calls}
 use Rattle.script_day.specs.Endings.{Command, EndsWith}
 use Rattle.script_day.specs.Meanings.{Answers, Told}
 use Rattle.script_day.specs.OnDisk.{CourseOn, ServesRun}
-use Rattle.script_day.specs.Output.{writing, roster_refused_line}
-use Rattle.script_day.specs.Parts.{IsShortRoster, PutsEnd, PutsUnopened, WholeFails}
+use Rattle.script_day.specs.Output.{writing}
+use Rattle.script_day.specs.Parts.{IsShortRoster, PutsUnopened, WholeFails}
 use Rattle.script_day.specs.Script.{day, script_of, terms_by, Means}
 
 -- this front of these bytes went to the sink, and the rest is still to be put
@@ -61,6 +60,11 @@ pub record EndsScript {D : Type 0} (faults : D → ℕ) (reads : D → Option (L
   pub on_disk : ServesRun faults reads may_leave moment left_since (desk_terms roster) start (taken_calls told unwritten) old new
   pub ends : EndsTalk before.allowed (script_of roster start told unwritten) before tape held_now result
 
+-- what was found of a whole first line
+abbrev pub FindsFirst : List ℕ → FirstLine → Type 0
+FindsFirst line (FirstLine.Whole r) = IsShortRoster line r
+FindsFirst line (FirstLine.Refused why) = WholeFails line why
+
 -- nothing more was asked of the source, which is at most one piece ahead
 abbrev pub Unasked : Option Tape → Option Tape → Type 0
 Unasked told tape = (pending : List ℕ) × (length pending ≤ CHUNK) × (told ≡ tape_behind pending tape)
@@ -70,24 +74,6 @@ abbrev pub EndsOpened : {D : Type 0} → (faults : D → ℕ) (reads : D → Opt
 EndsOpened faults reads may_leave moment left_since r before tape held_now old new result =
     ((start : List Entry) × EndsScript faults reads may_leave moment left_since r start before tape held_now old new result)
     ⊎ ((why : DeskFault) × CourseOn faults reads may_leave moment left_since (given_up r why) old new × Unasked before.tape tape × PutsUnopened before held_now why result)
-
--- what came of the first line: it is a roster's, and so the day ended; or it is none, and was refused; or memory was
--- refused before. The disk is as it was in the last two.
-abbrev pub EndsBehind : {D : Type 0} → (faults : D → ℕ) (reads : D → Option (List ℕ)) (may_leave : D → List ℕ → Type 0) (moment : D → ℕ) (left_since : D → ℕ → List ℕ → Type 0) → List ℕ → TalkState → Option Tape → Option (List ℕ) → D → D → Result (Unit {0}) Ending → Type 0
-EndsBehind faults reads may_leave moment left_since line before tape held_now old new result =
-    ((r : Roster) × IsShortRoster line r × EndsOpened faults reads may_leave moment left_since r before tape held_now old new result)
-    ⊎ ((new ≡ old) × (((why : RosterRefusal) × WholeFails line why × Unasked before.tape tape × PutsEnd before.held held_now (before.out ++ roster_refused_line why) (Err Ending.Refused) result)
-    ⊎ (Unasked before.tape tape × (held_now ≡ before.held) × (result ≡ Err (Ending.Stopped Stop.OutOfMemory)))))
-
--- a source that tells its bytes goes on to do so, and any other doesn't begin to
-abbrev pub TellsOn : Option Tape → Option Tape → Type 0
-TellsOn old new = WhereTold old new (λ _ _. Unit {0})
-
--- how a day went, and what became of its disk, whatever its source tells
-pub record HasCourse {D : Type 0} (faults : D → ℕ) (reads : D → Option (List ℕ)) (may_leave : D → List ℕ → Type 0) (moment : D → ℕ) (left_since : D → ℕ → List ℕ → Type 0) (old new : D) (result : Result (Unit {0}) Ending) : Type 0 where
-  pub course : Course
-  pub by_course : EndsBy course result
-  pub on_disk : CourseOn faults reads may_leave moment left_since course old new
 
 -- a day ended so, whose roster's line was to be read
 pub record EndsDay {D : Type 0} (faults : D → ℕ) (reads : D → Option (List ℕ)) (may_leave : D → List ℕ → Type 0) (moment : D → ℕ) (left_since : D → ℕ → List ℕ → Type 0) (limit : ℕ) (before : TalkState) (tape : Option Tape) (held_now : Option (List ℕ)) (old new : D) (result : Result (Unit {0}) Ending) : Type 0 where

@@ -1,5 +1,5 @@
 -- One post more, and the end.
-use Rattle.std.proofs.Common.{◌≡◌, ◌∙◌, ◌++◌, List, ℕ, inr, take, refl, sym, ap, subst, arith, append-nil, Ok}
+use Rattle.std.proofs.Common.{◌≡◌, ◌∙◌, ◌++◌, List, ℕ, inr, take, refl, sym, subst, arith, append-nil, Ok}
 use Rattle.std.proofs.lemmas.List.{take_all}
 use Rattle.std.proofs.lemmas.Result.{err_from_is_err_and}
 use Rattle.adx_io.specs.TalkState.{state_of}

@@ -1,11 +1,10 @@
 -- All of the rest was read and the day ended so; or it passes its limit; or the run stopped in it.
-use Rattle.std.proofs.Common.{◌≡◌, ◌∙◌, ◌++◌, List, ℕ, Option, inl, inr, refl, sym, ap, subst, Ok, Err}
+use Rattle.std.proofs.Common.{◌≡◌, ◌∙◌, ◌++◌, List, ℕ, Option, inl, inr, refl, sym, ap, subst, Result, Ok, Err}
 use Rattle.std.specs.Borrow.{MutBor}
 use Rattle.std.proofs.lemmas.Result.{err_from_is_err_and}
 use Rattle.adx_io.specs.Streams.{Tape, WhereTold}
 use Rattle.adx_io.specs.TalkState.{state_of}
 use Rattle.adx_io.specs.declared.rest.Rest.{Rest}
-use Rattle.adx_io.specs.declared.stop.Stop.{Stop}
 use Rattle.script_day.specs.Output.{roster_refused_line}
 use Rattle.script_day.specs.Parts.{PutsEnd}
 use Rattle.script_day.specs.declared.ending.Ending.{Ending}
@@ -34,7 +33,7 @@ returns-in-PastLimit-clause-ends g c =
     let before = state_of c.args.talk.now in
     let mid = c.skip_rest.new.talk in
     let held_now = g.K.Sink.held c.refuse_roster.new.talk.sink.now in
-    let result = c.refuse_roster.result in
+    let result : Result (Unit {0}) Ending = Err c.refuse_roster.result in
     let none = (rw is at c.skip_rest.ensures.unwritten) in
     inr (
       refl,

@@ -1,13 +1,14 @@
 -- The day was opened on the lent disk and its posts were told, or it wasn't opened.
-use Rattle.std.proofs.Common.{◌≡◌, ◌∙◌, List, inl, inr, refl, sym, subst, rules, Ok}
+use Rattle.std.proofs.Common.{List, inl, inr, refl, sym, subst, rules, Ok}
 use Rattle.std.specs.Borrow.{MutBor}
 use Rattle.adx_io.specs.TalkState.{state_of}
 use Rattle.day_rules.specs.declared.entry.Entry.{Entry}
 use Rattle.day_rules.specs.DayState.{IsDay}
 use Rattle.script_day.specs.Parts.{PutsEnd}
 use Rattle.script_day.proofs.Lent.{course_lent}
+use Rattle.script_day.proofs.Unopened.{gave_up}
 use Rattle.adx_notices.specs.PostLines.{notice_lines}
-use Rattle.adx_notices.proofs.Opened.{gave_up, stands_lent}
+use Rattle.adx_notices.proofs.Opened.{stands_lent}
 use Rattle.adx_notices.proofs.serving.serve_roster.Goals as goal
 
 pub tell_history-ended-requires-clause-legal : goal.tell_history-ended-requires-clause-legal

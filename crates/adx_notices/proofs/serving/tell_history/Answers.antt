@@ -1,6 +1,5 @@
 -- The outbox has followed the history, and its pending posts are those of the history.
 use Rattle.std.proofs.Common.{◌≡◌, ◌∙◌, ◌++◌, List, ℕ, sym, ap, subst, Ok, Err, string_bytes}
-use Rattle.std.proofs.lemmas.List.{take_all}
 use Rattle.std.proofs.lemmas.Result.{err_from_is_err_and}
 use Rattle.outbox.specs.declared.post.Post.{Post}
 use Rattle.outbox.specs.Posts.{posts_of}

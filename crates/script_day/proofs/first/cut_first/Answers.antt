@@ -2,7 +2,7 @@
 use Rattle.std.proofs.Common.{inl, inr, refl}
 use Rattle.script_day.specs.declared.limits.TheConstants.{LINE_LIMIT}
 use Rattle.script_day.proofs.AnswerLaws.{line_short, dropped_line}
-use Rattle.script_day.proofs.day.cut_first.Goals as goal
+use Rattle.script_day.proofs.first.cut_first.Goals as goal
 
 pub returns-in-Some : goal.returns-in-Some
 returns-in-Some c = λ line keeps.
