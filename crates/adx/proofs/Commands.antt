@@ -1,22 +1,18 @@
 -- What words do, by what is read of them.
-use Rattle.std.proofs.Common.{◌≡◌, ◌⊎◌, inl, inr, refl, subst, zero-le, ℕ, ◌≢◌, List, [], ◌++◌, Option, Some, None, Result, Ok, Err, arith}
-use Rattle.std.proofs.lemmas.List.Elements.{All-nil}
-use Rattle.adx_io.specs.Streams.{Tape, WhereTold}
+use Rattle.std.proofs.Common.{◌≡◌, ◌⊎◌, inl, inr, refl, subst, zero-le, ℕ, List, [], ◌++◌, Option, Some, None, Result, Ok, Err, arith}
+use Rattle.adx_io.specs.Streams.{Tape}
 use Rattle.adx_io.specs.declared.stop.Stop.{Stop}
 use Rattle.bidder_day.specs.Bidding.{EndsBidder}
 use Rattle.command_words.specs.Meanings.{IsPlain}
-use Rattle.command_words.specs.Taken.{IsReadingOf}
 use Rattle.command_words.specs.declared.command.Command.{Command}
 use Rattle.command_words.proofs.Rows.{plain_only, some_reading}
-use Rattle.script_day.specs.Courses.{Course, GoesOn, unopened}
-use Rattle.script_day.specs.Days.{ServesDay}
-use Rattle.script_day.specs.Endings.{EndsWith, LeftBehind, TookOfWhole}
-use Rattle.script_day.specs.Script.{day}
+use Rattle.script_day.specs.Courses.{unopened}
+use Rattle.script_day.specs.Endings.{LeftBehind}
 use Rattle.script_day.specs.declared.ending.Ending.{Ending}
-use Rattle.script_day.specs.declared.limits.TheConstants.{INPUT_LIMIT}
-use Rattle.script_day.proofs.Putting.{took_nothing}
+use Rattle.script_day.proofs.Days.{unbegun as unserved}
+use Rattle.script_day.proofs.Told.{told_start}
 use Rattle.adx_books.specs.GeneratedEnds.{ServesGenerated}
-use Rattle.adx_notices.specs.Notices.{EndsNotices, IsStopped}
+use Rattle.adx_notices.proofs.Ends.{unbegun as unprinted}
 use Rattle.adx.specs.Commands.{Does, DoesAsRead, IsCommand, Runs}
 use Rattle.adx.specs.Statuses.{status_of}
 
@@ -38,52 +34,24 @@ told_otherwise (inr (inr (refused, taken))) = omega (arith, refused)
 
 -- ---- memory was refused before anything was asked for
 
-where_same : {T : Type 0} (told : Option T) (R : T → T → Type 0) → ((x : T) → R x x) → WhereTold told told R
-where_same None R each = refl
-where_same (Some x) R each = each x
-
--- nothing is left out of the source but what isn't there
-unread : (rest : List ℕ) → LeftBehind rest rest
-unread rest = ([], zero-le, refl)
-
 abbrev no_memory : Result (Unit {0}) Ending
 no_memory = Err (Ending.Stopped Stop.OutOfMemory)
 
-stops_unread : (input : List ℕ) → IsStopped Stop.OutOfMemory input input
-stops_unread input = ([], input, refl, zero-le, inl (All-nil (λ b. b ≢ 10)), ([], input, inl refl, refl, unread input))
-
 module _ {D : Type 0} (faults : D → ℕ) (reads : D → Option (List ℕ)) (may_leave : D → List ℕ → Type 0) (moment : D → ℕ) (left_since : D → ℕ → List ℕ → Type 0) (tape : Option Tape) (held : Option (List ℕ)) (disk : D) where
-  ends_unread : (input : List ℕ) → EndsWith INPUT_LIMIT (day unopened) held held no_memory input input
-  ends_unread input =
-      ([], input, [], refl, ([], input, inl refl, tt, refl, unread input), inl (zero-le, (All-nil (λ b. b ≢ 10), refl)), took_nothing held [])
-
-  day_unserved : ServesDay faults reads may_leave moment left_since tape tape held held disk disk no_memory
-  day_unserved = record {
-    course = unopened;
-    by_course = tt;
-    on_disk = refl;
-    ends = where_same tape (λ before now. EndsWith INPUT_LIMIT (day unopened) held held no_memory before.left now.left) (λ x. ends_unread x.left);
-    of_whole = where_same tape (λ before now. (more : Course) → GoesOn unopened more → TookOfWhole INPUT_LIMIT (day more) before.left held held) (λ x more on whole is. took_nothing held whole);
-  }
-
   bidder_unserved : EndsBidder tape tape held held no_memory
   bidder_unserved =
       inr (inr record {
         unwritten = refl;
-        front = where_same tape (λ before now. (read rest : List ℕ) × (before.left ≡ read ++ rest) × LeftBehind rest now.left) (λ x. ([], x.left, refl, unread x.left));
+        front = told_start tape (λ before now. (read rest : List ℕ) × (before.left ≡ read ++ rest) × LeftBehind rest now.left) (λ x. ([], x.left, refl, ([], zero-le, refl)));
       })
 
   generated_untaken : (seed asks : ℕ) → ServesGenerated faults reads may_leave moment left_since seed asks held held disk disk no_memory
   generated_untaken seed asks = record { course = unopened; ends = (refl, refl); on_disk = refl }
 
-  notices_unprinted : EndsNotices faults reads may_leave moment left_since tape tape held held disk disk no_memory
-  notices_unprinted =
-      inr (refl, inr (Stop.OutOfMemory, where_same tape (λ before now. IsStopped Stop.OutOfMemory before.left now.left) (λ x. stops_unread x.left), refl, refl))
-
   -- whatever was to run ends so
   unstarted : (read : Option Command) → Runs faults reads may_leave moment left_since tape tape held held disk disk 12 read
-  unstarted (Some (Command.Day journal)) = record { ending = no_memory; told = refl; serves = day_unserved }
-  unstarted (Some (Command.Notices journal)) = record { ending = no_memory; told = refl; ends = notices_unprinted }
+  unstarted (Some (Command.Day journal)) = record { ending = no_memory; told = refl; serves = unserved faults reads may_leave moment left_since tape held disk }
+  unstarted (Some (Command.Notices journal)) = record { ending = no_memory; told = refl; ends = unprinted faults reads may_leave moment left_since tape held disk }
   unstarted (Some Command.Bidder) = record { ending = no_memory; told = refl; ends = bidder_unserved }
   unstarted (Some (Command.Generate seed asks)) = record { ending = no_memory; told = refl; serves = generated_untaken seed asks }
   unstarted (Some (Command.Help topic)) = inr (inr (refl, refl))

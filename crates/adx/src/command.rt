@@ -6,6 +6,7 @@ ghost use Rattle.command_words.specs.Meanings.{HasFewAsks, IsPlain};
 ghost use Rattle.command_words.specs.declared.command.Command.{Command as Meaning};
 ghost use Rattle.command_words.specs.declared.command.Topic.{Topic as HelpTopic};
 ghost use Rattle.script_day.specs.Days.{HasOneOutput, HasOutputs};
+ghost use Rattle.adx.specs.Statuses.{HasCauses, HasDiskCauses};
 ghost use Rattle.adx.specs.Commands.{AsksNothing, Does, DoesAsRead, IsBidder, IsCommand, IsDay, IsGenerated, IsHelp, IsNotices, IsVersion, LeavesDisk, Runs, RunsBidder, RunsDay, RunsGenerated, RunsNotices, Tells};
 
 use crate::status::{DONE, NO_COMMAND, OUT_OF_MEMORY, WRITE_FAULT, status_of};
@@ -47,15 +48,8 @@ fn run<S: Source, K: Sink, D: Disk>(
 ) -> u8
     requires { HasFewAsks read }
     ensures does { Does (Runs D.faults D.reads D.may_leave D.moment D.left_since (S.tape source.old) (S.tape source.new) (K.held sink.old) (K.held sink.new) disk.old disk.new result) source.old source.new disk.old disk.new read }
-    ensures read_fault { result ≡ 4 → Rises (S.faults source.old) (S.faults source.new) }
-    ensures read_passed { result ≢ 4 → S.faults source.new ≡ S.faults source.old }
-    ensures write_fault { result ≡ 5 → Rises (K.faults sink.old) (K.faults sink.new) }
-    ensures write_passed { result ≢ 5 → K.faults sink.new ≡ K.faults sink.old }
-    ensures disk_fault { result ≡ 6 → Rises (D.faults disk.old) (D.faults disk.new) }
-    ensures disk_passed { (result ≡ 0) ⊎ (result ≡ 7) → D.faults disk.new ≡ D.faults disk.old }
-    ensures source_later { S.faults source.old ≤ S.faults source.new }
-    ensures sink_later { K.faults sink.old ≤ K.faults sink.new }
-    ensures disk_later { D.faults disk.old ≤ D.faults disk.new }
+    ensures causes { HasCauses (S.faults source.old) (S.faults source.new) (K.faults sink.old) (K.faults sink.new) result }
+    ensures disk_causes { HasDiskCauses (D.faults disk.old) (D.faults disk.new) result }
     ensures source_same { S.place source.new ≡ S.place source.old }
     ensures sink_same { K.place sink.new ≡ K.place sink.old }
     ensures disk_lasts { D.lasts disk.old disk.new }
@@ -92,15 +86,8 @@ fn run_words<S: Source, K: Sink, D: Disk>(
     disk: &mut D,
 ) -> u8
     ensures does { DoesAsRead (Runs D.faults D.reads D.may_leave D.moment D.left_since (S.tape source.old) (S.tape source.new) (K.held sink.old) (K.held sink.new) disk.old disk.new result) source.old source.new disk.old disk.new words.now }
-    ensures read_fault { result ≡ 4 → Rises (S.faults source.old) (S.faults source.new) }
-    ensures read_passed { result ≢ 4 → S.faults source.new ≡ S.faults source.old }
-    ensures write_fault { result ≡ 5 → Rises (K.faults sink.old) (K.faults sink.new) }
-    ensures write_passed { result ≢ 5 → K.faults sink.new ≡ K.faults sink.old }
-    ensures disk_fault { result ≡ 6 → Rises (D.faults disk.old) (D.faults disk.new) }
-    ensures disk_passed { (result ≡ 0) ⊎ (result ≡ 7) → D.faults disk.new ≡ D.faults disk.old }
-    ensures source_later { S.faults source.old ≤ S.faults source.new }
-    ensures sink_later { K.faults sink.old ≤ K.faults sink.new }
-    ensures disk_later { D.faults disk.old ≤ D.faults disk.new }
+    ensures causes { HasCauses (S.faults source.old) (S.faults source.new) (K.faults sink.old) (K.faults sink.new) result }
+    ensures disk_causes { HasDiskCauses (D.faults disk.old) (D.faults disk.new) result }
     ensures source_same { S.place source.new ≡ S.place source.old }
     ensures sink_same { K.place sink.new ≡ K.place sink.old }
     ensures disk_lasts { D.lasts disk.old disk.new }

@@ -1,9 +1,8 @@
 //! A generated day: its table from no entry and on the disk that has it, and over a disk that fails.
 use crate::command::adx;
 use adx_io::{MemoryDisk, MemorySink, MemorySource};
-use adx_units::Text;
+use adx_units::{OutOfMemory, Text};
 use std::alloc::Global;
-use std::test::Fail;
 
 /// The words of a day of 250 asks.
 const WORDS: &str = "gen --asks 250 --seed 7";
@@ -32,54 +31,64 @@ const TABLE: &str =
 /// More calls than a disk gets while a day is opened, and some more.
 const CALLS: u64 = 12;
 
-/// What came of a run.
-#[derive(Drop)]
-pub(crate) struct Ran {
-    pub(crate) status: u8,
-    pub(crate) output: String,
-}
-
-/// Runs the words of a line on a disk, and nothing on the source.
-pub(crate) fn run(alloc: Global, line: &str, disk: &mut MemoryDisk) -> Result<Ran, Fail> {
+/// The words of a line.
+pub(crate) fn words_of(alloc: Global, line: &str) -> Result<Vec<Text>, OutOfMemory> {
     let mut words = Vec::new(alloc);
     for word in line.split(' ') {
         words.push(Text::of(alloc, word)?)?;
     }
+    Ok(words)
+}
+
+/// Runs words on a disk, and nothing on the source, and tells whether the status and the output are these.
+fn gives(
+    alloc: Global,
+    words: &[Text],
+    disk: &mut MemoryDisk,
+    status: u8,
+    output: &str,
+) -> Result<bool, OutOfMemory> {
     let mut source = MemorySource::new(alloc, b"", 0, &[])?;
     let mut sink = MemorySink::new(alloc, 0, &[])?;
-    let status = adx(alloc, words.as_slice(), &mut source, &mut sink, disk);
-    let mut output = String::new(alloc);
-    output.push_str(str::from_utf8(sink.taken()).ok().ok_or("no text")?)?;
-    Ok(Ran { status, output })
+    let ended = adx(alloc, words, &mut source, &mut sink, disk);
+    Ok(ended == status && sink.taken() == output.as_bytes())
 }
 
-#[test]
-fn generates_a_day_and_finds_it_again(rt: HostRuntime) -> Result<(), Fail> {
-    let alloc = rt.alloc();
+/// Whether the day gives its table on a disk that has nothing, and again on the disk that has the day then.
+fn gives_twice(alloc: Global) -> Result<(bool, bool), OutOfMemory> {
+    let words = words_of(alloc, WORDS)?;
     let mut disk = MemoryDisk::new(alloc, b"", &[], None)?;
-    for time in 0..2 {
-        let ran = run(alloc, WORDS, &mut disk)?;
-        assert_eq!(rt; ran.status, 0, "time {time}");
-        assert_eq!(rt; ran.output.as_str(), TABLE, "time {time}");
-    }
-    Ok(())
+    let first = gives(alloc, words.as_slice(), &mut disk, 0, TABLE)?;
+    Ok((first, gives(alloc, words.as_slice(), &mut disk, 0, TABLE)?))
 }
 
 #[test]
-fn ends_at_the_first_fault_of_the_disk(rt: HostRuntime) -> Result<(), Fail> {
-    let alloc = rt.alloc();
+fn generates_a_day_and_finds_it_again(rt: HostRuntime) {
+    assert_eq!(rt; gives_twice(rt.alloc()), Ok((true, true)));
+}
+
+/// Whether a run on a file whose disk fails at these calls gives this status and this output.
+fn gives_on(
+    alloc: Global,
+    file: &[u8],
+    fails: &[u64],
+    status: u8,
+    output: &str,
+) -> Result<bool, OutOfMemory> {
+    let words = words_of(alloc, WORDS)?;
+    let mut disk = MemoryDisk::new(alloc, file, fails, None)?;
+    gives(alloc, words.as_slice(), &mut disk, status, output)
+}
+
+#[test]
+fn ends_at_the_first_fault_of_the_disk(rt: HostRuntime) {
     for call in 0..CALLS {
-        let mut disk = MemoryDisk::new(alloc, b"", &[call], None)?;
-        let ran = run(alloc, WORDS, &mut disk)?;
-        assert_eq!(rt; ran.status, 6, "call {call} fails");
-        assert_eq!(rt; ran.output.as_str(), "", "call {call} fails");
+        assert_eq!(rt;
+            gives_on(rt.alloc(), b"", &[call], 6, ""),
+            Ok(true),
+            "call {call} fails"
+        );
     }
-    let mut disk = MemoryDisk::new(alloc, b"hello", &[], None)?;
-    let ran = run(alloc, WORDS, &mut disk)?;
-    assert_eq!(rt; ran.status, 7);
-    assert_eq!(rt;
-        ran.output.as_str(),
-        "{\"answer\":\"journal\",\"why\":\"notajournal\",\"at\":0}\n"
-    );
-    Ok(())
+    let line = "{\"answer\":\"journal\",\"why\":\"notajournal\",\"at\":0}\n";
+    assert_eq!(rt; gives_on(rt.alloc(), b"hello", &[], 7, line), Ok(true));
 }

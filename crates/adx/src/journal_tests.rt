@@ -1,10 +1,10 @@
 //! A day that a journal keeps: gone on with, over a disk that fails or stops at each call, and on files of other kinds.
 use crate::command::adx;
+use crate::generated_tests::words_of;
 use crate::test_tables::{EVENTFUL, EVENTFUL_ANSWERS, OTHER_FILE_COUNT, OTHER_FILES};
 use adx_io::{Disk, MemoryDisk, MemorySink, MemorySource};
-use adx_units::Text;
-use std::alloc::Global;
-use std::test::Fail;
+use adx_units::OutOfMemory;
+use std::alloc::{AllocError, Global};
 
 /// More calls than a disk gets under the eventful day.
 const CALLS: u64 = 40;
@@ -15,39 +15,41 @@ const DISK_FAULT: &str = "{\"answer\":\"diskfault\"}";
 /// What the last line tells before the number of entries.
 const ENTRIES: &str = ",\"entries\":";
 
-/// What came of a run.
-#[derive(Drop)]
-struct Ran {
-    status: u8,
-    output: String,
-}
+/// No number of entries was told.
+const NONE: u64 = u64::MAX;
 
-/// Runs a day on a disk.
-fn run(alloc: Global, input: &str, disk: &mut MemoryDisk) -> Result<Ran, Fail> {
-    let words = [
-        Text::of(alloc, "day")?,
-        Text::of(alloc, "--journal")?,
-        Text::of(alloc, "j")?,
-    ];
+/// Runs a day on a disk, and gives the status.
+fn run(
+    alloc: Global,
+    input: &str,
+    disk: &mut MemoryDisk,
+    sink: &mut MemorySink,
+) -> Result<u8, OutOfMemory> {
+    let words = words_of(alloc, "day --journal j")?;
     let mut source = MemorySource::new(alloc, input.as_bytes(), 0, &[])?;
-    let mut sink = MemorySink::new(alloc, 0, &[])?;
-    let status = adx(alloc, &words, &mut source, &mut sink, disk);
-    let mut output = String::new(alloc);
-    output.push_str(str::from_utf8(sink.taken()).ok().ok_or("no text")?)?;
-    Ok(Ran { status, output })
+    Ok(adx(alloc, words.as_slice(), &mut source, sink, disk))
 }
 
-/// The number of entries that a closing table tells.
-fn entries(output: &str) -> Result<u64, Fail> {
-    let (_, behind) = output.rsplit_once(ENTRIES).ok_or("no table")?;
-    let (number, _) = behind.split_once('}').ok_or("no table")?;
-    Ok(number.parse::<u64>().ok().ok_or("no number")?)
+/// The text of an output; nothing where it is none.
+fn text_of(output: &[u8]) -> &str {
+    str::from_utf8(output).unwrap_or("")
+}
+
+/// The number of entries that a closing table tells, or `NONE`.
+fn entries(output: &[u8]) -> u64 {
+    let Some((_, behind)) = text_of(output).rsplit_once(ENTRIES) else {
+        return NONE;
+    };
+    let Some((number, _)) = behind.split_once('}') else {
+        return NONE;
+    };
+    number.parse::<u64>().unwrap_or(NONE)
 }
 
 /// How many calls the disk's fault gave up.
-fn fault_count(output: &str) -> u64 {
+fn fault_count(output: &[u8]) -> u64 {
     let mut count: u64 = 0;
-    for line in output.lines() {
+    for line in text_of(output).lines() {
         if line == DISK_FAULT {
             count = count.saturating_add(1);
         }
@@ -56,23 +58,23 @@ fn fault_count(output: &str) -> u64 {
 }
 
 /// The roster's line of the eventful day.
-fn roster_line() -> &'static str {
-    match EVENTFUL.split_once('\n') {
-        Some((first, _)) => first,
-        None => "",
-    }
+fn roster_line(alloc: Global) -> Result<String, AllocError> {
+    let (first, _) = EVENTFUL.split_once('\n').unwrap_or(("", ""));
+    let mut line = String::from_str(alloc, first)?;
+    line.push_str("\n")?;
+    Ok(line)
 }
 
-/// The entries of the day that a disk's file stands for.
-fn found(alloc: Global, disk: &mut MemoryDisk) -> Result<u64, Fail> {
-    let mut input = String::new(alloc);
-    input.push_str(roster_line())?;
-    input.push_str("\n")?;
-    let ran = run(alloc, input.as_str(), disk)?;
-    if ran.status != 0 {
-        return Err("not opened".into());
-    }
-    entries(ran.output.as_str())
+/// The entries of the day that a disk's file stands for, or `NONE` where it can't be opened.
+fn found(alloc: Global, disk: &mut MemoryDisk) -> Result<u64, OutOfMemory> {
+    let input = roster_line(alloc)?;
+    let mut sink = MemorySink::new(alloc, 0, &[])?;
+    let status = run(alloc, input.as_str(), disk, &mut sink)?;
+    Ok(if status == 0 {
+        entries(sink.taken())
+    } else {
+        NONE
+    })
 }
 
 /// Which writes since the last sync an image has, and what fills the ranges of the others.
@@ -83,87 +85,134 @@ const IMAGES: [([bool; 2], u8); 4] = [
     ([false, true], 255),
 ];
 
-/// Whether each image stands for what was acknowledged, or for that and one entry more where that may be.
-fn keeps(alloc: Global, disk: &MemoryDisk, acknowledged: u64, doubted: u64) -> Result<bool, Fail> {
-    let mut kept = true;
-    for (picks, fill) in IMAGES {
-        let mut image = disk.image(alloc, &picks, fill)?;
-        let there = found(alloc, &mut image)?;
-        kept = kept && acknowledged <= there && there <= acknowledged.saturating_add(doubted);
-    }
-    Ok(kept)
+/// Whether an image stands for what was acknowledged, or for that and as many entries more as may be.
+fn stands(
+    alloc: Global,
+    disk: &MemoryDisk,
+    picks: [bool; 2],
+    fill: u8,
+    least: u64,
+    most: u64,
+) -> Result<bool, OutOfMemory> {
+    let mut image = disk.image(alloc, &picks, fill)?;
+    let there = found(alloc, &mut image)?;
+    Ok(there < NONE && least <= there && there <= most)
 }
 
-/// Runs the eventful day on a disk whose calls fail so, and tells whether all is as it should be: a fault has its line
-/// and its status, or stops the opening; and the disk keeps what was acknowledged.
-fn is_kept(alloc: Global, fails: &[u64], stop: Option<u64>) -> Result<bool, Fail> {
-    let mut disk = MemoryDisk::new(alloc, b"", fails, stop)?;
-    let ran = run(alloc, EVENTFUL, &mut disk)?;
-    let output = ran.output.as_str();
+/// The same of each image.
+fn keeps(alloc: Global, disk: &MemoryDisk, least: u64, most: u64) -> Result<bool, OutOfMemory> {
+    for (picks, fill) in IMAGES {
+        if !stands(alloc, disk, picks, fill, least, most)? {
+            return Ok(false);
+        }
+    }
+    Ok(true)
+}
+
+/// Whether a run on a disk ended as it should: a fault has its line and its status, or stops the opening; and the disk
+/// keeps what was acknowledged, or that and one entry more where a call was given up.
+fn is_right(
+    alloc: Global,
+    status: u8,
+    output: &[u8],
+    disk: &MemoryDisk,
+) -> Result<bool, OutOfMemory> {
     if output.is_empty() {
-        return Ok(ran.status == 6 && keeps(alloc, &disk, 0, 0)?);
+        return Ok(status == 6 && keeps(alloc, disk, 0, 0)?);
     }
     let faults = fault_count(output);
-    let status = if faults == 0 { 0 } else { 6 };
-    let doubted = faults.min(1);
-    Ok(ran.status == status && keeps(alloc, &disk, entries(output)?, doubted)?)
+    let wanted = if faults == 0 { 0 } else { 6 };
+    let least = entries(output);
+    let most = least.saturating_add(faults.min(1));
+    Ok(status == wanted && keeps(alloc, disk, least, most)?)
+}
+
+/// Whether the eventful day runs as it should on a disk whose calls fail so.
+fn is_kept(alloc: Global, fails: &[u64], stop: Option<u64>) -> Result<bool, OutOfMemory> {
+    let mut disk = MemoryDisk::new(alloc, b"", fails, stop)?;
+    let mut sink = MemorySink::new(alloc, 0, &[])?;
+    let status = run(alloc, EVENTFUL, &mut disk, &mut sink)?;
+    is_right(alloc, status, sink.taken(), &disk)
 }
 
 #[test]
-fn tells_each_fault_of_the_disk(rt: HostRuntime) -> Result<(), Fail> {
-    let alloc = rt.alloc();
+fn tells_each_fault_of_the_disk(rt: HostRuntime) {
     for call in 0..CALLS {
-        assert!(rt; is_kept(alloc, &[call], None)?, "call {call} fails");
-        assert!(rt;
-            is_kept(alloc, &[], Some(call))?,
+        assert_eq!(rt;
+            is_kept(rt.alloc(), &[call], None),
+            Ok(true),
+            "call {call} fails"
+        );
+        assert_eq!(rt;
+            is_kept(rt.alloc(), &[], Some(call)),
+            Ok(true),
             "all calls from {call} on fail"
         );
     }
-    Ok(())
+}
+
+/// The status of the eventful day on a disk, and whether its output is the whole one.
+fn served(alloc: Global, disk: &mut MemoryDisk) -> Result<(u8, bool), OutOfMemory> {
+    let mut sink = MemorySink::new(alloc, 0, &[])?;
+    let status = run(alloc, EVENTFUL, disk, &mut sink)?;
+    Ok((status, sink.taken() == EVENTFUL_ANSWERS.as_bytes()))
+}
+
+/// The same, and the entries that are found on the disk behind it.
+fn goes_on(alloc: Global) -> Result<(u8, bool, u64), OutOfMemory> {
+    let mut disk = MemoryDisk::new(alloc, b"", &[], None)?;
+    let (status, is_whole) = served(alloc, &mut disk)?;
+    Ok((status, is_whole, found(alloc, &mut disk)?))
 }
 
 #[test]
-fn goes_on_with_a_kept_day(rt: HostRuntime) -> Result<(), Fail> {
-    let alloc = rt.alloc();
-    let mut disk = MemoryDisk::new(alloc, b"", &[], None)?;
-    let first = run(alloc, EVENTFUL, &mut disk)?;
-    assert_eq!(rt; first.status, 0);
-    assert_eq!(rt; first.output.as_str(), EVENTFUL_ANSWERS);
-    assert_eq!(rt; found(alloc, &mut disk)?, 5);
-    Ok(())
+fn goes_on_with_a_kept_day(rt: HostRuntime) {
+    assert_eq!(rt; goes_on(rt.alloc()), Ok((0, true, 5)));
 }
 
 /// The byte that two hexadecimal digits tell.
-fn byte_of(pair: &[u8]) -> Result<u8, Fail> {
-    let text = str::from_utf8(pair).ok().ok_or("no digits")?;
-    Ok(u8::from_str_radix(text, 16).ok().ok_or("no digits")?)
+fn byte_of(pair: &[u8]) -> u8 {
+    u8::from_str_radix(text_of(pair), 16).unwrap_or(0)
 }
 
 /// The bytes that hexadecimal digits tell.
-fn bytes_of(alloc: Global, digits: &str) -> Result<Vec<u8>, Fail> {
+fn bytes_of(alloc: Global, digits: &str) -> Result<Vec<u8>, AllocError> {
     let mut bytes = Vec::new(alloc);
     for pair in digits.as_bytes().chunks(2) {
-        bytes.push(byte_of(pair)?)?;
+        bytes.push(byte_of(pair))?;
     }
     Ok(bytes)
 }
 
+/// Whether the run on a disk is refused with this line.
+fn is_refused(alloc: Global, disk: &mut MemoryDisk, line: &str) -> Result<bool, OutOfMemory> {
+    let mut sink = MemorySink::new(alloc, 0, &[])?;
+    let status = run(alloc, EVENTFUL, disk, &mut sink)?;
+    Ok(status == 7 && text_of(sink.taken()).trim_end() == line)
+}
+
+/// Whether a disk's file has these bytes.
+fn has_bytes(alloc: Global, disk: &mut MemoryDisk, file: &[u8]) -> Result<bool, OutOfMemory> {
+    let mut there = Vec::from_elem(alloc, 0, file.len())?;
+    let read = disk.read(0, &mut there);
+    Ok(read.is_ok() && there.as_slice() == file)
+}
+
+/// Whether a row's file is refused with its line, and stays as it is.
+fn is_left(alloc: Global, row: &str) -> Result<bool, OutOfMemory> {
+    let Some((digits, line)) = row.split_once(' ') else {
+        return Ok(false);
+    };
+    let file = bytes_of(alloc, digits)?;
+    let mut disk = MemoryDisk::new(alloc, file.as_slice(), &[], None)?;
+    let is_told = is_refused(alloc, &mut disk, line)?;
+    Ok(is_told && has_bytes(alloc, &mut disk, file.as_slice())?)
+}
+
 #[test]
-fn refuses_other_files_and_leaves_them(rt: HostRuntime) -> Result<(), Fail> {
-    let alloc = rt.alloc();
-    let mut left: u32 = 0;
+fn refuses_other_files_and_leaves_them(rt: HostRuntime) {
+    assert_eq!(rt; OTHER_FILES.lines().count(), OTHER_FILE_COUNT);
     for row in OTHER_FILES.lines() {
-        let (digits, line) = row.split_once(' ').ok_or("no row")?;
-        let file = bytes_of(alloc, digits)?;
-        let mut disk = MemoryDisk::new(alloc, file.as_slice(), &[], None)?;
-        let ran = run(alloc, EVENTFUL, &mut disk)?;
-        assert_eq!(rt; ran.status, 7, "{row}");
-        assert_eq!(rt; ran.output.as_str().trim_end(), line, "{row}");
-        let mut there = Vec::from_elem(alloc, 0, file.len())?;
-        assert!(rt; disk.read(0, &mut there).is_ok());
-        assert_eq!(rt; there.as_slice(), file.as_slice(), "{row}");
-        left = left.saturating_add(1);
+        assert_eq!(rt; is_left(rt.alloc(), row), Ok(true), "{row}");
     }
-    assert_eq!(rt; left, OTHER_FILE_COUNT);
-    Ok(())
 }

@@ -329,8 +329,8 @@ pub(crate) const REFUSED: &str = r#" means json syntax 0
 {"ask":{"id":"a","imp":[{"id":"1","pmp":{"deals":[{"id":"d","wseat":"s"}]}}]}} means request field deal.wseat
 {"ask":{"id":"a","imp":[{"id":"1","pmp":{"deals":[{"id":"d","wadomain":[1]}]}}]}} means request field deal.wadomain"#;
 
-/// The number of the line behind them and the good lines between them.
-pub(crate) const LAST_NUMBER: u64 = 100;
+/// The number of rows.
+pub(crate) const REFUSED_COUNT: usize = 49;
 
 /// In each line a first line that is refused, and why.
 pub(crate) const ROSTERS: &str = r#" means json syntax 0
@@ -413,4 +413,4 @@ pub(crate) const OTHER_FILES: &str = r#"68656c6c6f {"answer":"journal","why":"no
 "#;
 
 /// How many they are.
-pub(crate) const OTHER_FILE_COUNT: u32 = 16;
+pub(crate) const OTHER_FILE_COUNT: usize = 16;

@@ -1,7 +1,9 @@
 //! Words in plain and in other spellings, help and the version, and words that are no command.
-use crate::generated_tests::run;
-use adx_io::MemoryDisk;
-use std::test::Fail;
+use crate::command::adx;
+use crate::generated_tests::words_of;
+use adx_io::{MemoryDisk, MemorySink, MemorySource};
+use adx_units::{OutOfMemory, Text};
+use std::alloc::Global;
 
 /// Words, and behind the arrow the status and the first line that is written where the source has nothing.
 const TABLE: &str = r#"day => 3 {"answer":"roster","why":"cut"}
@@ -51,16 +53,43 @@ day --version => 2 usage: adx COMMAND
  => 2 usage: adx COMMAND
 "#;
 
-#[test]
-fn runs_words(rt: HostRuntime) -> Result<(), Fail> {
-    let alloc = rt.alloc();
-    for line in TABLE.lines() {
-        let (words, told) = line.split_once(" => ").ok_or("no arrow")?;
-        let mut disk = MemoryDisk::new(alloc, b"", &[], None)?;
-        let ran = run(alloc, words, &mut disk)?;
-        let first = ran.output.as_str().lines().next().unwrap_or("");
-        let text = format!(in alloc; "{} {first}", ran.status)?;
-        assert_eq!(rt; text.as_str(), told, "{words}");
+/// Whether an output begins with this line.
+fn begins_with(output: &[u8], line: &str) -> bool {
+    match output.strip_prefix(line.as_bytes()) {
+        Some(rest) => rest.first() == Some(&b'\n'),
+        None => false,
     }
-    Ok(())
+}
+
+/// Whether a status is the one that a text tells.
+fn is_status(status: u8, text: &str) -> bool {
+    text.parse::<u8>() == Ok(status)
+}
+
+/// Whether words, with nothing on the source and on the disk, give this status and this first line.
+fn gives(alloc: Global, words: &[Text], status: &str, line: &str) -> Result<bool, OutOfMemory> {
+    let mut source = MemorySource::new(alloc, b"", 0, &[])?;
+    let mut sink = MemorySink::new(alloc, 0, &[])?;
+    let mut disk = MemoryDisk::new(alloc, b"", &[], None)?;
+    let ended = adx(alloc, words, &mut source, &mut sink, &mut disk);
+    Ok(is_status(ended, status) && begins_with(sink.taken(), line))
+}
+
+/// Whether the words of a row give what it says.
+fn is_told(alloc: Global, row: &str) -> Result<bool, OutOfMemory> {
+    let Some((line, told)) = row.split_once(" => ") else {
+        return Ok(false);
+    };
+    let Some((status, first)) = told.split_once(' ') else {
+        return Ok(false);
+    };
+    let words = words_of(alloc, line)?;
+    gives(alloc, words.as_slice(), status, first)
+}
+
+#[test]
+fn runs_words(rt: HostRuntime) {
+    for row in TABLE.lines() {
+        assert_eq!(rt; is_told(rt.alloc(), row), Ok(true), "{row}");
+    }
 }

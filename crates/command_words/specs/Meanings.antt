@@ -1,5 +1,5 @@
 -- The commands that words may name in plain spelling, and what they ask for. This project's own.
-use Rattle.std.specs.Prelude.{◌≡◌, ◌⊎◌, ℕ, ◌-◌, ◌^◌, ◌≤◌, List, [], ◌∷◌, ◌++◌, codes, Option, Some, option_and_then}
+use Rattle.std.specs.Prelude.{◌≡◌, ℕ, ◌-◌, ◌^◌, ◌≤◌, List, [], ◌∷◌, ◌++◌, codes, Option, Some, option_and_then}
 use Rattle.adx_units.specs.Number.{whole_up_to}
 use Rattle.command_words.specs.Spelling.{Given, Row, Spells, dashed, value_of}
 use Rattle.command_words.specs.declared.command.Command.{Command}

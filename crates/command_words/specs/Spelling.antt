@@ -1,6 +1,6 @@
 -- When words are a command in plain spelling: its word, and behind it each of its options once with its value, in any
 -- order. This project's own.
-use Rattle.std.specs.Prelude.{◌≡◌, ◌==◌, ℕ, List, [], ◌∷◌, ◌++◌, map, find, is_some, codes, Bool, true, false, Option, option_map}
+use Rattle.std.specs.Prelude.{◌≡◌, ◌==◌, ℕ, List, [], ◌∷◌, ◌++◌, map, find, is_some, Bool, true, false, Option, option_map}
 use Rattle.std.specs.List.{All, IsDistinct, list_any}
 use Rattle.std.specs.Str.{bytes_eq}
 

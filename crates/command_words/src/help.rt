@@ -51,7 +51,7 @@ status: 0 the input was read to its end, 3 the first line isn't a roster or the 
 failed, 5 standard output failed, 6 the journal failed, 7 the journal keeps no history of the roster, 12 want of memory
 
 example:
-  ./adx day --journal a.journal < examples/first.day; ./adx notices --journal a.journal < examples/first.day
+  ./adx day --journal a.journal < examples/notices.day; ./adx notices --journal a.journal < examples/notices.day
 ";
 
 /// The help on the command `bidder`.

@@ -1,8 +1,7 @@
 //! Words in plain and in other spellings, and words that are no command.
 use crate::{Command, Topic, command_of};
-use adx_units::Text;
+use adx_units::{OutOfMemory, Text};
 use std::alloc::Global;
-use std::test::Fail;
 
 /// Words between bars, and behind the arrow what they ask for.
 const TABLE: &str = "day => day
@@ -87,37 +86,71 @@ fn name_of(topic: Topic) -> &'static str {
     }
 }
 
-/// What a command is written as in the table.
-fn written(alloc: Global, command: &Option<Command>) -> Result<String, Fail> {
-    Ok(match command {
-        None => String::from_str(alloc, "none")?,
-        Some(Command::Day { journal: None }) => String::from_str(alloc, "day")?,
+/// Whether a text is a word, a blank and this rest.
+fn is_with(text: &str, word: &str, rest: &str) -> bool {
+    match text.split_once(' ') {
+        Some((first, behind)) => first == word && behind == rest,
+        None => false,
+    }
+}
+
+/// Whether a text is the word of a generated day, and its numbers behind it.
+fn is_generated(text: &str, seed: u64, asks: u64) -> bool {
+    let Some((word, numbers)) = text.split_once(' ') else {
+        return false;
+    };
+    let Some((first, second)) = numbers.split_once(' ') else {
+        return false;
+    };
+    word == "gen" && first.parse::<u64>() == Ok(seed) && second.parse::<u64>() == Ok(asks)
+}
+
+/// Whether a command is what the table says that words ask for.
+fn is_asked(command: &Option<Command>, asked: &str) -> bool {
+    match command {
+        None => asked == "none",
+        Some(Command::Day { journal: None }) => asked == "day",
         Some(
             Command::Day {
                 journal: Some(file),
             },
-        ) => format!(in alloc; "day {}", file.as_str())?,
-        Some(Command::Notices { journal }) => format!(in alloc; "notices {}", journal.as_str())?,
-        Some(Command::Bidder) => String::from_str(alloc, "bidder")?,
-        Some(Command::Generate { seed, asks }) => format!(in alloc; "gen {seed} {asks}")?,
-        Some(Command::Help(topic)) => format!(in alloc; "help {}", name_of(*topic))?,
-        Some(Command::Version) => String::from_str(alloc, "version")?,
-    })
+        ) => is_with(asked, "day", file.as_str()),
+        Some(Command::Notices { journal }) => is_with(asked, "notices", journal.as_str()),
+        Some(Command::Bidder) => asked == "bidder",
+        Some(Command::Generate { seed, asks }) => is_generated(asked, *seed, *asks),
+        Some(Command::Help(topic)) => is_with(asked, "help", name_of(*topic)),
+        Some(Command::Version) => asked == "version",
+    }
+}
+
+/// The words that stand between bars.
+fn words_of(alloc: Global, spelled: &str) -> Result<Vec<Text>, OutOfMemory> {
+    let mut words = Vec::new(alloc);
+    for word in spelled.split('|') {
+        words.push(Text::of(alloc, word)?)?;
+    }
+    Ok(words)
+}
+
+/// Whether the words of a row ask for what it says.
+fn is_read(alloc: Global, row: &str) -> Result<bool, OutOfMemory> {
+    let Some((spelled, asked)) = row.split_once(" => ") else {
+        return Ok(false);
+    };
+    let words = words_of(alloc, spelled)?;
+    let command = command_of(alloc, words.as_slice())?;
+    Ok(is_asked(&command, asked))
+}
+
+/// Whether no words ask for nothing.
+fn is_nothing_read(alloc: Global) -> Result<bool, OutOfMemory> {
+    Ok(command_of(alloc, &[])?.is_none())
 }
 
 #[test]
-fn reads_words(rt: HostRuntime) -> Result<(), Fail> {
-    let alloc = rt.alloc();
-    for line in TABLE.lines() {
-        let (spelled, asked) = line.split_once(" => ").ok_or("no arrow")?;
-        let mut words = Vec::new(alloc);
-        for word in spelled.split('|') {
-            words.push(Text::of(alloc, word)?)?;
-        }
-        let command = command_of(alloc, words.as_slice())?;
-        let text = written(alloc, &command)?;
-        assert_eq!(rt; text.as_str(), asked, "{spelled}");
+fn reads_words(rt: HostRuntime) {
+    for row in TABLE.lines() {
+        assert_eq!(rt; is_read(rt.alloc(), row), Ok(true), "{row}");
     }
-    assert!(rt; command_of(alloc, &[])?.is_none());
-    Ok(())
+    assert_eq!(rt; is_nothing_read(rt.alloc()), Ok(true));
 }
