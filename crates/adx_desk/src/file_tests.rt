@@ -1,7 +1,7 @@
 //! A desk over files that are cut, that are another roster's, or that have an entry that may not stand there.
 ghost use Rattle.std.specs.Prelude.{◌≡◌, length};
 
-use crate::tests::{Call, answer, roster};
+use crate::tests::{Call, answer, opened, roster};
 use crate::{Desk, DeskFault};
 use adx_io::{Disk, Frame, MemoryDisk};
 use adx_units::OutOfMemory;
@@ -9,7 +9,6 @@ use day_journal::Journal;
 use deal_floor::Roster;
 use notice_book::NoticeKind;
 use std::alloc::Global;
-use std::test::Fail;
 
 /// All bytes that a disk reads, at most 4,096.
 fn bytes_on<D: Disk>(alloc: Global, disk: &mut D) -> Result<Vec<u8>, DeskFault> {
@@ -23,33 +22,52 @@ fn bytes_on<D: Disk>(alloc: Global, disk: &mut D) -> Result<Vec<u8>, DeskFault> 
     }
 }
 
-/// What a desk finds in a file of these bytes: its entries, or why it has none; and the file afterwards.
-fn told(
+/// What a desk finds in a file: its entries, or why it has none; and whether the file stays as it was.
+#[derive(Clone, Copy, Debug, PartialEq, Eq)]
+struct Outcome {
+    found: Result<u64, DeskFault>,
+    stays: bool,
+}
+
+/// How many entries a desk finds on a disk, or why it finds none; and the disk.
+fn found_on(
     alloc: Global,
     roster: &Roster,
-    bytes: &[u8],
-) -> Result<(Result<u64, DeskFault>, Vec<u8>), DeskFault> {
-    let disk = MemoryDisk::new(alloc, bytes, &[], None)?;
-    let (found, disk) = match Desk::open(alloc, disk, roster) {
+    disk: MemoryDisk,
+) -> (Result<u64, DeskFault>, MemoryDisk) {
+    match Desk::open(alloc, disk, roster) {
         Ok(desk) => (Ok(desk.count()), desk.close()),
         Err((fault, disk)) => (Err(fault), disk),
-    };
+    }
+}
+
+/// What a desk finds in a file of these bytes.
+fn told(alloc: Global, roster: &Roster, bytes: &[u8]) -> Result<Outcome, DeskFault> {
+    let disk = MemoryDisk::new(alloc, bytes, &[], None)?;
+    let (found, disk) = found_on(alloc, roster, disk);
     let mut disk = disk;
     let after = bytes_on(alloc, &mut disk)?;
-    Ok((found, after))
+    Ok(Outcome {
+        found,
+        stays: after.as_slice() == bytes,
+    })
+}
+
+/// Makes the calls of a first ask and its bill.
+fn sell(alloc: Global, desk: &mut Desk<MemoryDisk>) -> Result<(), DeskFault>
+    requires { length desk.old.desk.terms.day.budgets ≡ 2 }
+{
+    let _awarded = answer(alloc, desk, Call::Ask("a1", 10))?;
+    let _counted = answer(alloc, desk, Call::Notice(NoticeKind::Bill, "a1", 0))?;
+    Ok(())
 }
 
 /// The bytes of the journal of a first ask and its bill.
 fn journal_of_two(alloc: Global, roster: &Roster) -> Result<Vec<u8>, DeskFault>
     requires { length roster.now.campaigns ≡ 2 }
 {
-    let disk = MemoryDisk::new(alloc, b"", &[], None)?;
-    let mut desk = match Desk::open(alloc, disk, roster) {
-        Ok(desk) => desk,
-        Err((fault, _)) => return Err(fault),
-    };
-    let _awarded = answer(alloc, &mut desk, Call::Ask("a1", 10))?;
-    let _counted = answer(alloc, &mut desk, Call::Notice(NoticeKind::Bill, "a1", 0))?;
+    let mut desk = opened(alloc, roster, &[], None)?;
+    sell(alloc, &mut desk)?;
     let mut disk = desk.close();
     bytes_on(alloc, &mut disk)
 }
@@ -74,20 +92,29 @@ fn cut_at(len: usize, bill: usize) -> Result<u64, DeskFault> {
     }
 }
 
-#[test]
-fn a_file_cut_at_each_byte(rt: HostRuntime) -> Result<(), Fail> {
-    let alloc = rt.alloc();
-    let roster = roster(alloc, 0)?;
-    let whole = journal_of_two(alloc, &roster)?;
-    let bill = whole.as_slice().len().saturating_sub(11);
-    for len in 0..=whole.as_slice().len() {
-        let (found, after) = told(alloc, &roster, &whole[..len])?;
-        assert_eq!(rt; found, cut_at(len, bill));
-        if found.is_err() {
-            assert_eq!(rt; after.as_slice(), &whole[..len]);
+/// How many fronts of a journal of two entries are told wrong, or are written to though they are refused.
+fn wrong_cuts(alloc: Global, roster: &Roster, whole: &[u8]) -> Result<u64, DeskFault> {
+    let bill = whole.len().saturating_sub(11);
+    let mut wrong: u64 = 0;
+    for len in 0..=whole.len() {
+        let told = told(alloc, roster, &whole[..len])?;
+        if told.found != cut_at(len, bill) || (told.found.is_err() && !told.stays) {
+            wrong = wrong.saturating_add(1);
         }
     }
-    Ok(())
+    Ok(wrong)
+}
+
+/// How many of its fronts are told wrong.
+fn wrong_fronts(alloc: Global) -> Result<u64, DeskFault> {
+    let roster = roster(alloc, 0)?;
+    let whole = journal_of_two(alloc, &roster)?;
+    wrong_cuts(alloc, &roster, whole.as_slice())
+}
+
+#[test]
+fn a_file_cut_at_each_byte(rt: HostRuntime) {
+    assert_eq!(rt; wrong_fronts(rt.alloc()), Ok(0));
 }
 
 /// A piece of a payload: the roster's digest, the ask of a journal, or bytes.
@@ -98,13 +125,16 @@ enum Piece {
     Bytes(&'static [u8]),
 }
 
+/// What the pieces that aren't bytes stand for.
+#[derive(Clone, Copy)]
+struct Own<'a> {
+    digest: &'a [u8; 32],
+    ask: &'a [u8],
+}
+
 /// Adds a piece to a payload.
-fn push_piece(
-    frame: &mut Frame,
-    piece: Piece,
-    digest: &[u8; 32],
-    ask: &[u8],
-) -> Result<(), OutOfMemory> {
+fn push_piece(frame: &mut Frame, piece: Piece, own: &Own<'_>) -> Result<(), OutOfMemory> {
+    let Own { digest, ask } = *own;
     match piece {
         Piece::Digest => frame.push(digest),
         Piece::Ask => frame.push(ask),
@@ -121,25 +151,43 @@ fn empty_journal(alloc: Global, disk: &mut MemoryDisk) -> Result<Journal, DeskFa
     }
 }
 
-/// A journal of these payloads, none of them empty.
-fn journal_with(
+/// Appends a payload of pieces to a journal, unless it is empty.
+fn append(
+    disk: &mut MemoryDisk,
+    journal: &mut Journal,
+    frame: &mut Frame,
+    payload: &[Piece],
+    own: &Own<'_>,
+) -> Result<(), DeskFault> {
+    frame.clear();
+    for piece in payload {
+        push_piece(frame, *piece, own)?;
+    }
+    if !frame.payload().is_empty() {
+        journal.append(disk, frame, 0)?;
+    }
+    Ok(())
+}
+
+/// Writes a journal of these payloads to a disk that has none.
+fn write_all(
     alloc: Global,
+    disk: &mut MemoryDisk,
     payloads: &[&[Piece]],
-    digest: &[u8; 32],
-    ask: &[u8],
-) -> Result<Vec<u8>, DeskFault> {
-    let mut disk = MemoryDisk::new(alloc, b"", &[], None)?;
-    let mut journal = empty_journal(alloc, &mut disk)?;
+    own: &Own<'_>,
+) -> Result<(), DeskFault> {
+    let mut journal = empty_journal(alloc, disk)?;
     let mut frame = Frame::new(alloc, 0)?;
     for payload in payloads {
-        frame.clear();
-        for piece in *payload {
-            push_piece(&mut frame, *piece, digest, ask)?;
-        }
-        if !frame.payload().is_empty() {
-            journal.append(&mut disk, &frame, 0)?;
-        }
+        append(disk, &mut journal, &mut frame, payload, own)?;
     }
+    Ok(())
+}
+
+/// A journal of these payloads.
+fn journal_with(alloc: Global, payloads: &[&[Piece]], own: &Own<'_>) -> Result<Vec<u8>, DeskFault> {
+    let mut disk = MemoryDisk::new(alloc, b"", &[], None)?;
+    write_all(alloc, &mut disk, payloads, own)?;
     bytes_on(alloc, &mut disk)
 }
 
@@ -204,38 +252,52 @@ fn rows() -> [Row; 8] {
     ]
 }
 
-#[test]
-fn a_journal_whose_entries_may_not_stand_there(rt: HostRuntime) -> Result<(), Fail> {
-    let alloc = rt.alloc();
+/// What a desk finds in a journal of these payloads.
+fn told_of(alloc: Global, payloads: &[&[Piece]]) -> Result<Outcome, DeskFault> {
     let roster = roster(alloc, 0)?;
     let two = journal_of_two(alloc, &roster)?;
     let bill = two.as_slice().len().saturating_sub(11);
-    let ask = Vec::from_slice(alloc, two.get(51..bill).unwrap_or(&[]))?;
-    for (payloads, wanted) in rows() {
-        let file = journal_with(alloc, payloads, &roster.digest, &ask)?;
-        let (found, after) = told(alloc, &roster, &file)?;
-        assert_eq!(rt; found, wanted);
-        assert_eq!(rt; after.as_slice(), file.as_slice());
-    }
-    Ok(())
+    let own = Own {
+        digest: &roster.digest,
+        ask: two.get(51..bill).unwrap_or(&[]),
+    };
+    let file = journal_with(alloc, payloads, &own)?;
+    told(alloc, &roster, file.as_slice())
 }
 
 #[test]
-fn a_file_that_is_not_its_own(rt: HostRuntime) -> Result<(), Fail> {
-    let alloc = rt.alloc();
-    let other = roster(alloc, 1)?;
+fn a_journal_whose_entries_may_not_stand_there(rt: HostRuntime) {
+    for (payloads, found) in rows() {
+        assert_eq!(rt;
+            told_of(rt.alloc(), payloads),
+            Ok(Outcome { found, stays: true })
+        );
+    }
+}
+
+/// What a desk of one of the rosters finds in a file of these bytes.
+fn told_by(alloc: Global, which: usize, bytes: &[u8]) -> Result<Outcome, DeskFault> {
+    let roster = roster(alloc, which)?;
+    told(alloc, &roster, bytes)
+}
+
+/// Whether a journal is refused under another roster, with its own roster's digest, and stays.
+fn is_refused_by_other(alloc: Global) -> Result<bool, DeskFault> {
     let roster = roster(alloc, 0)?;
     let two = journal_of_two(alloc, &roster)?;
-    let (found, after) = told(alloc, &other, &two)?;
+    let told = told_by(alloc, 1, two.as_slice())?;
+    let refused = DeskFault::OtherRoster {
+        kept: roster.digest,
+    };
+    Ok(told.found == Err(refused) && told.stays)
+}
+
+#[test]
+fn a_file_that_is_not_its_own(rt: HostRuntime) {
+    let found = Err(DeskFault::NotAJournal { at: 0 });
+    assert_eq!(rt; is_refused_by_other(rt.alloc()), Ok(true));
     assert_eq!(rt;
-        found,
-        Err(DeskFault::OtherRoster {
-            kept: roster.digest
-        })
+        told_by(rt.alloc(), 0, b"hello"),
+        Ok(Outcome { found, stays: true })
     );
-    assert_eq!(rt; after.as_slice(), two.as_slice());
-    let (found, after) = told(alloc, &roster, b"hello")?;
-    assert_eq!(rt; found, Err(DeskFault::NotAJournal { at: 0 }));
-    assert_eq!(rt; after.as_slice(), "hello".as_bytes());
-    Ok(())
 }

@@ -2,13 +2,13 @@
 ghost use Rattle.std.specs.Prelude.{◌≡◌, length};
 ghost use Rattle.adx_desk.specs.Rosters.{desk_terms};
 
-use crate::tests::{Call, done, roster};
+use crate::tests::{Call, done, opened, roster};
 use crate::{Desk, DeskFault, answer_line, fault_line, table_of};
 use adx_io::MemoryDisk;
+use adx_units::OutOfMemory;
 use deal_floor::Roster;
 use notice_book::NoticeKind;
 use std::alloc::Global;
-use std::test::Fail;
 
 /// Calls, and their lines.
 const LINES: [(Call, &str); 9] = [
@@ -62,44 +62,68 @@ const FAULTS: [(DeskFault, &str); 2] = [
     ),
 ];
 
-/// How many calls on a desk aren't told by their lines, and whether the closing table is the one that is told then.
-fn told_on(alloc: Global, roster: &Roster, desk: Desk<MemoryDisk>) -> Result<(u64, bool), DeskFault>
-    requires two { length desk.desk.terms.day.budgets ≡ 2 }
-    requires terms { desk.desk.terms ≡ desk_terms roster.now }
+/// Whether a call is told by its line.
+fn is_told(
+    alloc: Global,
+    roster: &Roster,
+    desk: &mut Desk<MemoryDisk>,
+    call: Call,
+    line: &str,
+) -> Result<bool, DeskFault>
+    requires { length desk.old.desk.terms.day.budgets ≡ 2 }
+    ensures { desk.new.desk.terms ≡ desk.old.desk.terms }
 {
-    let mut desk = desk;
+    let done = done(alloc, desk, call)?;
+    let text = answer_line(alloc, roster, "", &done)?;
+    Ok(text.as_str() == line)
+}
+
+/// How many calls on a desk aren't told by their lines.
+fn wrong_lines(
+    alloc: Global,
+    roster: &Roster,
+    desk: &mut Desk<MemoryDisk>,
+) -> Result<u64, DeskFault>
+    requires { length desk.old.desk.terms.day.budgets ≡ 2 }
+    ensures { desk.new.desk.terms ≡ desk.old.desk.terms }
+{
     let mut wrong: u64 = 0;
     for (call, line) in LINES {
-        let done = done(alloc, &mut desk, call)?;
-        let text = answer_line(alloc, roster, "", &done)?;
-        if text.as_str() != line {
+        if !is_told(alloc, roster, desk, call, line)? {
             wrong = wrong.saturating_add(1);
         }
     }
-    let table = table_of(alloc, roster, desk.book(), desk.entries())?;
-    Ok((wrong, table.as_str() == TABLE))
+    Ok(wrong)
 }
 
-/// The same on a new desk.
-fn told(alloc: Global, roster: &Roster) -> Result<(u64, bool), DeskFault>
-    requires { length roster.now.campaigns ≡ 2 }
+/// Whether the closing table is the one that is told then.
+fn has_table(alloc: Global, roster: &Roster, desk: &Desk<MemoryDisk>) -> Result<bool, OutOfMemory>
+    requires { desk.now.desk.terms ≡ desk_terms roster.now }
 {
-    let disk = MemoryDisk::new(alloc, b"", &[], None)?;
-    match Desk::open(alloc, disk, roster) {
-        Ok(desk) => told_on(alloc, roster, desk),
-        Err((fault, _)) => Err(fault),
+    let table = table_of(alloc, roster, desk.book(), desk.entries())?;
+    Ok(table.as_str() == TABLE)
+}
+
+/// How many calls on a new desk aren't told by their lines, and whether the closing table is the one that is told then.
+fn told(alloc: Global) -> Result<(u64, bool), DeskFault> {
+    let roster = roster(alloc, 0)?;
+    let mut desk = opened(alloc, &roster, &[], None)?;
+    let wrong = wrong_lines(alloc, &roster, &mut desk)?;
+    Ok((wrong, has_table(alloc, &roster, &desk)?))
+}
+
+/// Whether a fault has a line, and this one.
+fn has_line(alloc: Global, fault: DeskFault, line: &str) -> Result<bool, OutOfMemory> {
+    if let DeskFault::DiskFault | DeskFault::JournalFull { .. } = fault {
+        return Ok(fault_line(alloc, &fault)?.as_str() == line);
     }
+    Ok(false)
 }
 
 #[test]
-fn calls_and_faults_have_their_lines(rt: HostRuntime) -> Result<(), Fail> {
-    let alloc = rt.alloc();
-    let roster = roster(alloc, 0)?;
-    assert_eq!(rt; told(alloc, &roster)?, (0, true));
+fn calls_and_faults_have_their_lines(rt: HostRuntime) {
+    assert_eq!(rt; told(rt.alloc()), Ok((0, true)));
     for (fault, line) in FAULTS {
-        if let DeskFault::DiskFault | DeskFault::JournalFull { .. } = fault {
-            assert_eq!(rt; fault_line(alloc, &fault)?.as_str(), line);
-        }
+        assert_eq!(rt; has_line(rt.alloc(), fault, line), Ok(true));
     }
-    Ok(())
 }

@@ -4,6 +4,7 @@ ghost use Rattle.adx_units.specs.declared.offer.TheConstants.{ADMITTED as ADMITT
 ghost use Rattle.day_rules.specs.Asks.{IsAdmittedOffer, IsUndecided, IsWellFormed};
 ghost use Rattle.day_rules.specs.declared.ask.Kept.{Kept as KeptValue};
 ghost use Rattle.day_asks.specs.KeptTexts.{IsShort};
+ghost use Rattle.adx_desk.specs.Rosters.{desk_terms};
 
 use crate::{Desk, DeskFault, Done};
 use adx_io::{Disk, MemoryDisk};
@@ -13,7 +14,6 @@ use day_rules::{Answer, Ask, Kept};
 use deal_floor::Roster;
 use notice_book::NoticeKind;
 use std::alloc::Global;
-use std::test::Fail;
 
 /// Two rosters of one day and two campaigns, with other budgets.
 const ROSTERS: [&str; 2] = [
@@ -100,6 +100,23 @@ fn texts(alloc: Global, count: u32) -> Result<Vec<Kept>, OutOfMemory>
     Ok(kept)
 }
 
+/// A name.
+fn name(alloc: Global, text: &str) -> Result<Id, OutOfMemory> {
+    match Id::of(alloc, text)? {
+        Some(name) => Ok(name),
+        None => Err(OutOfMemory),
+    }
+}
+
+/// The one impression of an ask.
+fn imps(alloc: Global) -> Result<Vec<Id>, OutOfMemory>
+    ensures { IfOk result (λ v. length v.items ≡ 1) }
+{
+    let mut imps = Vec::new(alloc);
+    imps.push(name(alloc, "1")?)?;
+    Ok(imps)
+}
+
 /// An ask of one impression.
 fn ask(alloc: Global, auction: &str, digest: u8, now: u64, bids: &[Bid]) -> Result<Ask, OutOfMemory>
     requires few { length bids.now ≤ 1024 }
@@ -107,14 +124,12 @@ fn ask(alloc: Global, auction: &str, digest: u8, now: u64, bids: &[Bid]) -> Resu
     ensures formed { IfOk result (λ a. IsWellFormed 2 a) }
     ensures undecided { IfOk result (λ a. IsUndecided a) }
 {
-    let mut imps = Vec::new(alloc);
-    imps.push(Id::of(alloc, "1")?.ok_or(OutOfMemory)?)?;
     Ok(Ask {
-        auction: Id::of(alloc, auction)?.ok_or(OutOfMemory)?,
+        auction: name(alloc, auction)?,
         digest: [digest; 32],
         now,
         first: 0,
-        imps: Sequence::from(imps),
+        imps: Sequence::from(imps(alloc)?),
         offers: Sequence::from(offers(alloc, bids)?),
         kept: Sequence::from(texts(alloc, bids.len() as u32)?),
     })
@@ -199,36 +214,101 @@ pub(crate) struct Played {
     pub(crate) faults: u64,
 }
 
+/// What a desk acknowledged so far, whether a call was tried since, and how many answers weren't the script's.
+#[derive(Clone, Copy)]
+struct Tally {
+    acknowledged: u64,
+    doubted: u64,
+    wrong: u64,
+}
+
+impl Tally {
+    /// The tally behind an answer, where the history has so many entries.
+    fn with(self, is_wanted: bool, count: u64) -> Tally {
+        let mut next = self;
+        if !is_wanted {
+            next.wrong = self.wrong.saturating_add(1);
+        }
+        if count != self.acknowledged {
+            next.acknowledged = count;
+            next.doubted = 0;
+        }
+        next
+    }
+}
+
+/// Makes one call of the script.
+fn step(
+    alloc: Global,
+    desk: &mut Desk<MemoryDisk>,
+    call: Call,
+    wanted: Answer,
+    tally: Tally,
+) -> Result<Tally, DeskFault>
+    requires { length desk.old.desk.terms.day.budgets ≡ 2 }
+    ensures { desk.new.desk.terms ≡ desk.old.desk.terms }
+{
+    match answer(alloc, desk, call) {
+        Ok(None) => Ok(Tally {
+            doubted: 1,
+            ..tally
+        }),
+        Ok(Some(answer)) => Ok(tally.with(answer == wanted, desk.count())),
+        Err(fault) => Err(fault),
+    }
+}
+
+/// Makes the calls of the script.
+fn steps(alloc: Global, desk: &mut Desk<MemoryDisk>) -> Result<Tally, DeskFault>
+    requires { length desk.old.desk.terms.day.budgets ≡ 2 }
+{
+    let mut tally = Tally {
+        acknowledged: desk.count(),
+        doubted: 0,
+        wrong: 0,
+    };
+    for (call, wanted) in script() {
+        tally = step(alloc, desk, call, wanted, tally)?;
+    }
+    Ok(tally)
+}
+
 /// Plays the script on a desk, and counts the answers that aren't the script's.
 fn play(alloc: Global, desk: Desk<MemoryDisk>) -> Result<Played, DeskFault>
     requires { length desk.desk.terms.day.budgets ≡ 2 }
 {
     let mut desk = desk;
-    let mut acknowledged = desk.count();
-    let mut doubted = 0;
-    let mut wrong: u64 = 0;
-    for (call, wanted) in script() {
-        match answer(alloc, &mut desk, call)? {
-            None => doubted = 1,
-            Some(answer) => {
-                if answer != wanted {
-                    wrong = wrong.saturating_add(1);
-                }
-                if desk.count() != acknowledged {
-                    acknowledged = desk.count();
-                    doubted = 0;
-                }
-            }
+    match steps(alloc, &mut desk) {
+        Ok(tally) => {
+            let faults = desk.faults();
+            Ok(Played {
+                disk: desk.close(),
+                acknowledged: tally.acknowledged,
+                doubted: tally.doubted,
+                wrong: tally.wrong,
+                faults,
+            })
         }
+        Err(fault) => Err(fault),
     }
-    let faults = desk.faults();
-    Ok(Played {
-        disk: desk.close(),
-        acknowledged,
-        doubted,
-        wrong,
-        faults,
-    })
+}
+
+/// Opens a desk on a new disk whose calls fail by these words.
+pub(crate) fn opened(
+    alloc: Global,
+    roster: &Roster,
+    fails: &[u64],
+    stop: Option<u64>,
+) -> Result<Desk<MemoryDisk>, DeskFault>
+    requires { length roster.now.campaigns ≡ 2 }
+    ensures terms { IfOk result (λ d. d.desk.terms ≡ desk_terms roster.entry.now) }
+    ensures two { IfOk result (λ d. length d.desk.terms.day.budgets ≡ 2) }
+{
+    let disk = MemoryDisk::new(alloc, b"", fails, stop)?;
+    match Desk::open(alloc, disk, roster) {
+        Ok(desk) => Ok(desk),
+        Err((fault, _)) => Err(fault),
+    }
 }
 
 /// Opens a desk on a disk whose calls fail by these words, and plays the script.
@@ -270,6 +350,20 @@ fn found(alloc: Global, disk: MemoryDisk, roster: &Roster) -> Result<u64, DeskFa
     }
 }
 
+/// Whether an image of a disk has what was acknowledged, or that and what was tried since.
+fn is_right(
+    alloc: Global,
+    roster: &Roster,
+    played: &Played,
+    picks: [bool; 2],
+    fill: u8,
+) -> Result<bool, DeskFault> {
+    let image = played.disk.image(alloc, &picks, fill)?;
+    let there = found(alloc, image, roster);
+    let with = played.acknowledged.saturating_add(played.doubted);
+    Ok(there == Ok(played.acknowledged) || there == Ok(with))
+}
+
 /// How many images of a disk have neither what was acknowledged nor that and what was tried since.
 pub(crate) fn wrong_images(
     alloc: Global,
@@ -278,46 +372,45 @@ pub(crate) fn wrong_images(
 ) -> Result<u64, DeskFault> {
     let mut wrong: u64 = 0;
     for (picks, fill) in IMAGES {
-        let image = played.disk.image(alloc, &picks, fill)?;
-        let there = found(alloc, image, roster);
-        let with = played.acknowledged.saturating_add(played.doubted);
-        if there != Ok(played.acknowledged) && there != Ok(with) {
+        if !is_right(alloc, roster, played, picks, fill)? {
             wrong = wrong.saturating_add(1);
         }
     }
     Ok(wrong)
 }
 
-#[test]
-fn each_failing_call_leaves_what_was_acknowledged(rt: HostRuntime) -> Result<(), Fail> {
-    let alloc = rt.alloc();
+/// How many images are wrong of a disk whose calls fail by these words, behind the script.
+fn wrong_behind(alloc: Global, fails: &[u64], stop: Option<u64>) -> Result<u64, DeskFault> {
     let roster = roster(alloc, 0)?;
-    for call in 0..40 {
-        let played = run(alloc, &roster, &[call], None)?;
-        assert_eq!(rt; wrong_images(alloc, &roster, &played)?, 0);
-    }
-    Ok(())
+    let played = run(alloc, &roster, fails, stop)?;
+    wrong_images(alloc, &roster, &played)
 }
 
 #[test]
-fn each_stop_leaves_what_was_acknowledged(rt: HostRuntime) -> Result<(), Fail> {
-    let alloc = rt.alloc();
-    let roster = roster(alloc, 0)?;
+fn each_failing_call_leaves_what_was_acknowledged(rt: HostRuntime) {
     for call in 0..40 {
-        let played = run(alloc, &roster, &[], Some(call))?;
-        assert_eq!(rt; wrong_images(alloc, &roster, &played)?, 0);
+        assert_eq!(rt; wrong_behind(rt.alloc(), &[call], None), Ok(0));
     }
-    Ok(())
 }
 
 #[test]
-fn a_script_is_found_again(rt: HostRuntime) -> Result<(), Fail> {
-    let alloc = rt.alloc();
+fn each_stop_leaves_what_was_acknowledged(rt: HostRuntime) {
+    for call in 0..40 {
+        assert_eq!(rt; wrong_behind(rt.alloc(), &[], Some(call)), Ok(0));
+    }
+}
+
+/// What the script comes to where nothing fails: how many answers aren't its, how many entries were acknowledged, how many
+/// faults there were, and how many entries are found then.
+fn found_again(alloc: Global) -> Result<[u64; 4], DeskFault> {
     let roster = roster(alloc, 0)?;
     let played = run(alloc, &roster, &[], None)?;
-    assert_eq!(rt; played.wrong, 0);
-    assert_eq!(rt; played.acknowledged, 6);
-    assert_eq!(rt; played.faults, 0);
-    assert_eq!(rt; found(alloc, played.disk, &roster), Ok(6));
-    Ok(())
+    let (wrong, acknowledged, faults) = (played.wrong, played.acknowledged, played.faults);
+    let there = found(alloc, played.disk, &roster)?;
+    Ok([wrong, acknowledged, faults, there])
+}
+
+#[test]
+fn a_script_is_found_again(rt: HostRuntime) {
+    assert_eq!(rt; found_again(rt.alloc()), Ok([0, 6, 0, 6]));
 }

@@ -1,6 +1,5 @@
 use Rattle.std.proofs.Common.{◌≡◌, ℕ, List, length, sym, ap, ◌∙◌, subst, inl, arith}
 use Rattle.std.specs.List.{All}
-use Rattle.std.proofs.lemmas.List.{length_push}
 use Rattle.std.proofs.lemmas.List.Elements.{All-weaker}
 use Rattle.adx_units.specs.declared.offer.Offer.{Offer}
 use Rattle.day_rules.specs.Asks.{AreKeptTexts, IsAdmittedOffer, IsOffer}
@@ -9,7 +8,7 @@ use Rattle.adx_desk.proofs.tests.ask.Goals as goal
 
 pub returns-clause-formed : goal.returns-clause-formed
 returns-clause-formed c =
-    let one : length c.from.result ≡ 1 = ap (λ (t : List (List ℕ)). length t) (c.from.ensures ∙ c.in_ok-push.ensures.items) ∙ omega (arith, ap (λ (t : List (List ℕ)). length t) c.new-imps.ensures.items, length_push c.new-imps.result.items c.in_ok-ok_or.field-0) in
+    let one : length c.from.result ≡ 1 = ap (λ (t : List (List ℕ)). length t) c.from.ensures ∙ c.in_ok-imps.ensures in
     let many : length c.from-2.result ≡ length c.args.bids.now = ap (λ (t : List Offer). length t) c.from-2.ensures ∙ c.in_ok-offers.ensures.long in
     record {
       some_imp = omega arith;

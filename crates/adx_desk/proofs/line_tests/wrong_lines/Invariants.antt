@@ -1,10 +1,9 @@
 -- The desk's terms stay.
 use Rattle.std.proofs.Common.{◌≡◌, length}
-use Rattle.adx_desk.specs.Rosters.{desk_terms}
-use Rattle.adx_desk.proofs.line_tests.told_on.Given as goal
+use Rattle.adx_desk.proofs.line_tests.wrong_lines.Given as goal
 
 abbrev pub invariant-loop-call : goal.invariant-loop-call
 invariant-loop-call l = record {
   two : length l.desk.desk.terms.day.budgets ≡ 2;
-  terms : l.desk.desk.terms ≡ desk_terms l.roster;
+  terms : l.desk.desk.terms ≡ l.initial.desk.desk.terms;
 }
