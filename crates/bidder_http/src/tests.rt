@@ -3,9 +3,9 @@ use crate::serve_bidder;
 use adx_http::{ConnEnd, HttpFault};
 use adx_io::{MemorySink, MemorySource};
 use adx_json::read;
+use adx_units::OutOfMemory;
 use bidder_core::Bidder;
-use std::alloc::{AllocError, Global};
-use std::test::Fail;
+use std::alloc::Global;
 
 /// The price lines of the bidders, one a bidder.
 const ONE: &str = r#"{"seat":"s1","prices":[{"cid":"c1","price":2.5}]}"#;
@@ -14,18 +14,18 @@ const TWO: &str =
     r#"{"seat":"s1","base":"http://b","prices":[{"cid":"c1","price":2.5},{"cid":"c\"2","price":0.75}]}"#;
 
 /// The bidder of a price line.
-fn bidder_of(alloc: Global, line: &str) -> Result<Bidder, Fail> {
-    let Ok(tree) = read(alloc, line.as_bytes()) else {
-        return Err(Fail::from("no JSON"));
-    };
-    match Bidder::of(alloc, &tree) {
-        Ok(bidder) => Ok(bidder),
-        Err(_) => Err(Fail::from("no price line")),
+fn bidder_of(alloc: Global, line: &str) -> Option<Bidder> {
+    match read(alloc, line.as_bytes()) {
+        Ok(tree) => match Bidder::of(alloc, &tree) {
+            Ok(bidder) => Some(bidder),
+            Err(_) => None,
+        },
+        Err(_) => None,
     }
 }
 
 /// What a row says of its bytes: `~` stands for CR LF, and `;` for LF alone.
-fn bytes_of(alloc: Global, text: &str) -> Result<Vec<u8>, AllocError> {
+fn bytes_of(alloc: Global, text: &str) -> Result<Vec<u8>, OutOfMemory> {
     let mut bytes = Vec::new(alloc);
     for byte in text.as_bytes() {
         match *byte {
@@ -37,22 +37,73 @@ fn bytes_of(alloc: Global, text: &str) -> Result<Vec<u8>, AllocError> {
     Ok(bytes)
 }
 
-/// What a connection with these messages is replied, in pieces of so many bytes, and how it ends.
-fn is_served(
+/// A connection: the bidder's price line, the messages, in pieces of how many bytes they come and in pieces of how many
+/// bytes the replies go, and at which calls the source and the sink fail.
+#[derive(Clone, Copy)]
+struct Served<'a> {
+    line: &'a str,
+    messages: &'a str,
+    steps: [usize; 2],
+    fails: [&'a [u64]; 2],
+}
+
+/// A connection that doesn't fail, with all messages in one piece.
+const fn whole<'a>(line: &'a str, messages: &'a str) -> Served<'a> {
+    Served {
+        line,
+        messages,
+        steps: [0, 0],
+        fails: [&[], &[]],
+    }
+}
+
+/// Where a connection's messages come from.
+fn source_of(alloc: Global, served: Served<'_>) -> Result<MemorySource, OutOfMemory> {
+    let bytes = bytes_of(alloc, served.messages)?;
+    MemorySource::new(alloc, bytes.as_slice(), served.steps[0], served.fails[0])
+}
+
+/// Serves a connection of a bidder, and says how it ends.
+fn end_of(
     alloc: Global,
-    line: &str,
-    messages: &str,
-    step: usize,
-    replies: &str,
-    end: ConnEnd,
-) -> Result<bool, Fail> {
-    let mut bidder = bidder_of(alloc, line)?;
-    let bytes = bytes_of(alloc, messages)?;
+    bidder: &mut Bidder,
+    served: Served<'_>,
+    sink: &mut MemorySink,
+) -> Result<ConnEnd, OutOfMemory> {
+    let mut source = source_of(alloc, served)?;
+    Ok(serve_bidder(alloc, bidder, &mut source, sink))
+}
+
+/// Serves a connection, and says how it ends; None where there is no such bidder.
+fn ended(
+    alloc: Global,
+    served: Served<'_>,
+    sink: &mut MemorySink,
+) -> Result<Option<ConnEnd>, OutOfMemory> {
+    match bidder_of(alloc, served.line) {
+        Some(mut bidder) => Ok(Some(end_of(alloc, &mut bidder, served, sink)?)),
+        None => Ok(None),
+    }
+}
+
+/// Whether a sink took just what a row says, or a front of it.
+fn has_taken(alloc: Global, sink: &MemorySink, replies: &str) -> Result<(bool, bool), OutOfMemory> {
     let wanted = bytes_of(alloc, replies)?;
-    let mut source = MemorySource::new(alloc, bytes.as_slice(), step, &[])?;
-    let mut sink = MemorySink::new(alloc, step, &[])?;
-    let ended = serve_bidder(alloc, &mut bidder, &mut source, &mut sink);
-    Ok(ended == end && sink.taken() == wanted.as_slice())
+    Ok((
+        sink.taken() == wanted.as_slice(),
+        wanted.as_slice().starts_with(sink.taken()),
+    ))
+}
+
+/// How a connection ends, and whether its replies are these, or a front of these.
+fn told(
+    alloc: Global,
+    served: Served<'_>,
+    replies: &str,
+) -> Result<(Option<ConnEnd>, (bool, bool)), OutOfMemory> {
+    let mut sink = MemorySink::new(alloc, served.steps[1], served.fails[1])?;
+    let end = ended(alloc, served, &mut sink)?;
+    Ok((end, has_taken(alloc, &sink, replies)?))
 }
 
 /// A request for bids, a bill that is repeated, and the sums.
@@ -63,14 +114,18 @@ const DAY_REPLIES: &str =
     "HTTP/1.1 200 OK~Content-Type: application/json~x-openrtb-version: 2.6~Content-Length: 307~~{\"id\":\"a1\",\"seatbid\":[{\"seat\":\"s1\",\"bid\":[{\"id\":\"0-0\",\"impid\":\"1\",\"price\":2.5,\"cid\":\"c1\",\"nurl\":\"http://127.0.0.1/n/win?a=${AUCTION_ID}&b=0-0&p=${AUCTION_PRICE}\",\"burl\":\"http://127.0.0.1/n/bill?a=${AUCTION_ID}&b=0-0&p=${AUCTION_PRICE}\",\"lurl\":\"http://127.0.0.1/n/loss?a=${AUCTION_ID}&b=0-0\"}]}],\"cur\":\"USD\"}HTTP/1.1 204 No Content~~HTTP/1.1 204 No Content~~HTTP/1.1 200 OK~Content-Type: application/json~Content-Length: 40~~{\"cid\":\"c1\",\"billed\":2500000,\"count\":1}\n";
 
 #[test]
-fn answers_a_day(rt: HostRuntime) -> Result<(), Fail> {
+fn answers_a_day(rt: HostRuntime) {
     for step in [0, 1, 7] {
-        assert!(rt;
-            is_served(rt.alloc(), ONE, DAY, step, DAY_REPLIES, ConnEnd::Closed)?,
+        let served = Served {
+            steps: [step, step],
+            ..whole(ONE, DAY)
+        };
+        assert_eq!(rt;
+            told(rt.alloc(), served, DAY_REPLIES),
+            Ok((Some(ConnEnd::Closed), (true, true))),
             "{step}"
         );
     }
-    Ok(())
 }
 
 /// The word of an end.
@@ -114,26 +169,27 @@ badchunk|GET /ledger HTTP/1.1~Host: x~~POST / HTTP/1.1~Host: x~Transfer-Encoding
 cut|GET /ledger HTTP/1.1~Host: x~~GET /ledger HTTP/1.1~|HTTP/1.1 200 OK~Content-Type: application/json~Content-Length: 0~~
 cut|POST / HTTP/1.1~Host: x~Content-Length: 3~~{}|"#;
 
+/// The first part of a line, and what is behind a byte.
+fn parts(line: &str, byte: char) -> (&str, &str) {
+    line.split_once(byte).unwrap_or(("", ""))
+}
+
 /// Whether a line of the table is so.
-fn is_row(alloc: Global, row: &str) -> Result<bool, Fail> {
-    let (word, rest) = row.split_once('|').ok_or("no word")?;
-    let (messages, replies) = rest.split_once('|').ok_or("no replies")?;
-    let mut bidder = bidder_of(alloc, TWO)?;
-    let bytes = bytes_of(alloc, messages)?;
-    let wanted = bytes_of(alloc, replies)?;
-    let mut source = MemorySource::new(alloc, bytes.as_slice(), 0, &[])?;
-    let mut sink = MemorySink::new(alloc, 0, &[])?;
-    let end = serve_bidder(alloc, &mut bidder, &mut source, &mut sink);
-    Ok(word_of(end) == word && sink.taken() == wanted.as_slice())
+fn is_row(alloc: Global, row: &str) -> bool {
+    let (word, rest) = parts(row, '|');
+    let (messages, replies) = parts(rest, '|');
+    match told(alloc, whole(TWO, messages), replies) {
+        Ok((Some(end), (are_all, _))) => word_of(end) == word && are_all,
+        Ok((None, _)) | Err(_) => false,
+    }
 }
 
 #[test]
-fn refuses_wrong_messages(rt: HostRuntime) -> Result<(), Fail> {
+fn refuses_wrong_messages(rt: HostRuntime) {
     assert_eq!(rt; MESSAGES.lines().count(), 17);
     for row in MESSAGES.lines() {
-        assert!(rt; is_row(rt.alloc(), row)?, "{row}");
+        assert!(rt; is_row(rt.alloc(), row), "{row}");
     }
-    Ok(())
 }
 
 /// Notices of one day, one a line, each behind the word for what it is answered.
@@ -169,6 +225,9 @@ const ROWS: &str = r#"{"auction":"a1","bid":"0-0","kind":"bill","price":2500000}
 {"auction":"a2","bid":"15-1","kind":"bill","price":1}
 "#;
 
+/// The head of the reply that gives them.
+const LEDGER_HEAD: &str = "HTTP/1.1 200 OK~Content-Type: application/json~Content-Length: 231~~";
+
 /// What a message is replied that is answered so.
 fn reply_for(word: &str) -> &'static str {
     match word {
@@ -189,65 +248,80 @@ fn reply_for(word: &str) -> &'static str {
     }
 }
 
-/// A message that gets a target.
-fn message_for(alloc: Global, target: &str) -> Result<String, AllocError> {
-    format!(in alloc; "GET {target} HTTP/1.1~Host: x~~")
-}
-
-#[test]
-fn counts_each_notice_once(rt: HostRuntime) -> Result<(), Fail> {
-    let alloc = rt.alloc();
-    let mut messages = String::new(alloc);
-    let mut replies = String::new(alloc);
-    for row in NOTICES.lines() {
-        let (word, target) = row.split_once(' ').ok_or("no word")?;
-        messages.push_str(message_for(alloc, target)?.as_str())?;
-        replies.push_str(reply_for(word))?;
+/// A message that gets a target, behind the others.
+fn push_message(messages: &mut String, target: &str) -> Result<(), OutOfMemory> {
+    for part in ["GET ", target, " HTTP/1.1~Host: x~~"] {
+        messages.push_str(part)?;
     }
-    messages.push_str(message_for(alloc, "/ledger")?.as_str())?;
-    replies.push_str("HTTP/1.1 200 OK~Content-Type: application/json~Content-Length: 231~~")?;
-    replies.push_str(ROWS)?;
-    assert!(rt;
-        is_served(
-            alloc,
-            TWO,
-            messages.as_str(),
-            0,
-            replies.as_str(),
-            ConnEnd::Closed
-        )?
-    );
     Ok(())
 }
 
-/// Whether a day whose source and sink fail at these calls ends so, behind a front of its replies.
-fn is_front(
+/// The messages of all notices, and one that gets the ledger.
+fn notices(alloc: Global) -> Result<String, OutOfMemory> {
+    let mut messages = String::new(alloc);
+    for row in NOTICES.lines() {
+        push_message(&mut messages, parts(row, ' ').1)?;
+    }
+    push_message(&mut messages, "/ledger")?;
+    Ok(messages)
+}
+
+/// What they are replied.
+fn replies(alloc: Global) -> Result<String, OutOfMemory> {
+    let mut replies = String::new(alloc);
+    for row in NOTICES.lines() {
+        replies.push_str(reply_for(parts(row, ' ').0))?;
+    }
+    for part in [LEDGER_HEAD, ROWS] {
+        replies.push_str(part)?;
+    }
+    Ok(replies)
+}
+
+/// How the notices end, and whether their replies are the wanted ones.
+fn notices_told(alloc: Global) -> Result<(Option<ConnEnd>, (bool, bool)), OutOfMemory> {
+    let messages = notices(alloc)?;
+    let replies = replies(alloc)?;
+    told(alloc, whole(TWO, messages.as_str()), replies.as_str())
+}
+
+#[test]
+fn counts_each_notice_once(rt: HostRuntime) {
+    let told = notices_told(rt.alloc());
+    assert_eq!(rt; told, Ok((Some(ConnEnd::Closed), (true, true))));
+}
+
+/// How a day ends whose source and sink fail at these calls, and whether it ends behind a front of its replies.
+fn front_told(
     alloc: Global,
     source_fails: &[u64],
     sink_fails: &[u64],
-    end: ConnEnd,
-) -> Result<bool, Fail> {
-    let mut bidder = bidder_of(alloc, ONE)?;
-    let bytes = bytes_of(alloc, DAY)?;
-    let whole = bytes_of(alloc, DAY_REPLIES)?;
-    let mut source = MemorySource::new(alloc, bytes.as_slice(), 40, source_fails)?;
-    let mut sink = MemorySink::new(alloc, 100, sink_fails)?;
-    let ended = serve_bidder(alloc, &mut bidder, &mut source, &mut sink);
-    Ok(ended == end && whole.as_slice().starts_with(sink.taken()))
+) -> Result<(Option<ConnEnd>, bool), OutOfMemory> {
+    let served = Served {
+        steps: [40, 100],
+        fails: [source_fails, sink_fails],
+        ..whole(ONE, DAY)
+    };
+    let (end, (_, is_front)) = told(alloc, served, DAY_REPLIES)?;
+    Ok((end, is_front))
 }
 
 #[test]
-fn ends_at_each_fault(rt: HostRuntime) -> Result<(), Fail> {
+fn ends_at_each_fault(rt: HostRuntime) {
     for call in 0..6 {
-        assert!(rt;
-            is_front(rt.alloc(), &[call], &[], ConnEnd::ReadFault)?,
+        assert_eq!(rt;
+            front_told(rt.alloc(), &[call], &[]),
+            Ok((Some(ConnEnd::ReadFault), true)),
             "{call}"
         );
-        assert!(rt;
-            is_front(rt.alloc(), &[], &[call], ConnEnd::WriteFault)?,
+        assert_eq!(rt;
+            front_told(rt.alloc(), &[], &[call]),
+            Ok((Some(ConnEnd::WriteFault), true)),
             "{call}"
         );
     }
-    assert!(rt; is_front(rt.alloc(), &[100], &[100], ConnEnd::Closed)?);
-    Ok(())
+    assert_eq!(rt;
+        front_told(rt.alloc(), &[100], &[100]),
+        Ok((Some(ConnEnd::Closed), true))
+    );
 }
