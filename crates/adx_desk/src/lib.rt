@@ -31,12 +31,3 @@ pub use laws::{one_history, refusals_exclude};
 pub use lines::{answer_line, fault_line, table_of};
 pub use shared::OpenedWith;
 pub use turn::{Call, Turn};
-
-#[cfg(test)]
-mod batch_tests;
-#[cfg(test)]
-mod file_tests;
-#[cfg(test)]
-mod line_tests;
-#[cfg(test)]
-mod tests;

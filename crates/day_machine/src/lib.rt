@@ -20,12 +20,3 @@ pub use day_rules::{
     MAX_LIFE, MAX_OFFERS, MAX_TEXT, NO_IMP, Seen, Which,
 };
 pub use sales::sale_count;
-
-#[cfg(test)]
-mod legal_tests;
-#[cfg(test)]
-mod plain;
-#[cfg(test)]
-mod random_tests;
-#[cfg(test)]
-mod tests;

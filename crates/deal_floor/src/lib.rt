@@ -6,8 +6,6 @@
 #![tactic(auto)]
 
 mod admission;
-#[cfg(test)]
-mod admission_tests;
 mod asked;
 mod bidder_reader;
 mod campaign;
@@ -23,8 +21,6 @@ mod replies;
 mod roster;
 mod roster_reader;
 mod terms;
-#[cfg(test)]
-mod tests;
 mod value;
 
 pub use admission::{admit, refused};
