@@ -1,0 +1,6 @@
+pub mod Numbers
+pub mod OneSale
+pub mod Replied
+pub mod Shown
+pub mod Sold
+pub mod Wanting

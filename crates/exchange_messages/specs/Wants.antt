@@ -1,0 +1,35 @@
+-- What the head of a message tells of what it means.
+use Rattle.std.specs.Prelude.{◌≡◌, ℕ, List, Option, Some, None}
+use Rattle.std.specs.Cow.{cow_str_bytes}
+use Rattle.http_connection.specs.Messages.{Request}
+use Rattle.exchange_messages.specs.Meanings.{Meaning, notifies, wants_books, refused, BodyMeans, Means, query_meaning}
+use Rattle.exchange_messages.specs.declared.path.Path.{Path}
+use Rattle.exchange_messages.specs.declared.wanted.Other.{Other}
+use Rattle.exchange_messages.specs.declared.wanted.Wanted.{Wanted}
+
+-- the meaning of a message that wants this, where its head tells it
+abbrev pub other_meaning : Other → Option Meaning
+other_meaning Other.Bids = None
+other_meaning Other.Books = Some wants_books
+other_meaning (Other.Nothing why) = Some (refused why)
+
+abbrev pub meaning_of : Wanted → Option Meaning
+meaning_of (Wanted.Notice kind auction award) = Some (notifies kind (cow_str_bytes auction) award)
+meaning_of (Wanted.Other other) = other_meaning other
+
+-- what a message wants to a path that it is served by
+abbrev pub MeansSo : Path → List ℕ → Wanted → Type 0
+MeansSo Path.OpenRtb query w = w ≡ Wanted.Other Other.Bids
+MeansSo (Path.Notice kind) query w = meaning_of w ≡ Some (query_meaning kind query)
+MeansSo Path.Books query w = w ≡ Wanted.Other Other.Books
+
+-- a message that is no notice wants this: its meaning is known by its head, or its body is to be read
+abbrev pub WantsOther : Request → Other → Type 0
+WantsOther m Other.Bids = (meaning : Meaning) → BodyMeans m.body meaning → Means m meaning
+WantsOther m Other.Books = Means m wants_books
+WantsOther m (Other.Nothing why) = Means m (refused why)
+
+-- a message wants this
+abbrev pub Wants : Request → Wanted → Type 0
+Wants m (Wanted.Notice kind auction award) = Means m (notifies kind (cow_str_bytes auction) award)
+Wants m (Wanted.Other other) = WantsOther m other

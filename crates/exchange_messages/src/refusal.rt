@@ -1,0 +1,19 @@
+//! Messages that are no call of the day.
+use crate::path::Path;
+use adx_json::JsonFault;
+use rtb_request::RequestFault;
+
+/// Why a message is no call of the day.
+#[derive(Debug, Drop)]
+pub enum Refusal {
+    /// No such path is served.
+    Path,
+    /// The path isn't served by this method.
+    Method(Path),
+    /// The notice names no auction, or no number of an award.
+    Call,
+    /// The body is no JSON text. The fault isn't want of memory.
+    Json(JsonFault),
+    /// The request for bids is none. The fault isn't want of memory.
+    Request(RequestFault),
+}

@@ -1,0 +1,82 @@
+//! What a message wants, as far as its head tells.
+ghost use Rattle.std.specs.Prelude.{◌≡◌, IfOk};
+ghost use Rattle.http_connection.specs.Answers.{Shows};
+ghost use Rattle.http_connection.specs.Messages.{Request};
+ghost use Rattle.exchange_messages.specs.Meanings.{query_meaning};
+ghost use Rattle.exchange_messages.specs.Wants.{MeansSo, Wants, meaning_of};
+
+use crate::path::{Path, is_served, path_named};
+use crate::refusal::Refusal;
+use adx_http::{Message, query_value, read_target};
+use adx_units::{OutOfMemory, whole_up_to};
+use notice_book::NoticeKind;
+use script_lines::LAST_AWARD;
+use std::alloc::Global;
+use std::borrow::CowStr;
+
+/// What a message wants that is no notice, as far as its head tells.
+#[derive(Drop)]
+pub enum Other {
+    /// Bids, for the request in its body.
+    Bids,
+    /// The books.
+    Books,
+    /// Nothing that a day is asked.
+    Nothing(Refusal),
+}
+
+/// What a message wants, as far as its head tells.
+#[derive(Drop)]
+pub enum Wanted<'a> {
+    /// That a notice of an award of an auction is taken.
+    Notice(NoticeKind, CowStr<'a, Global>, u32),
+    /// Something else.
+    Other(Other),
+}
+
+/// A notice of a kind by its query.
+fn notice_in<'a>(
+    alloc: Global,
+    kind: NoticeKind,
+    query: &'a [u8],
+) -> Result<Wanted<'a>, OutOfMemory>
+    ensures { IfOk result (λ w. meaning_of w ≡ Some (query_meaning kind query.now)) }
+{
+    let Some(auction) = query_value(alloc, query, "auction")? else {
+        return Ok(Wanted::Other(Other::Nothing(Refusal::Call)));
+    };
+    let Some(bid) = query_value(alloc, query, "bid")? else {
+        return Ok(Wanted::Other(Other::Nothing(Refusal::Call)));
+    };
+    match whole_up_to(bid.as_str().as_bytes(), LAST_AWARD) {
+        Some(award) => Ok(Wanted::Notice(kind, auction, award as u32)),
+        None => Ok(Wanted::Other(Other::Nothing(Refusal::Call))),
+    }
+}
+
+/// What a message to a path wants that the path is served by.
+fn wanted_of<'a>(alloc: Global, path: Path, query: &'a [u8]) -> Result<Wanted<'a>, OutOfMemory>
+    ensures { IfOk result (λ w. MeansSo path query.now w) }
+{
+    match path {
+        Path::OpenRtb => Ok(Wanted::Other(Other::Bids)),
+        Path::Notice(kind) => notice_in(alloc, kind, query),
+        Path::Books => Ok(Wanted::Other(Other::Books)),
+    }
+}
+
+/// What a message wants.
+pub fn wanted_by<'a>(alloc: Global, message: &Message<'a>) -> Result<Wanted<'a>, OutOfMemory>
+    ensures { IfOk result (λ w. (m : Request) → Shows message.now m → Wants m w) }
+{
+    let target = read_target(message.target);
+    match path_named(target.path) {
+        Some(path) => {
+            if !is_served(path, message.verb) {
+                return Ok(Wanted::Other(Other::Nothing(Refusal::Method(path))));
+            }
+            wanted_of(alloc, path, target.query)
+        }
+        None => Ok(Wanted::Other(Other::Nothing(Refusal::Path))),
+    }
+}
