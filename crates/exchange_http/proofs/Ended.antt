@@ -1,0 +1,144 @@
+-- How a connection ends whose messages are over.
+use Rattle.std.proofs.Common.{◌≡◌, inr, ℕ, ◌≤◌, List, [], ◌++◌, Option, Some, false, Result, Ok, Err, refl, sym, ap, ◌∙◌, subst, arith, append_assoc}
+use Rattle.std.specs.Io.KnownBytes.{append_known}
+use Rattle.adx_io.specs.Streams.{Rises, Tape, Took}
+use Rattle.adx_io.specs.declared.failed.Failed.{Failed}
+use Rattle.adx_desk.specs.Desks.{OnDisk}
+use Rattle.deal_floor.specs.declared.roster.Roster.{Roster}
+use Rattle.fan_out.specs.declared.lane.Lane.{Lane}
+use Rattle.fan_out.specs.Lanes.{Outcome}
+use Rattle.http_connection.specs.Messages.{RefusesRequest, Request}
+use Rattle.http_connection.specs.declared.conn.ConnEnd.{ConnEnd}
+use Rattle.http_grammar.specs.declared.fault.HttpFault.{HttpFault}
+use Rattle.http_service.specs.Connections.{Answering, Brings, GoOn, HasCauses, Refuses, TookFront}
+use Rattle.http_service.specs.Replies.{fault_status, refusal_bytes}
+use Rattle.http_service.specs.Steps.{WritesRefusal}
+use Rattle.http_service.specs.declared.limits.TheConstants.{REQUEST_LIMIT}
+use Rattle.exchange_messages.specs.Courses.{AnswersOn, Course, begun}
+use Rattle.exchange_http.specs.Gathered.{Replied, count_of}
+use Rattle.exchange_http.specs.Running.{CameToFault, EndsAt, EndsHere, EndsOver, IsUnderWay, ended}
+use Rattle.exchange_http.specs.declared.over.Over.{Over}
+use Rattle.exchange_http.proofs.Gathered.{known_more, known_none, sunk_front}
+use Rattle.exchange_http.proofs.OneMore.{all_served, none_late}
+
+-- the reply of a refusal behind all that was put, or a front of it
+pub refusal_put : (held sunk held_now : Option (List ℕ)) (left : List ℕ) (fault : HttpFault) (status : ℕ) → fault_status fault ≡ Some status → held_now ≡ append_known held (refusal_bytes status) → held_now ≡ append_known sunk left → left ≡ [] → WritesRefusal Took held sunk fault
+refusal_put held sunk held_now left fault status answered is at none = record { status = status; answered = answered; took = sym (known_none sunk) ∙ ap (append_known sunk) (sym none) ∙ sym at ∙ is }
+
+pub refusal_failed : (held sunk held_now : Option (List ℕ)) (front back left : List ℕ) (fault : HttpFault) (status least_now : ℕ) → fault_status fault ≡ Some status → refusal_bytes status ≡ front ++ back → held_now ≡ append_known held front → held_now ≡ append_known sunk left
+    → count_of held ≤ least_now → least_now ≤ count_of sunk → WritesRefusal TookFront held sunk fault
+refusal_failed held sunk held_now front back left fault status least_now answered split is at sure grown =
+    let part = sunk_front held sunk held_now front left is at (omega (arith, sure, grown)) in
+    record { status = status; answered = answered; took = (part.0, part.1 ++ back, split ∙ ap (λ (b : List ℕ). b ++ back) part.2 ∙ append_assoc part.0 part.1 back, part.3) }
+
+-- what all bytes are refused for has a reply
+refused_for : (tape tape_now : Option Tape) (ms : List Request) (fault : HttpFault) (status : ℕ) → fault_status fault ≡ Some status → CameToFault tape tape_now ms fault → GoOn ms × Brings REQUEST_LIMIT tape tape_now ms (λ rest. RefusesRequest REQUEST_LIMIT rest fault)
+refused_for tape tape_now ms HttpFault.ReadFault status answered came = absurd (cc answered)
+refused_for tape tape_now ms HttpFault.BadHead status answered came = came
+refused_for tape tape_now ms HttpFault.HeadTooLong status answered came = came
+refused_for tape tape_now ms HttpFault.LengthRequired status answered came = came
+refused_for tape tape_now ms HttpFault.BodyTooLong status answered came = came
+refused_for tape tape_now ms HttpFault.BadChunk status answered came = came
+refused_for tape tape_now ms HttpFault.Cut status answered came = came
+refused_for tape tape_now ms HttpFault.Coding status answered came = came
+
+refuses : {S : Type 0} (answers : Answering S) (Takes : Option (List ℕ) → Option (List ℕ) → List ℕ → Type 0) (tape tape_now : Option Tape) (before held sunk : Option (List ℕ)) (s now : S) (ms : List Request) (least waiting : ℕ) (fault : HttpFault)
+    → Replied answers s now ms before held least waiting → CameToFault tape tape_now ms fault → (w : WritesRefusal Takes held sunk fault)
+    → ((out : List ℕ) → held ≡ append_known before out → Takes before sunk (out ++ refusal_bytes w.status)) → Refuses answers Takes REQUEST_LIMIT tape tape_now before sunk s now fault
+refuses answers Takes tape tape_now before held sunk s now ms least waiting fault p came w takes =
+    let all = all_served answers s now ms before held held least waiting p refl in
+    let for = refused_for tape tape_now ms fault w.status w.answered came in
+    record { ms = ms; out = all.out; status = w.status; go_on = for.0; replies = all.replies; answered = w.answered; took = takes all.out all.took; brings = for.1 }
+
+took_behind : (before held sunk : Option (List ℕ)) (refusal out : List ℕ) → Took held sunk refusal → held ≡ append_known before out → Took before sunk (out ++ refusal)
+took_behind before held sunk refusal out took is = took ∙ ap (λ (h : Option (List ℕ)). append_known h refusal) is ∙ known_more before out refusal
+
+front_behind : (before held sunk : Option (List ℕ)) (refusal out : List ℕ) → TookFront held sunk refusal → held ≡ append_known before out → TookFront before sunk (out ++ refusal)
+front_behind before held sunk refusal out (front, back, split, took) is = (
+  out ++ front,
+  back,
+  ap (λ (b : List ℕ). out ++ b) split ∙ sym (append_assoc out front back),
+  took_behind before held sunk front out took is,
+)
+
+-- an end as a result
+abbrev as_end : ConnEnd → Result ConnEnd Failed
+as_end e = Ok e
+
+module _ {D L : Type 0} (faults : D → ℕ) (may_leave : D → List ℕ → Type 0) (moment : D → ℕ) (left_since : D → ℕ → List ℕ → Type 0) (Works : List ℕ → List ℕ → Lane L → Lane L → Outcome → Type 0) (IsMoment : ℕ → Type 0) (r : Roster) where
+  module _ (start : OnDisk D) (lanes : List (Lane L)) (tape tape_now : Option Tape) (before : Option (List ℕ)) (now : OnDisk D) (lanes_now : List (Lane L)) (held sunk : Option (List ℕ)) (least waiting : ℕ) where
+    abbrev Over_Way : Over → Type 0
+    Over_Way over = IsUnderWay faults may_leave moment left_since Works IsMoment r start lanes tape tape_now (ended over) before now lanes_now [] false held least waiting
+
+    abbrev Over_Ends : ConnEnd → Type 0
+    Over_Ends = EndsHere faults may_leave moment left_since Works IsMoment r start lanes tape tape_now before now lanes_now sunk
+
+    -- a connection that ends by a fault of its next message
+    fault_ends : (fault : HttpFault) (end : ConnEnd) → Over_Way (Over.Fault fault) → EndsAt held sunk fault (Ok end) → Over_Ends end
+    fault_ends fault ConnEnd.Closed w e = absurd e
+    fault_ends fault ConnEnd.WriteFault w e = absurd e
+    fault_ends fault ConnEnd.Spent w e = absurd e
+    fault_ends fault ConnEnd.OutOfMemory w e = absurd e
+    fault_ends fault ConnEnd.Cut w e =
+        let answers = AnswersOn Works IsMoment r start.desk.history in
+        let c : Course L = record { told = w.told; lanes = lanes_now } in
+        let came : CameToFault tape tape_now w.requests HttpFault.Cut = subst (CameToFault tape tape_now w.requests) e.0 (none_late faults may_leave moment left_since Works IsMoment r start lanes tape tape_now (ended (Over.Fault fault)) before now lanes_now held least waiting w) in
+        (w.told, w.runs, (w.requests, all_served answers (begun lanes) c w.requests before held sunk least waiting w.replied e.1, came.0, came.1))
+    fault_ends fault ConnEnd.ReadFault w e =
+        let answers = AnswersOn Works IsMoment r start.desk.history in
+        let c : Course L = record { told = w.told; lanes = lanes_now } in
+        let came : CameToFault tape tape_now w.requests HttpFault.ReadFault = subst (CameToFault tape tape_now w.requests) e.0 (none_late faults may_leave moment left_since Works IsMoment r start lanes tape tape_now (ended (Over.Fault fault)) before now lanes_now held least waiting w) in
+        (w.told, w.runs, (w.requests, all_served answers (begun lanes) c w.requests before held sunk least waiting w.replied e.1, came.0, came.2))
+    fault_ends fault (ConnEnd.Refused f) w e =
+        let answers = AnswersOn Works IsMoment r start.desk.history in
+        let c : Course L = record { told = w.told; lanes = lanes_now } in
+        let came = none_late faults may_leave moment left_since Works IsMoment r start lanes tape tape_now (ended (Over.Fault fault)) before now lanes_now held least waiting w in (
+          w.told,
+          w.runs,
+          subst (λ (g : HttpFault). Refuses answers Took REQUEST_LIMIT tape tape_now before sunk (begun lanes) c g) (sym e.0)
+              (refuses answers Took tape tape_now before held sunk (begun lanes) c w.requests least waiting fault w.replied came e.1 (λ out is. took_behind before held sunk (refusal_bytes (WritesRefusal.status e.1)) out (WritesRefusal.took e.1) is)),
+        )
+
+    fault_fails : (fault : HttpFault) → Over_Way (Over.Fault fault) → WritesRefusal TookFront held sunk fault → Over_Ends ConnEnd.WriteFault
+    fault_fails fault w e =
+        let answers = AnswersOn Works IsMoment r start.desk.history in
+        let c : Course L = record { told = w.told; lanes = lanes_now } in
+        let came = none_late faults may_leave moment left_since Works IsMoment r start lanes tape tape_now (ended (Over.Fault fault)) before now lanes_now held least waiting w in
+        (w.told, w.runs, inr (fault, refuses answers TookFront tape tape_now before held sunk (begun lanes) c w.requests least waiting fault w.replied came e (λ out is. front_behind before held sunk (refusal_bytes e.status) out e.took is)))
+
+    -- all replies were put, and then it ended
+    pub over_ends : (over : Over) (end : ConnEnd) → Over_Way over → EndsOver held sunk over (Ok end) → Over_Ends end
+    over_ends Over.Closed end w (is, same) =
+        let answers = AnswersOn Works IsMoment r start.desk.history in
+        let c : Course L = record { told = w.told; lanes = lanes_now } in
+        let came = none_late faults may_leave moment left_since Works IsMoment r start lanes tape tape_now (ended Over.Closed) before now lanes_now held least waiting w in
+        subst Over_Ends (sym (closed_is end is)) (w.told, w.runs, (w.requests, all_served answers (begun lanes) c w.requests before held sunk least waiting w.replied same, came))
+      where
+        closed_is : (e : ConnEnd) → as_end e ≡ as_end ConnEnd.Closed → e ≡ ConnEnd.Closed
+        closed_is e is = cc is
+    over_ends Over.Spent end w (is, same) =
+        let answers = AnswersOn Works IsMoment r start.desk.history in
+        let c : Course L = record { told = w.told; lanes = lanes_now } in
+        let came = none_late faults may_leave moment left_since Works IsMoment r start lanes tape tape_now (ended Over.Spent) before now lanes_now held least waiting w in
+        subst Over_Ends (sym (spent_is end is)) (w.told, w.runs, (w.requests, all_served answers (begun lanes) c w.requests before held sunk least waiting w.replied same, came.0, came.1))
+      where
+        spent_is : (e : ConnEnd) → as_end e ≡ as_end ConnEnd.Spent → e ≡ ConnEnd.Spent
+        spent_is e is = cc is
+    over_ends (Over.Fault fault) end w e = fault_ends fault end w e
+
+    -- or the sink failed within the reply to a refusal
+    pub over_fails : (over : Over) (failed : Failed) → Over_Way over → EndsOver held sunk over (Err failed) → Over_Ends ConnEnd.WriteFault
+    over_fails Over.Closed failed w (is, same) = absurd (cc is)
+    over_fails Over.Spent failed w (is, same) = absurd (cc is)
+    over_fails (Over.Fault fault) failed w e = fault_fails fault w e
+
+-- the causes of an end where the sink failed
+pub write_failed : (read read_now write write_now : ℕ) → read_now ≡ read → write ≤ write_now → Rises write write_now → HasCauses read read_now write write_now ConnEnd.WriteFault
+write_failed read read_now write write_now reads later rose = record {
+  read_later = omega (arith, reads);
+  write_later = later;
+  read_fault = λ is. absurd (cc is);
+  write_fault = λ is. rose;
+  read_same = λ other. reads;
+  write_same = λ other. absurd (other refl);
+}

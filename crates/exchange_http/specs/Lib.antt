@@ -1,0 +1,6 @@
+pub mod Records
+pub mod Serving
+pub mod Gathered
+pub mod Running
+pub mod Asking
+pub mod Laws

@@ -1,0 +1,34 @@
+//! The exchange on a connection: requests for bids, notices and the books over HTTP/1.1.
+//!
+//! `serve_connection` reads messages from a source, asks bidders over links, keeps the day on a desk, and puts the reply to
+//! each message into a sink, in their order. Its contract names the messages, the calls that they made, what they were
+//! replied, what the disk keeps of it, and why no more were read. `make_ask` is the ask of a request and its answers.
+//! Stands on `adx_desk`, `fan_out`, `http_service`, `rtb_response` and `notice_macros`.
+#![tactic(auto)]
+
+mod asking;
+mod asks;
+mod at_end;
+mod clock;
+mod ending;
+#[cfg(test)]
+mod fault_tests;
+mod floor;
+mod keeping;
+mod laws;
+mod messages;
+mod notices;
+mod others;
+mod outgoing;
+mod outlet;
+mod over;
+mod serving;
+mod stop;
+#[cfg(test)]
+mod tests;
+mod waiting;
+
+pub use asks::make_ask;
+pub use clock::{Clock, FixedClock};
+pub use laws::{has_meaning, one_reply};
+pub use serving::serve_connection;

@@ -1,0 +1,139 @@
+//! A connection, from its first message to its end.
+ghost use Rattle.std.specs.Prelude.{◌≡◌, ◌≤◌, [], drop, false, vec_capacity};
+ghost use Rattle.adx_desk.specs.Rosters.{desk_terms};
+ghost use Rattle.fan_out.specs.Lanes.{IsWorked};
+ghost use Rattle.http_service.specs.Connections.{HasCauses};
+ghost use Rattle.http_service.specs.declared.limits.TheConstants.{REQUEST_LIMIT as request_limit};
+ghost use Rattle.exchange_http.specs.Running.{EndsHere, IsFloor, IsSettled};
+ghost use Rattle.exchange_http.specs.Serving.{AreLanes, IsMomentOf, ServesConnection};
+ghost use Rattle.exchange_http.specs.declared.outgoing.TheConstants.{ROOM as room_size};
+
+use crate::clock::Clock;
+use crate::ending::finish;
+use crate::floor::Floor;
+use crate::keeping::Keeping;
+use crate::messages::serve_all;
+use crate::outgoing::{Outgoing, room};
+use crate::outlet::Outlet;
+use crate::stop::Stop;
+use crate::waiting::Waiting;
+use adx_desk::Desk;
+use adx_http::{Conn, ConnEnd};
+use adx_io::{Disk, Sink, Source};
+use adx_links::Link;
+use adx_units::OutOfMemory;
+use deal_floor::Roster;
+use fan_out::Lane;
+use http_service::REQUEST_LIMIT;
+use std::alloc::Global;
+
+/// Nothing waits, and nothing is gathered for the sink.
+fn keeping_over<K: Sink>(
+    alloc: Global,
+    waiting: Waiting,
+    bytes: Vec<u8>,
+    sink: K,
+) -> Keeping<Outgoing<K>>
+    requires none { waiting.batch.calls ≡ [] }
+    requires bytes { bytes.items ≡ [] }
+    requires room { room_size ≤ vec_capacity bytes }
+    ensures none { result.waiting.batch.calls ≡ [] }
+    ensures sink { result.outlet.sink ≡ sink }
+    ensures settled { (drop result.outlet.put result.outlet.bytes.items ≡ []) × (result.outlet.waiting ≡ 0) × (result.outlet.settled.value ≡ sink) }
+{
+    Keeping {
+        waiting,
+        outlet: Outgoing::over(bytes, sink),
+        body: String::new(alloc),
+    }
+}
+
+/// Gives back the sink.
+fn close<K: Sink + Drop>(keeping: Keeping<Outgoing<K>>) -> K
+    ensures { result ≡ keeping.outlet.sink }
+{
+    keeping.outlet.close()
+}
+
+/// Serves the messages of a connection, and ends it.
+fn serve_over<D: Disk, L: Link, C: Clock, S: Source, O: Outlet>(
+    alloc: Global,
+    floor: &mut Floor<'_, D, L, C>,
+    keeping: &mut Keeping<O>,
+    conn: &mut Conn,
+    source: &mut S,
+) -> ConnEnd
+    requires floor { IsFloor floor.old.roster.now floor.old.desk.now floor.old.lanes.now.items }
+    requires conn { conn.old ≡ record { held = []; failed = false; limit = request_limit } }
+    requires none { keeping.old.waiting.batch.calls ≡ [] }
+    requires settled { IsSettled (O.held keeping.old.outlet) (O.left keeping.old.outlet) (O.least keeping.old.outlet) }
+    ensures ends { EndsHere D.faults D.may_leave D.moment D.left_since (IsWorked L.exchanges L.course L.faults L.place) (IsMomentOf (C.moment floor.old.clock.now)) floor.old.roster.now floor.old.desk.now floor.old.lanes.now.items (S.tape source.old) (S.tape source.new) (O.held keeping.old.outlet) floor.new.desk.now floor.new.lanes.now.items (O.sunk keeping.new.outlet) result }
+    ensures floor { IsFloor floor.new.roster.now floor.new.desk.now floor.new.lanes.now.items }
+    ensures rest { (floor.new.roster ≡ floor.old.roster) × (floor.new.clock ≡ floor.old.clock) × (floor.new.desk.ghost_name ≡ floor.old.desk.ghost_name) × (floor.new.lanes.ghost_name ≡ floor.old.lanes.ghost_name) }
+    ensures causes { HasCauses (S.faults source.old) (S.faults source.new) (O.faults keeping.old.outlet) (O.faults keeping.new.outlet) result }
+    ensures source { S.place source.new ≡ S.place source.old }
+    ensures place { O.place keeping.new.outlet ≡ O.place keeping.old.outlet }
+    ensures lasts { D.lasts floor.old.desk.now.disk floor.new.desk.now.disk }
+{
+    match serve_all(alloc, floor, keeping, conn, source) {
+        Ok(over) => match finish(floor, keeping, over) {
+            Ok(end) => end,
+            Err(_) => ConnEnd::WriteFault,
+        },
+        Err(Stop::WriteFault) => ConnEnd::WriteFault,
+        Err(Stop::OutOfMemory) => ConnEnd::OutOfMemory,
+        Err(Stop::ReadFault) => ConnEnd::ReadFault,
+    }
+}
+
+/// Serves a connection of an exchange: reads messages from the source, and puts the reply to each into the sink, in their
+/// order. A request for bids at `/openrtb` is looked up; where it is new every lane's bidder is asked; then the clock is
+/// read, the desk ticks and takes the ask at that moment. Notices that stand whole in what was taken are taken together,
+/// up to 32 of them in one record of the journal, and one by one where the disk failed at that. What was written is put
+/// before more is taken from the source and before bidders are asked, and no more than 32 messages have been taken whose
+/// replies the sink hasn't.
+///
+/// Ends with the source between two messages, or behind a reply that says `close` (`Closed`); within a message (`Cut`); at
+/// a message that is refused, its reply written (`Refused`); at a fault of the source or of the sink, whose count rose
+/// (`ReadFault`, `WriteFault`); after `MESSAGE_LIMIT` messages (`Spent`); or where memory is refused (`OutOfMemory`), the
+/// replies to all messages before put. A fault of the disk is answered by a reply, and the connection goes on.
+pub fn serve_connection<'a, S: Source, K: Sink, D: Disk, L: Link, C: Clock>(
+    alloc: Global,
+    roster: &'a Roster,
+    desk: &'a mut Desk<D>,
+    links: &'a mut Vec<Lane<L>>,
+    source: &mut S,
+    sink: &mut K,
+    clock: &'a C,
+) -> ConnEnd
+    requires terms { desk.old.desk.terms ≡ desk_terms roster.now }
+    requires lanes { AreLanes roster.now links.old.items }
+    ensures serves { ServesConnection D.faults D.may_leave D.moment D.left_since (IsWorked L.exchanges L.course L.faults L.place) (IsMomentOf (C.moment clock.entry.now)) roster.entry.now (S.tape source.old) (S.tape source.new) (K.held sink.old) (K.held sink.new) links.old.items links.new.items desk.old desk.new result }
+    ensures causes { HasCauses (S.faults source.old) (S.faults source.new) (K.faults sink.old) (K.faults sink.new) result }
+    ensures lanes { AreLanes roster.entry.now links.new.items }
+    ensures lasts { D.lasts desk.old.disk desk.new.disk }
+    ensures source { S.place source.new ≡ S.place source.old }
+    ensures sink { K.place sink.new ≡ K.place sink.old }
+{
+    // A desk's history is legal.
+    let _entries = desk.entries();
+    let Ok(mut conn) = Conn::new(alloc, REQUEST_LIMIT) else {
+        return ConnEnd::OutOfMemory;
+    };
+    let Ok(waiting) = Waiting::new(alloc) else {
+        return ConnEnd::OutOfMemory;
+    };
+    let Ok(bytes) = room(alloc) else {
+        return ConnEnd::OutOfMemory;
+    };
+    let mut keeping = keeping_over(alloc, waiting, bytes, &mut *sink);
+    let mut floor = Floor {
+        roster,
+        desk,
+        lanes: links,
+        clock,
+    };
+    let end = serve_over(alloc, &mut floor, &mut keeping, &mut conn, source);
+    let _ = close(keeping);
+    end
+}
