@@ -1,0 +1,3 @@
+pub mod OnDisk
+pub mod Connecting
+pub mod Serving

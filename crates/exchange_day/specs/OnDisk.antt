@@ -1,0 +1,37 @@
+-- What the disk keeps of a day whose notices may be written together, at each moment and at the end. This project's own.
+use Rattle.std.specs.Prelude.{◌≡◌, ◌⊎◌, ℕ, List, [], length, Option, Some}
+use Rattle.adx_io.specs.Disks.{Each, LeavesOnly}
+use Rattle.adx_desk.specs.Histories.{DeskTerms, IsHistoryOf, WithOrWithout}
+use Rattle.adx_desk.specs.Openings.{StandsAsOneOf}
+use Rattle.day_rules.specs.declared.entry.Entry.{Entry}
+use Rattle.day_rules.specs.Runs.{AreTurns}
+use Rattle.exchange_http.specs.Records.{CountsAmong, IsLeftInDoubt, StandsInRunFrom}
+use Rattle.script_day.specs.Calls.{HasBooks}
+use Rattle.script_day.specs.Meanings.{Told, turns_of}
+use Rattle.script_day.specs.OnDisk.{FullEach, history_after}
+
+-- Behind these calls the disk keeps their history: each image stands for it, or for it and one record in doubt.
+pub record KeepsHistory (images : List ℕ → Type 0) (terms : DeskTerms) (start : List Entry) (told : List Told) : Type 0 where
+  pub tail : List Entry
+  pub doubted : (tail ≡ []) ⊎ IsLeftInDoubt terms.day start told tail
+  pub each : Each images (WithOrWithout terms (history_after terms.day start told) tail)
+
+-- what a crash at some moment of a day leaves: the history of an image from before it, or one of its run
+abbrev pub StandsAmong : DeskTerms → (List ℕ → Type 0) → List Entry → List Told → List ℕ → Type 0
+StandsAmong terms images start told file = StandsAsOneOf terms images file ⊎ StandsInRunFrom terms start [] told file
+
+-- A day that was served on a disk, from a history, with these calls, whose notices may have been written together.
+pub record ServesTogether {D : Type 0} (faults : D → ℕ) (reads : D → Option (List ℕ)) (may_leave : D → List ℕ → Type 0) (moment : D → ℕ) (left_since : D → ℕ → List ℕ → Type 0) (terms : DeskTerms) (start : List Entry) (told : List Told) (old new : D) : Type 0 where
+  -- It began with the history that the file stood for, where the disk tells what it reads.
+  pub begins : (file : List ℕ) → reads old ≡ Some file → IsHistoryOf terms file start
+  -- The calls are some that a day takes, and their books are those of the headline.
+  pub taken : AreTurns (length terms.day.budgets) (turns_of told)
+  pub books : HasBooks terms.day start (turns_of told) (history_after terms.day start told)
+  -- The disk's count rose in each call that its fault gave up, and else only by a record of several notices,
+  pub counted : CountsAmong (faults old) told (faults new)
+  -- and a call was told that the journal is full only where it may be.
+  pub full : FullEach terms start told
+  -- Where the disk tells what it reads, it keeps the history of the run now,
+  pub keeps : (file : List ℕ) → reads old ≡ Some file → KeepsHistory (may_leave new) terms start told
+  -- and a crash at any moment leaves the history of an image from before, or one of the run, with at most one record.
+  pub any_moment : (file : List ℕ) → reads old ≡ Some file → LeavesOnly moment left_since old new (StandsAmong terms (may_leave old) start told)
