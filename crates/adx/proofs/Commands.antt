@@ -13,6 +13,7 @@ use Rattle.script_day.proofs.Days.{unbegun as unserved}
 use Rattle.script_day.proofs.Told.{told_start}
 use Rattle.adx_books.specs.GeneratedEnds.{ServesGenerated}
 use Rattle.adx_notices.proofs.Ends.{unbegun as unprinted}
+use Rattle.exchange_day.proofs.Ends.{unbegun as unconnected}
 use Rattle.adx.specs.Commands.{Does, DoesAsRead, IsCommand, Runs}
 use Rattle.adx.specs.Statuses.{status_of}
 
@@ -51,6 +52,7 @@ module _ {D : Type 0} (faults : D → ℕ) (reads : D → Option (List ℕ)) (ma
   -- whatever was to run ends so
   unstarted : (read : Option Command) → Runs faults reads may_leave moment left_since tape tape held held disk disk 12 read
   unstarted (Some (Command.Day journal)) = record { ending = no_memory; told = refl; serves = unserved faults reads may_leave moment left_since tape held disk }
+  unstarted (Some (Command.Connection journal)) = record { ending = no_memory; told = refl; ends = unconnected faults reads may_leave moment left_since tape held disk }
   unstarted (Some (Command.Notices journal)) = record { ending = no_memory; told = refl; ends = unprinted faults reads may_leave moment left_since tape held disk }
   unstarted (Some Command.Bidder) = record { ending = no_memory; told = refl; ends = bidder_unserved }
   unstarted (Some (Command.Generate seed asks)) = record { ending = no_memory; told = refl; serves = generated_untaken seed asks }
@@ -74,6 +76,7 @@ plain_does runs source source_now disk disk_now words does command plain =
 module _ {D : Type 0} (faults : D → ℕ) (reads : D → Option (List ℕ)) (may_leave : D → List ℕ → Type 0) (moment : D → ℕ) (left_since : D → ℕ → List ℕ → Type 0) (tape tape_now : Option Tape) (held held_now : Option (List ℕ)) (old new : D) where
   not_refused : (command : Command) → Runs faults reads may_leave moment left_since tape tape_now held held_now old new 2 (Some command) → ⊥
   not_refused (Command.Day journal) runs = not_two runs.ending runs.told
+  not_refused (Command.Connection journal) runs = not_two runs.ending runs.told
   not_refused (Command.Notices journal) runs = not_two runs.ending runs.told
   not_refused Command.Bidder runs = not_two runs.ending runs.told
   not_refused (Command.Generate seed asks) runs = not_two runs.ending runs.told

@@ -13,11 +13,16 @@ use Rattle.script_day.specs.Endings.{TookFront}
 use Rattle.script_day.specs.declared.ending.Ending.{Ending}
 use Rattle.adx_books.specs.GeneratedEnds.{ServesGenerated}
 use Rattle.adx_notices.specs.Notices.{EndsNotices}
+use Rattle.exchange_day.specs.Connecting.{EndsExchange}
 use Rattle.adx.specs.Statuses.{status_of}
 
 -- the words serve a day, in plain spelling: with no journal, or with one in a file
 abbrev pub IsDay : List (List ℕ) → Type 0
 IsDay words = (journal : Option (List ℕ)) × IsPlain (Command.Day journal) words
+
+-- the words serve a day on a connection: with no journal, or with one in a file
+abbrev pub IsConnection : List (List ℕ) → Type 0
+IsConnection words = (journal : Option (List ℕ)) × IsPlain (Command.Connection journal) words
 
 -- the words serve a bidder's connection
 abbrev pub IsBidder : List (List ℕ) → Type 0
@@ -47,6 +52,12 @@ pub record RunsDay {D : Type 0} (faults : D → ℕ) (reads : D → Option (List
   pub ending : Result (Unit {0}) Ending
   pub told : status ≡ status_of ending
   pub serves : ServesDay faults reads may_leave moment left_since tape tape_now held held_now old new ending
+
+-- A day on a connection ended so over a source, a sink and a disk, told by the exit status.
+pub record RunsConnection {D : Type 0} (faults : D → ℕ) (reads : D → Option (List ℕ)) (may_leave : D → List ℕ → Type 0) (moment : D → ℕ) (left_since : D → ℕ → List ℕ → Type 0) (tape tape_now : Option Tape) (held held_now : Option (List ℕ)) (old new : D) (status : ℕ) : Type 0 where
+  pub ending : Result (Unit {0}) Ending
+  pub told : status ≡ status_of ending
+  pub ends : EndsExchange faults reads may_leave moment left_since tape tape_now held held_now old new ending
 
 -- A bidder's run ended so over a source and a sink, told by the exit status.
 pub record RunsBidder (tape tape_now : Option Tape) (held held_now : Option (List ℕ)) (status : ℕ) : Type 0 where
@@ -82,6 +93,8 @@ abbrev pub Runs : {D : Type 0} → (D → ℕ) → (D → Option (List ℕ)) →
     → Option Tape → Option Tape → Option (List ℕ) → Option (List ℕ) → D → D → ℕ → Option Command → Type 0
 Runs faults reads may_leave moment left_since tape tape_now held held_now old new status (Some (Command.Day journal)) =
     RunsDay faults reads may_leave moment left_since tape tape_now held held_now old new status
+Runs faults reads may_leave moment left_since tape tape_now held held_now old new status (Some (Command.Connection journal)) =
+    RunsConnection faults reads may_leave moment left_since tape tape_now held held_now old new status
 Runs faults reads may_leave moment left_since tape tape_now held held_now old new status (Some (Command.Notices journal)) =
     RunsNotices faults reads may_leave moment left_since tape tape_now held held_now old new status
 Runs faults reads may_leave moment left_since tape tape_now held held_now old new status (Some Command.Bidder) = RunsBidder tape tape_now held held_now status
@@ -94,6 +107,7 @@ Runs faults reads may_leave moment left_since tape tape_now held held_now old ne
 -- a run of what was read asks nothing of the source
 abbrev pub AsksNothing : Option Command → Type 0
 AsksNothing (Some (Command.Day journal)) = ⊥
+AsksNothing (Some (Command.Connection journal)) = ⊥
 AsksNothing (Some (Command.Notices journal)) = ⊥
 AsksNothing (Some Command.Bidder) = ⊥
 AsksNothing _ = Unit {0}
@@ -101,6 +115,7 @@ AsksNothing _ = Unit {0}
 -- a run of what was read leaves the disk as it is
 abbrev pub LeavesDisk : Option Command → Type 0
 LeavesDisk (Some (Command.Day journal)) = ⊥
+LeavesDisk (Some (Command.Connection journal)) = ⊥
 LeavesDisk (Some (Command.Notices journal)) = ⊥
 LeavesDisk (Some (Command.Generate seed asks)) = ⊥
 LeavesDisk _ = Unit {0}
@@ -118,5 +133,6 @@ DoesAsRead runs source source_now disk disk_now words = (read : Option Command) 
 -- the file of a journal that what was read names, if it names one
 abbrev pub IsJournalOf : Option Command → Option (List ℕ) → Type 0
 IsJournalOf (Some (Command.Day journal)) file = file ≡ journal
+IsJournalOf (Some (Command.Connection journal)) file = file ≡ journal
 IsJournalOf (Some (Command.Notices journal)) file = file ≡ Some journal
 IsJournalOf _ file = file ≡ None

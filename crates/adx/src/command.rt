@@ -7,7 +7,7 @@ ghost use Rattle.command_words.specs.declared.command.Command.{Command as Meanin
 ghost use Rattle.command_words.specs.declared.command.Topic.{Topic as HelpTopic};
 ghost use Rattle.script_day.specs.Days.{HasOneOutput, HasOutputs};
 ghost use Rattle.adx.specs.Statuses.{HasCauses, HasDiskCauses};
-ghost use Rattle.adx.specs.Commands.{AsksNothing, Does, DoesAsRead, IsBidder, IsCommand, IsDay, IsGenerated, IsHelp, IsNotices, IsVersion, LeavesDisk, Runs, RunsBidder, RunsDay, RunsGenerated, RunsNotices, Tells};
+ghost use Rattle.adx.specs.Commands.{AsksNothing, Does, DoesAsRead, IsBidder, IsCommand, IsConnection, IsDay, IsGenerated, IsHelp, IsNotices, IsVersion, LeavesDisk, Runs, RunsBidder, RunsConnection, RunsDay, RunsGenerated, RunsNotices, Tells};
 
 use crate::status::{DONE, NO_COMMAND, OUT_OF_MEMORY, WRITE_FAULT, status_of};
 use adx_books::{Generator, serve_generated};
@@ -16,6 +16,7 @@ use adx_notices::serve_notices;
 use adx_units::Text;
 use bidder_day::serve_prices;
 use command_words::{Command, VERSION, command_of, help_of};
+use exchange_day::serve_exchange;
 use script_day::serve_day;
 use std::alloc::Global;
 
@@ -57,6 +58,10 @@ fn run<S: Source, K: Sink, D: Disk>(
     match read {
         Some(Command::Day { .. }) => {
             let ended = serve_day(alloc, source, sink, disk);
+            status_of(ended)
+        }
+        Some(Command::Connection { .. }) => {
+            let ended = serve_exchange(alloc, source, sink, disk);
             status_of(ended)
         }
         Some(Command::Notices { .. }) => {
@@ -107,6 +112,11 @@ fn run_words<S: Source, K: Sink, D: Disk>(
 /// answers is put into the sink before more is asked of the source. A call that a fault of the disk gives up, or that
 /// the journal has no room for, is answered so, and the run goes on.
 ///
+/// The command `conn` reads a roster line, opens the roster's day on the disk, and serves the HTTP connection that comes
+/// behind the line: requests for bids, which bidders answer that give the roster's `replies` one after the other, notices,
+/// and the books. An entry is in the journal before its reply is put. A call that a fault of the disk gives up is replied
+/// so, and the connection goes on.
+///
 /// The command `notices` reads a roster line and ignores what comes behind it. It opens the roster's day on the disk, and
 /// writes a line for each post that the day's history owes its bidders: its kind, a space and its URL. Nothing is added to
 /// the history. Past 2^36 bytes of input it writes the line of a roster that is too long.
@@ -122,7 +132,7 @@ fn run_words<S: Source, K: Sink, D: Disk>(
 /// Words in plain spelling are taken: the command's word comes first, and behind it each of its options stands once, as
 /// two words, in any order, its value not beginning with `-`. Other spellings do what `clap` reads of them.
 ///
-/// The status is 0 where the source was read to its end, for `bidder` to that of the connection, and no call was given up
+/// The status is 0 where the source was read to its end, for `conn` and `bidder` to that of the connection, and no call was given up
 /// by the disk; 2 where the words aren't
 /// a command, and then the sink takes a usage line; 3 where the first line isn't a roster, or the input passes 2^36
 /// bytes, of which one more is taken; 4 where the source failed, and then the sink took the answers to all whole lines
@@ -140,6 +150,7 @@ pub fn adx<S: Source, K: Sink, D: Disk>(
     disk: &mut D,
 ) -> u8
     ensures day { IsDay words.now → RunsDay D.faults D.reads D.may_leave D.moment D.left_since (S.tape source.old) (S.tape source.new) (K.held sink.old) (K.held sink.new) disk.old disk.new result }
+    ensures connection { IsConnection words.now → RunsConnection D.faults D.reads D.may_leave D.moment D.left_since (S.tape source.old) (S.tape source.new) (K.held sink.old) (K.held sink.new) disk.old disk.new result }
     ensures bidder { IsBidder words.now → RunsBidder (S.tape source.old) (S.tape source.new) (K.held sink.old) (K.held sink.new) result }
     ensures generated { (seed asks : ℕ) → IsGenerated words.now seed asks → RunsGenerated D.faults D.reads D.may_leave D.moment D.left_since seed asks (K.held sink.old) (K.held sink.new) disk.old disk.new result }
     ensures notices { IsNotices words.now → RunsNotices D.faults D.reads D.may_leave D.moment D.left_since (S.tape source.old) (S.tape source.new) (K.held sink.old) (K.held sink.new) disk.old disk.new result }

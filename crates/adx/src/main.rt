@@ -2,12 +2,14 @@
 //!
 //! The call `adx` of the module `command` does all that the program does, from the words of its command
 //! line and the bytes of a source to those of a sink; its contract is the program's. It stands on `command_words`, which
-//! reads the words, on `script_day`, which serves a day of script lines, on `adx_notices`, which prints the notices of a
-//! day, on `bidder_day`, which serves a bidder's connection, on `adx_books`, which generates a day, on `adx_io` and on
-//! `adx_units`.
+//! reads the words, on `script_day`, which serves a day of script lines, on `exchange_day`, which serves a day on a
+//! connection, on `adx_notices`, which prints the notices of a day, on `bidder_day`, which serves a bidder's connection, on
+//! `adx_books`, which generates a day, on `adx_io` and on `adx_units`.
 #![tactic(auto)]
 
 mod command;
+#[cfg(test)]
+mod connection_tests;
 #[cfg(test)]
 mod generated_tests;
 #[cfg(test)]

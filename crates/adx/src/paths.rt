@@ -22,6 +22,7 @@ fn journal_of(read: Option<Command>) -> Option<Text>
 {
     match read {
         Some(Command::Day { journal }) => journal,
+        Some(Command::Connection { journal }) => journal,
         Some(Command::Notices { journal }) => Some(journal),
         _ => None,
     }

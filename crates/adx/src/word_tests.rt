@@ -14,6 +14,13 @@ day --journal -a => 2 usage: adx COMMAND
 day --journal a --journal a => 2 usage: adx COMMAND
 day a => 2 usage: adx COMMAND
 days => 2 usage: adx COMMAND
+conn => 3 {"answer":"roster","why":"cut"}
+conn --journal a => 3 {"answer":"roster","why":"cut"}
+conn --journal=a => 3 {"answer":"roster","why":"cut"}
+conn --journal => 2 usage: adx COMMAND
+conn --journal a --journal a => 2 usage: adx COMMAND
+conn a => 2 usage: adx COMMAND
+connection => 2 usage: adx COMMAND
 notices --journal a => 3 {"answer":"roster","why":"cut"}
 notices --journal=a => 3 {"answer":"roster","why":"cut"}
 notices => 2 usage: adx COMMAND
@@ -43,6 +50,7 @@ Gen --seed 7 --asks 250 => 2 usage: adx COMMAND
 --help => 0 adx serves a day of an advertising exchange, or a bidder of one.
 -h => 0 adx serves a day of an advertising exchange, or a bidder of one.
 day --help => 0 usage: adx day [--journal FILE]
+conn --help => 0 usage: adx conn [--journal FILE]
 notices --help => 0 usage: adx notices --journal FILE
 bidder --help => 0 usage: adx bidder
 gen --help => 0 usage: adx gen --seed N --asks M

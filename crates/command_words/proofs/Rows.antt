@@ -18,7 +18,7 @@ use Rattle.clap.specs.declared.parser.matches.ArgMatches.TheViews.{out-ArgMatche
 use Rattle.clap.specs.Walk.{Row as Found}
 use Rattle.clap.specs.declared.error.kind.ErrorKind.{ErrorKind}
 use Rattle.command_words.specs.Spelling.{Given, Row, Spells, has_option, value_of, words_of}
-use Rattle.command_words.specs.Meanings.{IsPlain, asks_name, bidder, day, generator, help_word, journal_name, notices, number_of, seed_name, version_word, words_before_help}
+use Rattle.command_words.specs.Meanings.{IsPlain, asks_name, bidder, connection, day, generator, help_word, journal_name, notices, number_of, seed_name, version_word, words_before_help}
 use Rattle.command_words.specs.Taken.{Comes, IsReadingOf, answer, answer_by, application, command_found, generate, print_notices, subcommand_for}
 use Rattle.command_words.specs.declared.command.Command.{Command}
 use Rattle.command_words.specs.declared.command.Topic.{Topic}
@@ -62,6 +62,22 @@ day_built : IsBuilt day
 day_built = record {
   command = day_command;
   options = λ name is. one_name (HasOption (shape_by day).rules) name journal_name false is journal_option (λ none. absurd (true≢false (sym none)));
+  defaults = refl;
+  checked = λ given complete. refl;
+  name = refl;
+}
+
+connection_option : HasOption (shape_by connection).rules journal_name
+connection_option = record { needed = false; is_long = refl; is_named = refl; by_long = refl; by_id = refl }
+
+connection_command : HasCommand program connection.word (shape_by connection)
+unfolding clap_on_literals
+connection_command = record { stops = refl; turns = refl; found = refl; checked = refl }
+
+connection_built : IsBuilt connection
+connection_built = record {
+  command = connection_command;
+  options = λ name is. one_name (HasOption (shape_by connection).rules) name journal_name false is connection_option (λ none. absurd (true≢false (sym none)));
   defaults = refl;
   checked = λ given complete. refl;
   name = refl;
@@ -169,6 +185,7 @@ help_asked : (topic : Topic) → fault_of application (words_before_help topic +
 unfolding clap_on_literals
 help_asked Topic.Program = refl
 help_asked Topic.Day = refl
+help_asked Topic.Connection = refl
 help_asked Topic.Notices = refl
 help_asked Topic.Bidder = refl
 help_asked Topic.Generate = refl
@@ -176,6 +193,7 @@ help_asked Topic.Generate = refl
 help_answered : (topic : Topic) → answer (Some ErrorKind.DisplayHelp) (words_before_help topic ++ help_word ∷ []) ≡ Some (Command.Help topic)
 help_answered Topic.Program = refl
 help_answered Topic.Day = refl
+help_answered Topic.Connection = refl
 help_answered Topic.Notices = refl
 help_answered Topic.Bidder = refl
 help_answered Topic.Generate = refl
@@ -190,6 +208,10 @@ plain_read (Command.Day journal) words (row, given, spells, is) =
     let its = takes row given words (subst IsBuilt (sym is.0) day_built) spells in
     taken (Command.Day journal) words its.0
     (ap command_found (its.1 ∙ ap (λ (r : Row). Some (r.word, map row_for given)) is.0) ∙ ap (λ j. Some (Command.Day j)) (first_found journal_name given ∙ is.1))
+plain_read (Command.Connection journal) words (row, given, spells, is) =
+    let its = takes row given words (subst IsBuilt (sym is.0) connection_built) spells in
+    taken (Command.Connection journal) words its.0
+    (ap command_found (its.1 ∙ ap (λ (r : Row). Some (r.word, map row_for given)) is.0) ∙ ap (λ j. Some (Command.Connection j)) (first_found journal_name given ∙ is.1))
 plain_read (Command.Notices journal) words (row, given, spells, is) =
     let its = takes row given words (subst IsBuilt (sym is.0) notices_built) spells in
     taken (Command.Notices journal) words its.0

@@ -1,5 +1,5 @@
 -- What clap's walk makes of options in plain spelling.
-use Rattle.std.proofs.Common.{◌≡◌, ◌∙◌, sym, ap, subst, refl, ◌&&◌, ◌||◌, cond, Bool, true, false, not, List, [], ◌∷◌, ◌++◌, map, Some, None, rules, nat_lt, true≢false, append-nil, append_assoc}
+use Rattle.std.proofs.Common.{◌≡◌, ◌∙◌, sym, ap, subst, refl, ◌&&◌, ◌||◌, cond, Bool, true, false, not, List, [], ◌∷◌, ◌++◌, map, Some, None, nat_lt, true≢false, append-nil, append_assoc}
 use Rattle.std.specs.List.{All, AllByRecursion, IsDistinct, fold}
 use Rattle.std.specs.Option.{option_map_or}
 use Rattle.std.specs.Str.{bytes_eq}
@@ -7,7 +7,6 @@ use Rattle.std.proofs.lemmas.List.Elements.{All-cons, All-head, All-nil, All-tai
 use Rattle.std.proofs.lemmas.Slice.Eq.{bytes_eq-Decides}
 use Rattle.clap.specs.Lexer.{long_of, short_of}
 use Rattle.clap.specs.Walk.{Held, Outcome, Row, Rule, Step, Text, Walk, arg_by_id, arg_by_long, at_row, after_flag, after_step, idle, option, settled, trailing, walk_from, walked, has_row, long_met, long_or_other, with_values, short_or_plain, option_word, next, used_by_id, more_values}
-use Rattle.clap.specs.Walk as clap_walk
 use Rattle.clap.specs.Simple.{Shape, filled, new_rule}
 use Rattle.clap.specs.Faults.{bundle_fault, flag_word_fault, long_fault, settle_fault, step_fault, turn_fault, use_fault, walk_fault}
 use Rattle.clap.specs.Kinds.{Kinds, or_else}

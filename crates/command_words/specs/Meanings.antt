@@ -20,6 +20,10 @@ asks_name = codes "asks"
 abbrev pub day : Row
 day = record { word = codes "day"; needed = []; optional = journal_name ∷ [] }
 
+-- conn [--journal FILE]
+abbrev pub connection : Row
+connection = record { word = codes "conn"; needed = []; optional = journal_name ∷ [] }
+
 -- notices --journal FILE
 abbrev pub notices : Row
 notices = record { word = codes "notices"; needed = journal_name ∷ []; optional = [] }
@@ -34,7 +38,7 @@ generator = record { word = codes "gen"; needed = seed_name ∷ asks_name ∷ []
 
 -- the commands that the program has
 abbrev pub commands : List Row
-commands = day ∷ notices ∷ bidder ∷ generator ∷ []
+commands = day ∷ connection ∷ notices ∷ bidder ∷ generator ∷ []
 
 -- the number that an option's value tells: decimal, without a sign or a leading zero, and at most so much
 abbrev pub number_of : ℕ → Option (List ℕ) → Option ℕ
@@ -43,6 +47,7 @@ number_of most = option_and_then (whole_up_to most)
 -- what these options of a command ask for
 abbrev pub AsksFor : Command → Row → List Given → Type 0
 AsksFor (Command.Day journal) row given = (row ≡ day) × (value_of journal_name given ≡ journal)
+AsksFor (Command.Connection journal) row given = (row ≡ connection) × (value_of journal_name given ≡ journal)
 AsksFor (Command.Notices journal) row given = (row ≡ notices) × (value_of journal_name given ≡ Some journal)
 AsksFor Command.Bidder row given = row ≡ bidder
 AsksFor (Command.Generate seed asks) row given =
@@ -61,6 +66,7 @@ version_word = dashed (codes "version")
 abbrev pub words_before_help : Topic → List (List ℕ)
 words_before_help Topic.Program = []
 words_before_help Topic.Day = day.word ∷ []
+words_before_help Topic.Connection = connection.word ∷ []
 words_before_help Topic.Notices = notices.word ∷ []
 words_before_help Topic.Bidder = bidder.word ∷ []
 words_before_help Topic.Generate = generator.word ∷ []

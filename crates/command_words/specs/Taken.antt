@@ -10,7 +10,7 @@ use Rattle.clap.specs.Walk.{Rule, first_of}
 use Rattle.clap.specs.Walk.{Row as Found}
 use Rattle.clap.specs.declared.error.kind.ErrorKind.{ErrorKind}
 use Rattle.command_words.specs.Spelling.{Row}
-use Rattle.command_words.specs.Meanings.{asks_name, bidder, commands, day, generator, journal_name, notices, number_of, seed_name}
+use Rattle.command_words.specs.Meanings.{asks_name, bidder, commands, connection, day, generator, journal_name, notices, number_of, seed_name}
 use Rattle.command_words.specs.declared.command.Command.{Command}
 use Rattle.command_words.specs.declared.command.Topic.{Topic}
 use Rattle.command_words.specs.declared.command.TheConstants.{MOST_ASKS}
@@ -50,6 +50,7 @@ print_notices = option_map (λ j. Command.Notices j)
 abbrev pub command_by : List ℕ → List Found → Option Command
 command_by word found =
     if bytes_eq word day.word then Some (Command.Day (first_of journal_name found))
+    else if bytes_eq word connection.word then Some (Command.Connection (first_of journal_name found))
     else if bytes_eq word notices.word then print_notices (first_of journal_name found)
     else if bytes_eq word bidder.word then Some Command.Bidder
     else if bytes_eq word generator.word then generate (number_of (2 ^ 64 - 1) (first_of seed_name found)) (number_of MOST_ASKS (first_of asks_name found))
@@ -62,6 +63,7 @@ command_found = option_and_then (λ sub. command_by sub.0 sub.1)
 abbrev pub topic_by : List ℕ → Topic
 topic_by word =
     if bytes_eq word day.word then Topic.Day
+    else if bytes_eq word connection.word then Topic.Connection
     else if bytes_eq word notices.word then Topic.Notices
     else if bytes_eq word bidder.word then Topic.Bidder
     else if bytes_eq word generator.word then Topic.Generate

@@ -3,7 +3,7 @@ ghost use Rattle.std.specs.Prelude.{◌≡◌, ◌∷◌, [], IfOk, false, true}
 ghost use Rattle.clap.specs.Simple.{app_of};
 ghost use Rattle.clap.specs.Walk.{rule_of};
 ghost use Rattle.clap.specs.declared.builder.command.Command.TheViews.{out-Command as fields_of};
-ghost use Rattle.command_words.specs.Meanings.{bidder as bidder_row, day as day_row, generator as generator_row, notices as notices_row};
+ghost use Rattle.command_words.specs.Meanings.{bidder as bidder_row, connection as connection_row, day as day_row, generator as generator_row, notices as notices_row};
 ghost use Rattle.command_words.specs.Taken.{application as program, no_commands, option_rule, program_of, subcommand_for};
 
 use clap::{Arg, Command};
@@ -29,6 +29,13 @@ fn day<'a>(alloc: Global) -> Result<Command<'a>, AllocError>
     ensures { IfOk result (λ c. (app_of c ≡ subcommand_for day_row) × ((fields_of c).has_globals ≡ false)) }
 {
     Command::new(alloc, "day").arg(option(alloc, "journal"))
+}
+
+/// The command `conn`.
+fn connection<'a>(alloc: Global) -> Result<Command<'a>, AllocError>
+    ensures { IfOk result (λ c. (app_of c ≡ subcommand_for connection_row) × ((fields_of c).has_globals ≡ false)) }
+{
+    Command::new(alloc, "conn").arg(option(alloc, "journal"))
 }
 
 /// The command `notices`.
@@ -63,18 +70,26 @@ fn bare<'a>(alloc: Global) -> Command<'a>
         .disable_help_subcommand(true)
 }
 
-/// The program with the commands on a day.
+/// The program with the commands that serve a day.
 fn with_days<'a>(alloc: Global) -> Result<Command<'a>, AllocError>
-    ensures { IfOk result (λ c. app_of c ≡ program_of (day_row ∷ notices_row ∷ [])) }
+    ensures { IfOk result (λ c. app_of c ≡ program_of (day_row ∷ connection_row ∷ [])) }
 {
     let command = bare(alloc).subcommand(day(alloc)?)?;
-    command.subcommand(notices(alloc)?)
+    command.subcommand(connection(alloc)?)
+}
+
+/// The program with these, and the commands on a day's notices and on a bidder.
+fn with_bidder<'a>(alloc: Global) -> Result<Command<'a>, AllocError>
+    ensures { IfOk result (λ c. app_of c ≡ program_of (day_row ∷ connection_row ∷ notices_row ∷ bidder_row ∷ [])) }
+{
+    let command = with_days(alloc)?.subcommand(notices(alloc)?)?;
+    command.subcommand(bidder(alloc))
 }
 
 /// The program with its commands.
 pub(crate) fn application<'a>(alloc: Global) -> Result<Command<'a>, AllocError>
     ensures { IfOk result (λ c. app_of c ≡ program) }
 {
-    let command = with_days(alloc)?.subcommand(bidder(alloc))?;
+    let command = with_bidder(alloc)?;
     command.subcommand(generator(alloc)?)
 }

@@ -9,6 +9,8 @@ pub const MOST_ASKS: u64 = 1_000_000;
 pub enum Command {
     /// Serve a day, with the file of its journal where one is named.
     Day { journal: Option<Text> },
+    /// Serve a day on a connection, with the file of its journal where one is named.
+    Connection { journal: Option<Text> },
     /// Print the notices of the day that a journal keeps, with its file.
     Notices { journal: Text },
     /// Serve a bidder's connection.
@@ -28,6 +30,8 @@ pub enum Topic {
     Program,
     /// The command `day`.
     Day,
+    /// The command `conn`.
+    Connection,
     /// The command `notices`.
     Notices,
     /// The command `bidder`.

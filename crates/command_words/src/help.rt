@@ -11,6 +11,7 @@ pub const VERSION: &str = "adx 0.1.0\n";
 pub const PROGRAM_HELP: &str = "adx serves a day of an advertising exchange, or a bidder of one.
 
 usage: adx day [--journal FILE]
+       adx conn [--journal FILE]
        adx notices --journal FILE
        adx bidder
        adx gen --seed N --asks M
@@ -38,6 +39,22 @@ failed, 5 standard output failed, 6 the journal failed, 7 the journal keeps no h
 
 example:
   echo '{\"day\":\"2025-03-01\",\"bidders\":[{\"name\":\"b1\"}],\"campaigns\":[{\"bidder\":\"b1\",\"seat\":\"s1\",\"cid\":\"c1\",\"budget\":0.01}]}' | ./adx day
+";
+
+/// The help on the command `conn`.
+pub const CONNECTION_HELP: &str = "usage: adx conn [--journal FILE]
+
+in:  a roster line, and then the bytes of an HTTP connection, on standard input; the roster's `replies` are what its bidders
+answer, one after the other
+out: the connection's replies, on standard output: auctions' answers, and what was counted of notices, and the books
+--journal FILE: the day goes on from the history that FILE keeps, and FILE keeps what it adds; FILE is made where there is
+none
+
+status: 0 the connection was read to its end, 3 the first line isn't a roster or passes the limit of an input, 4 standard
+input failed, 5 standard output failed, 6 the journal failed, 7 the journal keeps no history of the roster, 12 want of memory
+
+example:
+  printf '{\"day\":\"2025-03-01\",\"bidders\":[{\"name\":\"b1\"}],\"campaigns\":[{\"bidder\":\"b1\",\"seat\":\"s1\",\"cid\":\"c1\",\"budget\":0.01}]}\\nGET /books HTTP/1.1\\r\\nHost: x\\r\\n\\r\\n' | ./adx conn
 ";
 
 /// The help on the command `notices`.
@@ -86,6 +103,7 @@ pub fn help_of(topic: Topic) -> &'static str
     match topic {
         Topic::Program => PROGRAM_HELP,
         Topic::Day => DAY_HELP,
+        Topic::Connection => CONNECTION_HELP,
         Topic::Notices => NOTICES_HELP,
         Topic::Bidder => BIDDER_HELP,
         Topic::Generate => GENERATOR_HELP,

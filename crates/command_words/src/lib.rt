@@ -15,6 +15,7 @@ mod tests;
 
 pub use command::{Command, MOST_ASKS, Topic};
 pub use help::{
-    BIDDER_HELP, DAY_HELP, GENERATOR_HELP, NOTICES_HELP, PROGRAM_HELP, VERSION, help_of,
+    BIDDER_HELP, CONNECTION_HELP, DAY_HELP, GENERATOR_HELP, NOTICES_HELP, PROGRAM_HELP, VERSION,
+    help_of,
 };
 pub use reading::command_of;

@@ -33,6 +33,7 @@ fn topic_named(word: &str) -> Topic
 {
     match word {
         "day" => Topic::Day,
+        "conn" => Topic::Connection,
         "notices" => Topic::Notices,
         "bidder" => Topic::Bidder,
         "gen" => Topic::Generate,
@@ -143,6 +144,9 @@ fn command_named(
 {
     match word {
         "day" => Ok(Some(Command::Day {
+            journal: text_found(alloc, found, "journal")?,
+        })),
+        "conn" => Ok(Some(Command::Connection {
             journal: text_found(alloc, found, "journal")?,
         })),
         "notices" => Ok(printed(text_found(alloc, found, "journal")?)),

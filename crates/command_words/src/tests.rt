@@ -11,6 +11,13 @@ day|--journal=a.journal => day a.journal
 day|--journal=--help => day --help
 day|--journal=a=b => day a=b
 day|--journal|a=b => day a=b
+conn => conn
+conn|--journal|a.journal => conn a.journal
+conn|--journal=a.journal => conn a.journal
+conn|--journal => none
+conn|--journal|a|--journal|a => none
+conn|a => none
+connection => none
 notices|--journal|a.journal => notices a.journal
 notices|--journal=a.journal => notices a.journal
 notices|--journal| => notices 
@@ -64,6 +71,7 @@ help|day => none
 -h => help 
 day|--help => help day
 day|-h => help day
+conn|--help => help conn
 notices|--help => help notices
 bidder|--help => help bidder
 gen|--help => help gen
@@ -80,6 +88,7 @@ fn name_of(topic: Topic) -> &'static str {
     match topic {
         Topic::Program => "",
         Topic::Day => "day",
+        Topic::Connection => "conn",
         Topic::Notices => "notices",
         Topic::Bidder => "bidder",
         Topic::Generate => "gen",
@@ -115,6 +124,12 @@ fn is_asked(command: &Option<Command>, asked: &str) -> bool {
                 journal: Some(file),
             },
         ) => is_with(asked, "day", file.as_str()),
+        Some(Command::Connection { journal: None }) => asked == "conn",
+        Some(
+            Command::Connection {
+                journal: Some(file),
+            },
+        ) => is_with(asked, "conn", file.as_str()),
         Some(Command::Notices { journal }) => is_with(asked, "notices", journal.as_str()),
         Some(Command::Bidder) => asked == "bidder",
         Some(Command::Generate { seed, asks }) => is_generated(asked, *seed, *asks),

@@ -8,6 +8,9 @@ use Rattle.adx.proofs.command.adx.Goals as goal
 pub returns-clause-day : goal.returns-clause-day
 returns-clause-day g c = λ day. (plain_does _ _ _ _ _ _ c.run_words.ensures.does (Command.Day day.0) day.1).by_run
 
+pub returns-clause-connection : goal.returns-clause-connection
+returns-clause-connection g c = λ connection. (plain_does _ _ _ _ _ _ c.run_words.ensures.does (Command.Connection connection.0) connection.1).by_run
+
 pub returns-clause-bidder : goal.returns-clause-bidder
 returns-clause-bidder g c = λ bidder. (plain_does _ _ _ _ _ _ c.run_words.ensures.does Command.Bidder bidder).by_run
 
