@@ -11,7 +11,7 @@ use Rattle.day_rules.specs.declared.ask.Ask.{Ask}
 use Rattle.day_rules.specs.declared.entry.Entry.{Entry}
 use Rattle.day_rules.specs.Books.{ask_at, awards_of, latest}
 use Rattle.day_rules.specs.Entries.{Notice, asked, counts, notice_of}
-use Rattle.day_rules.specs.Replies.{Reply, added, answered, is_of_auction, known_reply, notice_place, notice_reply, ruled_reply, tick_reply, ticked, with_entry}
+use Rattle.day_rules.specs.Replies.{Reply, added, answered, is_of_auction, known_reply, notice_place, notice_reply, ruled_reply, tick_reply, with_entry}
 use Rattle.answer_lines.specs.Answers.{ask_told}
 
 -- an entry that counts a notice records no ask

@@ -1,12 +1,9 @@
 -- The lines of campaigns and impressions: what is read is spelled so, and what is spelled so is read.
-use Rattle.std.proofs.Common.{◌≡◌, ◌≢◌, ℕ, zero, suc, ◌+◌, ◌^◌, ◌<◌, ◌≤◌, ◌⊎◌, inl, inr, List, [], ◌∷◌, ◌++◌, length, map, codes, Bool, true, false, cond, not, ◌&&◌, ◌||◌, eqb, ltb, leb, Option, Some, None, is_some, option_map, refl, sym, ap, ap₂, ◌∙◌, subst, arith, lit≤, lit<, append_assoc, append-nil, length-append}
-use Rattle.std.specs.Option.{option_or, ForSome}
-use Rattle.std.specs.List.{list_all, flat_map, All}
+use Rattle.std.proofs.Common.{◌≡◌, ℕ, ◌+◌, ◌^◌, ◌<◌, ◌≤◌, List, [], ◌∷◌, ◌++◌, codes, Bool, true, false, cond, ◌&&◌, eqb, ltb, leb, Option, Some, None, is_some, refl, sym, ap, ap₂, ◌∙◌, subst, arith, lit≤, lit<, append-nil}
+use Rattle.std.specs.Option.{ForSome}
 use Rattle.std.specs.Fmt.{decimal}
-use Rattle.std.proofs.lemmas.Bool.{and_parts, and_from, eqb-true, eq-eqb, ltb-true, lt-ltb, leb-true, le-leb}
+use Rattle.std.proofs.lemmas.Bool.{and_parts, eq-eqb, ltb-true, lt-ltb, leb-true, le-leb}
 use Rattle.std.proofs.lemmas.Option.{none-some, same_Some}
-use Rattle.std.proofs.lemmas.List.Concat.{flat_map-cons}
-use Rattle.std.proofs.lemmas.List.Elements.{All-nil, All-cons, All-head, All-tail}
 use Rattle.adx_units.specs.Number.{is_digit}
 use Rattle.adx_units.specs.Money.{units}
 use Rattle.adx_json.specs.Spelling.{text_spelling}
@@ -14,15 +11,10 @@ use Rattle.line_parts.specs.Parts.{◌>>=◌, behind_word, behind_byte, none_lef
 use Rattle.line_parts.proofs.Runs.{Stops}
 use Rattle.line_parts.proofs.Laws.{bind_some, tested_some, word_takes, word_again, byte_takes, none_left_is, number_takes, number_again}
 use Rattle.bid_record.specs.declared.rows.CampaignRow.{CampaignRow}
-use Rattle.bid_record.specs.declared.rows.Charge.{Charge}
-use Rattle.bid_record.specs.declared.rows.ImpName.{ImpName}
-use Rattle.bid_record.specs.declared.rows.ImpRow.{ImpRow}
-use Rattle.bid_record.specs.declared.rows.End.{End}
-use Rattle.bid_record.specs.declared.rows.End.TheVariants.{Live, Billed, Lost, Expired}
-use Rattle.bid_record.specs.Lines.{changes_part, name_part, place_text, end_text, offer_part, campaign_line, imp_line, end_line}
-use Rattle.bid_record.specs.Records.{IsName, IsAmount, IsCampaign, IsImpName}
+use Rattle.bid_record.specs.Lines.{changes_part, campaign_line, end_line}
+use Rattle.bid_record.specs.Records.{IsCampaign}
 use Rattle.bid_record.specs.Texts.{name_at}
-use Rattle.bid_record.specs.Reading.{number_part_at, amount_at, changes_at, campaign_at, imp_name_at, end_at, chosen_at, Ending, none_chosen, one_chosen, ending_at, charge_of, offer_at, offers_at, imp_row_at, imp_at, end_line_at}
+use Rattle.bid_record.specs.Reading.{number_part_at, amount_at, changes_at, campaign_at, end_line_at}
 use Rattle.bid_record.proofs.Texts.{name_takes, name_again}
 
 pub small : 2 ^ 64 ≤ 10 ^ 64

@@ -1,19 +1,18 @@
 -- The lines of impressions: what is read is spelled so, and what is spelled so is read.
-use Rattle.std.proofs.Common.{◌≡◌, ◌≢◌, ℕ, zero, suc, ◌+◌, ◌^◌, ◌<◌, ◌≤◌, ◌⊎◌, inl, inr, List, [], ◌∷◌, ◌++◌, length, map, codes, Bool, true, false, cond, eqb, ltb, leb, Option, Some, None, is_some, option_map, refl, sym, ap, ap₂, ◌∙◌, subst, arith, lit≤, lit<, append_assoc, append-nil, length-append}
+use Rattle.std.proofs.Common.{◌≡◌, ℕ, zero, suc, ◌+◌, ◌^◌, ◌<◌, ◌≤◌, inl, inr, List, [], ◌∷◌, ◌++◌, length, codes, Bool, true, false, cond, eqb, ltb, Option, Some, None, is_some, option_map, refl, sym, ap, ap₂, ◌∙◌, subst, arith, append_assoc, length-append}
 use Rattle.std.specs.Option.{option_or, ForSome}
-use Rattle.std.specs.List.{list_all, flat_map, All}
+use Rattle.std.specs.List.{flat_map, All}
 use Rattle.std.specs.Fmt.{decimal}
 use Rattle.std.proofs.lemmas.Bool.{ltb-true, lt-ltb}
 use Rattle.std.proofs.lemmas.Option.{none-some, same_Some}
 use Rattle.std.proofs.lemmas.List.Concat.{flat_map-cons}
 use Rattle.std.proofs.lemmas.List.Elements.{All-nil, All-cons, All-head, All-tail}
 use Rattle.adx_units.specs.Number.{is_digit}
-use Rattle.adx_units.specs.Money.{units}
 use Rattle.adx_json.specs.Spelling.{text_spelling}
 use Rattle.line_parts.specs.Parts.{◌>>=◌, behind_word, number_at, part}
 use Rattle.line_parts.proofs.Runs.{Stops}
 use Rattle.line_parts.proofs.Laws.{bind_some, tested_some, word_takes, word_again, number_again}
-use Rattle.line_parts.proofs.Options.{map_none, map_some, behind_none, or_some, none_of}
+use Rattle.line_parts.proofs.Options.{map_some, or_some, none_of}
 use Rattle.bid_record.specs.declared.rows.Charge.{Charge}
 use Rattle.bid_record.specs.declared.rows.ImpName.{ImpName}
 use Rattle.bid_record.specs.declared.rows.ImpRow.{ImpRow}

@@ -1,9 +1,7 @@
 -- An impression's line as the reader takes it apart.
-use Rattle.std.proofs.Common.{◌≡◌, ℕ, suc, ◌+◌, ◌^◌, ◌<◌, ◌≤◌, List, [], ◌∷◌, ◌++◌, length, codes, Bool, true, false, ◌&&◌, ltb, Option, Some, None, Result, Ok, Err, refl, sym, ap, ap₂, ◌∙◌, subst, arith}
-use Rattle.std.specs.List.{list_all}
-use Rattle.std.proofs.lemmas.Bool.{and_parts, and_from, lt-ltb, le-ltb}
-use Rattle.std.proofs.lemmas.Option.{same_Some}
-use Rattle.line_parts.specs.Parts.{◌>>=◌, behind_word}
+use Rattle.std.proofs.Common.{◌≡◌, ℕ, ◌^◌, ◌<◌, ◌≤◌, List, length, codes, Bool, true, false, ◌&&◌, Option, Some, None, Ok, refl, sym, ap₂, ◌∙◌, subst, arith}
+use Rattle.std.proofs.lemmas.Bool.{and_parts, lt-ltb, le-ltb}
+use Rattle.line_parts.specs.Parts.{behind_word}
 use Rattle.bid_record.specs.declared.fault.Misfit.{Misfit}
 use Rattle.bid_record.specs.declared.fault.Misfit.TheVariants.{Form, Memory}
 use Rattle.bid_record.specs.declared.offers.Offers.{Offers}
@@ -11,7 +9,7 @@ use Rattle.bid_record.specs.declared.row_lines.ImpLine.{ImpLine}
 use Rattle.bid_record.specs.declared.rows.Charge.{Charge}
 use Rattle.bid_record.specs.declared.rows.ImpName.{ImpName}
 use Rattle.bid_record.specs.declared.rows.ImpRow.{ImpRow}
-use Rattle.bid_record.specs.Reading.{number_part_at, imp_name_at, Ending, ending_at, offers_at, imp_row_at, imp_at, is_listed, is_place, has_places}
+use Rattle.bid_record.specs.Reading.{number_part_at, imp_name_at, Ending, ending_at, offers_at, imp_row_at, imp_at, is_place, has_places}
 use Rattle.bid_record.specs.Taking.{AreKept, IsOffersRead, IsKept, IsImpRow, IsImpLine}
 use Rattle.bid_record.specs.Texts.{Fails}
 

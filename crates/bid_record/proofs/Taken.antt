@@ -1,23 +1,21 @@
 -- What a line that was read says of the lines before it.
-use Rattle.std.proofs.Common.{◌≡◌, ◌≢◌, ℕ, zero, suc, ◌+◌, ◌^◌, ◌<◌, ◌≤◌, ◌⊎◌, inl, inr, List, [], ◌∷◌, ◌++◌, length, codes, Bool, true, false, cond, not, ◌&&◌, ◌||◌, eqb, ltb, leb, Option, Some, None, refl, sym, ap, ap₂, ◌∙◌, subst, arith}
+use Rattle.std.proofs.Common.{◌≡◌, ◌≢◌, ℕ, ◌+◌, ◌^◌, ◌<◌, ◌≤◌, inl, inr, List, [], ◌∷◌, ◌++◌, length, Bool, true, false, not, ◌&&◌, eqb, ltb, Option, Some, None, refl, sym, ap, ◌∙◌, subst}
 use Rattle.std.specs.Option.{ForSome}
-use Rattle.std.specs.List.{list_all, list_any, flat_map, All}
+use Rattle.std.specs.List.{list_all, list_any, All}
 use Rattle.std.specs.Str.{bytes_eq}
-use Rattle.std.specs.Fmt.{decimal}
-use Rattle.std.proofs.lemmas.Bool.{and_parts, and_from, or_parts, or_cases, eqb-true, ltb-true, lt-ltb, ltb-false, not-true, false≢true}
+use Rattle.std.proofs.lemmas.Bool.{and_parts, and_from, or_parts, or_cases, eqb-true, ltb-true, lt-ltb, not-true, false≢true}
 use Rattle.std.proofs.lemmas.Option.{none-some, same_Some}
 use Rattle.std.proofs.lemmas.List.{nil_from_length}
 use Rattle.std.proofs.lemmas.List.Elements.{All-nil, All-cons, All-head, All-tail}
 use Rattle.std.proofs.lemmas.Slice.Eq.{bytes_eq-Decides}
 use Rattle.adx_units.specs.Number.{begins_with}
-use Rattle.line_parts.specs.Parts.{part}
 use Rattle.bid_record.specs.declared.rows.CampaignRow.{CampaignRow}
 use Rattle.bid_record.specs.declared.rows.Charge.{Charge}
 use Rattle.bid_record.specs.declared.rows.ImpRow.{ImpRow}
 use Rattle.bid_record.specs.Lines.{campaign_line, imp_line, end_line}
-use Rattle.bid_record.specs.Records.{IsCampaign, IsImpName, IsAmount, Differ}
+use Rattle.bid_record.specs.Records.{IsCampaign, Differ}
 use Rattle.bid_record.specs.Reading.{campaign_at, imp_at, end_line_at, is_listed, is_place, has_places}
-use Rattle.bid_record.specs.Refusals.{Told, rows, all, IsNextCampaign, IsLooseImp, HasPlaces, IsNextEnd, Follows, campaign_next, imp_next, end_last, IsCampaignLine, IsImpLineOf, IsEndLine, IsOfForm, BreaksOrder, BreaksPlaces}
+use Rattle.bid_record.specs.Refusals.{rows, all, IsNextCampaign, IsLooseImp, HasPlaces, IsNextEnd, Follows, campaign_next, imp_next, end_last, IsCampaignLine, IsOfForm, BreaksOrder, BreaksPlaces}
 use Rattle.bid_record.specs.Taking.{is_same_pair, may_come}
 use Rattle.bid_record.proofs.CampaignLines.{of_some, of_none, campaign_takes, campaign_again, end_line_takes, end_line_again}
 use Rattle.bid_record.proofs.ImpLines.{IsLoose, imp_takes, imp_again}

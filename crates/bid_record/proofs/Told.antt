@@ -1,33 +1,28 @@
 -- What the lines of a record tell is determined by its bytes.
-use Rattle.std.proofs.Common.{◌≡◌, ◌≢◌, ℕ, zero, suc, ◌+◌, ◌^◌, ◌<◌, ◌≤◌, ◌⊎◌, inl, inr, List, [], ◌∷◌, ◌++◌, length, map, codes, get_or, Bool, true, false, cond, not, ◌||◌, eqb, ltb, IsTrue, Option, Some, None, is_some, option_map, refl, sym, ap, ap₂, ◌∙◌, subst, arith, lit<, lit≤, append_assoc, append-nil, length-append}
-use Rattle.std.specs.Option.{option_or, ForSome}
-use Rattle.std.specs.List.{list_all, flat_map, All, AllPairs, enumerate_from}
-use Rattle.std.specs.Str.{bytes_eq}
+use Rattle.std.proofs.Common.{◌≡◌, ◌≢◌, ℕ, ◌+◌, ◌^◌, ◌<◌, ◌≤◌, inl, inr, List, [], ◌∷◌, ◌++◌, length, map, codes, Bool, true, false, not, ◌||◌, eqb, IsTrue, Option, Some, None, option_map, refl, sym, ap, ◌∙◌, subst, arith, lit<, lit≤}
+use Rattle.std.specs.Option.{option_or}
+use Rattle.std.specs.List.{list_all, flat_map}
 use Rattle.std.specs.Fmt.{decimal}
-use Rattle.std.proofs.lemmas.Bool.{and_parts, and_from, or_cases, eqb-true, le-ltb, ne_eqb, agree_below_at, cases_lt, cases_eq, not-true, false≢true}
-use Rattle.std.proofs.lemmas.Option.{none-some, same_Some}
+use Rattle.std.proofs.lemmas.Bool.{and_parts, and_from, or_cases, eqb-true, le-ltb, ne_eqb, agree_below_at, cases_lt, cases_eq, false≢true}
+use Rattle.std.proofs.lemmas.Option.{same_Some}
 use Rattle.std.proofs.lemmas.Slice.Eq.{bytes_eq-Decides}
 use Rattle.std.proofs.lemmas.List.Concat.{flat_map-cons}
-use Rattle.std.proofs.lemmas.List.Elements.{All-nil, All-cons, All-head, All-tail, All-from_get_or, All-weaker}
-use Rattle.adx_units.specs.Number.{is_digit}
+use Rattle.std.proofs.lemmas.List.Elements.{All-nil}
 use Rattle.adx_json.specs.Spelling.{escape, text_spelling}
-use Rattle.line_parts.specs.Parts.{ended, part, behind_word, IsOneLine}
-use Rattle.line_parts.specs.Documents.{Leads, no_line, line_then}
-use Rattle.line_parts.proofs.Documents.{IsGrammar, IsEnd, leads_join, leads_more}
+use Rattle.line_parts.specs.Parts.{part, behind_word, IsOneLine}
+use Rattle.line_parts.proofs.Documents.{IsEnd}
 use Rattle.line_parts.proofs.Laws.{word_again}
 use Rattle.line_parts.proofs.OneLines.{is_fine, one_line, one_line_join, one_line_after, one_line_part, one_line_decimal}
-use Rattle.line_parts.proofs.Options.{map_none, behind_none}
 use Rattle.bid_record.specs.declared.rows.CampaignRow.{CampaignRow}
 use Rattle.bid_record.specs.declared.rows.Charge.{Charge}
 use Rattle.bid_record.specs.declared.rows.ImpName.{ImpName}
 use Rattle.bid_record.specs.declared.rows.ImpRow.{ImpRow}
 use Rattle.bid_record.specs.declared.rows.End.{End}
 use Rattle.bid_record.specs.declared.rows.End.TheVariants.{Live, Billed, Lost, Expired}
-use Rattle.bid_record.specs.Lines.{changes_part, name_part, place_text, end_text, offer_part, head_line, day_line, campaign_line, imp_line, end_line, rows_lines}
-use Rattle.bid_record.specs.Records.{zeroed, is_day, IsCampaign, IsImp, IsCharge, IsAmount, Differ}
+use Rattle.bid_record.specs.Lines.{changes_part, name_part, place_text, end_text, offer_part, head_line, day_line, campaign_line, imp_line, end_line}
+use Rattle.bid_record.specs.Records.{zeroed, is_day, IsCampaign}
 use Rattle.bid_record.specs.Reading.{number_part_at, campaign_at, imp_at, end_line_at}
-use Rattle.bid_record.specs.Refusals.{Told, nothing, a_head, rows, all, IsNextCampaign, IsLooseImp, HasPlaces, IsNextEnd, Follows, head_first, day_second, campaign_next, imp_next, end_last, IsWhole, IsCampaignLine, IsImpLineOf, IsEndLine, IsOfForm, BreaksOrder, BreaksPlaces}
-use Rattle.bid_record.specs.Taking.{AreRows, IsOpened}
+use Rattle.bid_record.specs.Refusals.{Told, nothing, a_head, rows, all, HasPlaces, Follows, head_first, day_second, campaign_next, imp_next, end_last, IsWhole, IsOfForm, BreaksOrder, BreaksPlaces}
 use Rattle.bid_record.proofs.CampaignLines.{number_part_again, campaign_again, end_line_again, wide32}
 use Rattle.bid_record.proofs.ImpLines.{IsLoose, imp_again}
 use Rattle.bid_record.proofs.Texts.{IsOther, plain_spelling}

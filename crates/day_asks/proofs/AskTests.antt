@@ -12,7 +12,7 @@ use Rattle.allocator_core.specs.declared.reason.TheConstants.{AWARDED, LOST_TO_H
 use Rattle.day_rules.specs.declared.limits.TheConstants.{MAX_LIFE, NO_IMP}
 use Rattle.day_rules.specs.Asks.{IsAdmittedOffer, IsOfAdmitted, IsOffer, IsRefusal, IsRefusedOffer, NeedsTexts, is_decided}
 use Rattle.day_rules.proofs.Lists.{pairs_cons, pairs_head, pairs_tail}
-use Rattle.day_asks.specs.OfferTests.{are_distinct, are_others, is_admitted, is_living, is_nothing, is_of_admitted, is_offer, is_priced, is_refused, is_refused_by, needs_texts}
+use Rattle.day_asks.specs.OfferTests.{are_distinct, are_others, is_admitted, is_of_admitted, is_offer, is_refused, is_refused_by, needs_texts}
 
 Decides-leb : (a b : ℕ) → Decides (leb a b) (a ≤ b)
 Decides-leb a b = (leb-true a b, le-leb a b)

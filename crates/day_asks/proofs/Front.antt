@@ -1,8 +1,8 @@
 -- The walk over kept texts that moves those that stay to the front.
-use Rattle.std.proofs.Common.{◌≡◌, ℕ, suc, ◌+◌, ◌<◌, ◌≤◌, List, [], ◌∷◌, ◌++◌, length, set, take, drop, get_or, true, false, cond, refl, sym, ap, ◌∙◌, subst, arith, is_some}
-use Rattle.std.specs.List.{cons_option, swap}
+use Rattle.std.proofs.Common.{◌≡◌, ℕ, ◌+◌, ◌<◌, ◌≤◌, List, [], ◌∷◌, ◌++◌, length, set, take, drop, get_or, true, false, cond, refl, sym, ap, ◌∙◌, arith, is_some}
+use Rattle.std.specs.List.{swap}
 use Rattle.std.proofs.Math.Seq.{drop-cons}
-use Rattle.std.proofs.lemmas.List.{append-nil, drop-drop, length-set, take_more}
+use Rattle.std.proofs.lemmas.List.{append-nil, drop-drop, take_more}
 use Rattle.std.proofs.lemmas.List.Elements.{filter_map-append}
 use Rattle.adx_units.specs.declared.offer.Offer.{Offer}
 use Rattle.day_rules.specs.declared.ask.Kept.{Kept}

@@ -1,6 +1,6 @@
 -- The kept texts that stay, how many and how long they are.
-use Rattle.std.proofs.Common.{◌≡◌, ◌⊎◌, ℕ, zero, suc, ◌+◌, ◌<◌, ◌≤◌, List, [], ◌∷◌, ◌++◌, map, length, set, take, drop, append_assoc, get_or, Bool, true, false, cond, not, ◌||◌, leb, eqb, refl, sym, ap, ◌∙◌, subst, inl, inr, arith, Option, Some, None, slice_get, is_some}
-use Rattle.std.specs.List.{All, AllPairs, Any, cons_option, filter}
+use Rattle.std.proofs.Common.{◌≡◌, ◌⊎◌, ℕ, zero, suc, ◌+◌, ◌<◌, ◌≤◌, List, [], ◌∷◌, ◌++◌, length, get_or, Bool, true, false, cond, not, leb, eqb, refl, sym, ap, ◌∙◌, subst, inl, inr, arith, Option, Some, None, slice_get, is_some}
+use Rattle.std.specs.List.{All, AllPairs, Any, cons_option}
 use Rattle.std.specs.Option.{option_map_or}
 use Rattle.std.proofs.lemmas.Bool.{and_parts, cases_lt, eqb-true, leb-true}
 use Rattle.std.proofs.lemmas.List.{get_or_append_left, get_or_default, get_or_push, length_push}

@@ -7,7 +7,7 @@ use Rattle.bid_record.specs.declared.rows.CampaignRow.{CampaignRow}
 use Rattle.dual_cert.specs.declared.cert.Cert.{Cert}
 use Rattle.dual_cert.specs.declared.cert.TheConstants.{WHOLE}
 use Rattle.hindsight.specs.Certificates.{IsCertificate}
-use Rattle.day_close.specs.Closing.{IsClosing, alpha_of, row_alpha, money_in}
+use Rattle.day_close.specs.Closing.{IsClosing, alpha_of, money_in}
 
 pub no_row : CampaignRow
 no_row = record { seat = []; cid = []; budget = units 0; changes = None }

@@ -1,18 +1,15 @@
 -- What the closer's parts make together.
-use Rattle.std.proofs.Common.{◌≡◌, ℕ, suc, ◌+◌, ◌*◌, ◌-◌, ◌^◌, ◌<◌, ◌≤◌, List, [], ◌∷◌, ◌++◌, length, get_or, refl, sym, ap, ◌∙◌, subst, arith, inl, inr}
-use Rattle.std.specs.List.{All}
+use Rattle.std.proofs.Common.{◌≡◌, ℕ, ◌+◌, ◌-◌, ◌^◌, ◌<◌, ◌≤◌, List, [], ◌∷◌, ◌++◌, length, get_or, sym, ap, ◌∙◌, subst, arith, inl, inr}
 use Rattle.std.proofs.Math.Seq.{get_or-append_seam}
 use Rattle.std.proofs.lemmas.Bool.{cases_lt}
-use Rattle.std.proofs.lemmas.List.{get_or_append_left, get_or-map, length-map}
+use Rattle.std.proofs.lemmas.List.{get_or_append_left, get_or-map}
 use Rattle.std.proofs.lemmas.List.Elements.{All-get_or}
 use Rattle.discount_table.specs.Discount.{slab_of}
 use Rattle.bid_record.specs.declared.record.Record.{Record}
 use Rattle.bid_record.specs.declared.rows.CampaignRow.{CampaignRow}
 use Rattle.bid_record.specs.declared.rows.ImpRow.{ImpRow}
 use Rattle.bid_record.specs.Records.{IsCampaign}
-use Rattle.dual_cert.specs.declared.cert.Cert.{Cert}
-use Rattle.dual_cert.specs.declared.cert.TheConstants.{WHOLE}
-use Rattle.hindsight.specs.Assignments.{Impression, impressions, impressions_of}
+use Rattle.hindsight.specs.Assignments.{Impression, impressions_of}
 use Rattle.hindsight.specs.Certificates.{Fit, bound_by}
 use Rattle.day_close.specs.Closing.{money_in, row_alpha, IsWithinBudgets, IsLeastBeta, IsClosing}
 use Rattle.day_close.proofs.Accepted.{no_row, alpha_fits}

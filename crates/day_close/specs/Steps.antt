@@ -1,5 +1,5 @@
 -- What each step of the closer says; only private clauses cite it.
-use Rattle.std.specs.Prelude.{◌≡◌, ℕ, ◌*◌, ◌-◌, ◌≤◌, List, Option, Some, None, slice_index}
+use Rattle.std.specs.Prelude.{ℕ, ◌*◌, ◌-◌, ◌≤◌, List, Option, Some, None, slice_index}
 use Rattle.std.specs.List.{All}
 use Rattle.bid_record.specs.declared.rows.Charge.{Charge}
 use Rattle.dual_cert.specs.declared.cert.TheConstants.{WHOLE}

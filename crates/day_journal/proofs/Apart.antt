@@ -1,12 +1,12 @@
 -- A file stands for payloads, or has one fault at one place.
-use Rattle.std.proofs.Common.{◌≡◌, ◌≢◌, ◌⊎◌, inl, inr, ℕ, suc, zero, ◌≤◌, ◌<◌, List, [], ◌∷◌, ◌++◌, length, get_or, take, drop, All, refl, sym, ◌∙◌, ap, subst, arith, append_assoc, length-append}
+use Rattle.std.proofs.Common.{◌≡◌, ◌≢◌, ◌⊎◌, inl, inr, ℕ, ◌≤◌, ◌<◌, List, [], ◌∷◌, ◌++◌, length, get_or, drop, All, refl, sym, ◌∙◌, ap, arith, append_assoc, length-append}
 use Rattle.std.specs.Prelude.{slice_get}
 use Rattle.std.specs.List.{flat_map}
 use Rattle.std.proofs.lemmas.Bool.{cases_lt}
 use Rattle.std.proofs.lemmas.List.Elements.{All-head, All-tail}
 use Rattle.adx_io.specs.Frames.{body}
-use Rattle.day_journal.specs.Places.{IsPayload, IsBadPlace, IsClosed, IsUnfinished, HasBadLength, HasNoHead, StandsFor, head, mark, open_place, opened}
-use Rattle.day_journal.proofs.Once.{same_payload, short}
+use Rattle.day_journal.specs.Places.{IsPayload, IsBadPlace, IsUnfinished, HasBadLength, HasNoHead, StandsFor, head, open_place, opened}
+use Rattle.day_journal.proofs.Once.{same_payload}
 use Rattle.day_journal.proofs.Reading.{front_get}
 
 -- an open place where no payload may stand

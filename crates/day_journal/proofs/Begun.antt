@@ -1,8 +1,8 @@
 -- What opening leaves of a file.
-use Rattle.std.proofs.Common.{◌≡◌, ◌⊎◌, inl, inr, ℕ, ◌≤◌, List, [], length, take, Option, Some, None, is_some, false, true, refl, sym, ◌∙◌, ap, subst, arith, length-take}
-use Rattle.adx_io.specs.Disks.{AsRead, Each, LeavesOnly, Within}
+use Rattle.std.proofs.Common.{◌≡◌, ◌⊎◌, inl, inr, ℕ, ◌≤◌, List, [], length, take, Option, Some, None, is_some, refl, sym, ap, subst, arith}
+use Rattle.adx_io.specs.Disks.{Each, LeavesOnly, Within}
 use Rattle.day_journal.specs.Places.{IsCleared, IsMarked, IsUnfinished, StandsFor, new_file}
-use Rattle.day_journal.specs.Starts.{BeginsJournal, HasSome, IsStart, KeptOrMade, LeavesNoMore, Looked, StandsAsOneOf}
+use Rattle.day_journal.specs.Starts.{BeginsJournal, HasSome, IsStart, LeavesNoMore, Looked, StandsAsOneOf}
 use Rattle.day_journal.specs.declared.start.Start.{Start}
 use Rattle.day_journal.proofs.Moments.{joined, weaker}
 use Rattle.day_journal.proofs.NewFile.{stands_empty}

@@ -3,16 +3,16 @@ use Rattle.std.proofs.Common.{◌≡◌, ◌≢◌, ◌⊎◌, inl, inr, ℕ, �
 use Rattle.std.specs.Prelude.{IfSome, slice_get}
 use Rattle.std.specs.Int.{w32, to_le_bytes, from_le_bytes}
 use Rattle.std.proofs.lemmas.Bool.{cases_eq}
-use Rattle.std.proofs.lemmas.List.{take_at, drop_at, drop_more, take_all, take-take, take_min, drop-drop, drop-take, take-append-drop, length-take, length-take-le}
+use Rattle.std.proofs.lemmas.List.{take_at, drop_at, drop_more, take_all, take-take, drop-drop, drop-take, take-append-drop, length-take, length-take-le}
 use Rattle.std.proofs.lemmas.List.Elements.{All-push, All-nil}
 use Rattle.std.proofs.lemmas.Nat.{from_le_bytes-to_le_bytes_4, le_bytes_4}
 use Rattle.adx_io.specs.Disks.{Shows}
 use Rattle.adx_io.specs.Frames.{body, longest_payload}
 use Rattle.adx_io.specs.Streams.{last_count}
-use Rattle.day_journal.specs.Openings.{WindowState, IsWindow, HasPlace, ReadsMore, ReadsOn, OpeningState, StandsBehind, IsPlace, IsSized, IsNoLength, HasNoLength}
+use Rattle.day_journal.specs.Openings.{WindowState, IsWindow, HasPlace, ReadsMore, ReadsOn, StandsBehind, IsPlace, IsSized, IsNoLength}
 use Rattle.day_journal.specs.declared.place.Place.{Place}
 use Rattle.day_journal.specs.declared.window.TheConstants.{CHUNK}
-use Rattle.day_journal.specs.Places.{head, new_file, IsPayload, IsClosed, IsBadPlace, HasBadLength, HasNoHead, IsUnfinished, open_place, opened}
+use Rattle.day_journal.specs.Places.{head, new_file, IsPayload, IsClosed, HasBadLength, HasNoHead, IsUnfinished, open_place, opened}
 use Rattle.day_journal.proofs.Keeping.{opened_push}
 use Rattle.day_journal.proofs.Once.{short}
 

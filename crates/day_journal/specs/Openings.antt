@@ -1,5 +1,5 @@
 -- How a journal is read place by place. This project's own.
-use Rattle.std.specs.Prelude.{◌≡◌, ◌≢◌, ◌⊎◌, ℕ, ◌+◌, ◌-◌, ◌^◌, ◌<◌, ◌≤◌, min, List, [], ◌∷◌, ◌++◌, length, take, drop, All, Bool, true, Option, Some}
+use Rattle.std.specs.Prelude.{◌≡◌, ◌≢◌, ◌⊎◌, ℕ, ◌+◌, ◌-◌, ◌^◌, ◌<◌, ◌≤◌, min, List, ◌∷◌, ◌++◌, length, take, drop, All, Bool, true, Option}
 use Rattle.std.specs.Int.{w32, to_le_bytes}
 use Rattle.adx_io.specs.Disks.{LeavesOnly, Within}
 use Rattle.adx_io.specs.Frames.{longest_payload}

@@ -1,5 +1,5 @@
 -- Which asks may follow a history, part by part.
-use Rattle.std.proofs.Common.{◌≡◌, ℕ, ◌+◌, ◌≤◌, max, List, map, length, Bool, true, false, ◌&&◌, leb, refl, sym, ap, ◌∙◌, arith, Option, None, Decides}
+use Rattle.std.proofs.Common.{◌≡◌, ℕ, ◌+◌, ◌≤◌, max, List, map, length, Bool, ◌&&◌, leb, sym, ap, ◌∙◌, arith, Decides}
 use Rattle.std.proofs.lemmas.Bool.{leb-true, le-leb}
 use Rattle.std.proofs.lemmas.Bool.Decides.{Decides-and, Decides-at, Decides-like}
 use Rattle.adx_units.specs.declared.offer.Offer.{Offer}
@@ -7,14 +7,12 @@ use Rattle.adx_units.specs.declared.units.Units.{Units}
 use Rattle.allocator_core.specs.Choice.{Standing, settled_offers}
 use Rattle.allocator_core.specs.Settling.{budgets_in, standing_in}
 use Rattle.campaign_book.specs.Accounts.{Account}
-use Rattle.day_rules.specs.declared.answer.Seen.{Seen}
 use Rattle.day_rules.specs.declared.ask.Ask.{Ask}
 use Rattle.day_rules.specs.declared.entry.Entry.{Entry}
-use Rattle.day_rules.specs.declared.limits.DayLimits.{DayLimits}
 use Rattle.day_rules.specs.Asks.{admitted_again, settled, settled_kept, undecided}
-use Rattle.day_rules.specs.Books.{accounts_in, awards_of, committed, kept_size, latest, made}
+use Rattle.day_rules.specs.Books.{accounts_in, awards_of, committed, kept_size, latest}
 use Rattle.day_rules.specs.Legal.{IsLegal}
-use Rattle.day_rules.specs.Replies.{ask_of, asks_with, bids_with, seen_as, text_with}
+use Rattle.day_rules.specs.Replies.{asks_with, bids_with, text_with}
 use Rattle.day_rules.specs.Terms.{Terms, budgets_after}
 use Rattle.day_rules.proofs.Asking.{awards_length}
 use Rattle.day_rules.proofs.Selling.{book_budgets, book_standing}

@@ -1,14 +1,13 @@
 -- What the lines of a certificate tell is determined by its bytes.
-use Rattle.std.proofs.Common.{◌≡◌, ◌≢◌, ℕ, suc, ◌+◌, ◌^◌, ◌<◌, ◌≤◌, List, [], ◌∷◌, ◌++◌, length, map, codes, Option, Some, None, Result, Ok, Err, refl, sym, ap, ap₂, ◌∙◌, subst, arith, inl, inr, ◌⊎◌, append_assoc, append-nil, length-append}
+use Rattle.std.proofs.Common.{◌≡◌, ℕ, ◌+◌, ◌^◌, ◌<◌, List, [], ◌∷◌, ◌++◌, length, map, codes, Some, None, Result, Ok, Err, refl, sym, ap, ◌∙◌, subst, arith, inl, inr, append_assoc, append-nil, length-append}
 use Rattle.std.specs.List.{flat_map, All, enumerate_from}
 use Rattle.std.specs.Fmt.{decimal}
 use Rattle.std.specs.Prelude.{IfOk, IfErr}
 use Rattle.std.proofs.lemmas.Option.{same_Some}
 use Rattle.std.proofs.lemmas.List.Elements.{All-nil, All-head, All-tail, All-push}
-use Rattle.std.proofs.lemmas.List.Concat.{flat_map-append}
 use Rattle.line_parts.specs.Parts.{ended, part, IsOneLine}
 use Rattle.line_parts.specs.Documents.{Leads, no_line, line_then, FailsAt, IsCut}
-use Rattle.line_parts.proofs.Documents.{IsGrammar, IsEnd, leads_join, leads_more, no_fault, no_cut, one_document, pushed, cut_there}
+use Rattle.line_parts.proofs.Documents.{IsEnd, leads_join, leads_more, no_fault, no_cut, one_document, pushed, cut_there}
 use Rattle.line_parts.proofs.Numbered.{numbered_push}
 use Rattle.line_parts.proofs.OneLines.{one_line, one_line_join, one_line_part, one_line_decimal}
 use Rattle.dual_cert.specs.declared.cert.Cert.{Cert}

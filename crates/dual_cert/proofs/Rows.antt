@@ -1,18 +1,18 @@
 -- A line's row: what is read is spelled so, and what is spelled so is read.
-use Rattle.std.proofs.Common.{◌≡◌, ◌≢◌, ℕ, suc, ◌+◌, ◌^◌, ◌<◌, ◌≤◌, List, [], ◌∷◌, ◌++◌, length, map, codes, Bool, true, false, cond, eqb, Option, Some, None, refl, sym, ap, ap₂, ◌∙◌, subst, arith, lit≤, inl, inr, ◌⊎◌, append_assoc, append-nil, option_map}
+use Rattle.std.proofs.Common.{◌≡◌, ℕ, ◌+◌, ◌^◌, ◌<◌, ◌≤◌, List, [], ◌∷◌, ◌++◌, length, codes, Bool, true, false, cond, eqb, Option, Some, None, refl, sym, ap, ◌∙◌, subst, lit≤, inl, inr, append-nil, option_map}
 use Rattle.std.specs.Option.{option_or}
 use Rattle.std.specs.Fmt.{decimal}
 use Rattle.std.proofs.lemmas.Bool.{eqb-true}
 use Rattle.std.proofs.lemmas.List.{nil_from_length}
 use Rattle.std.proofs.lemmas.Option.{none-some, same_Some}
 use Rattle.line_parts.specs.Parts.{◌>>=◌, behind_word, behind_byte, none_left, number_at, part}
-use Rattle.line_parts.proofs.Laws.{bind_some, word_takes, word_again, byte_takes, byte_again, none_left_is, number_takes, number_again}
+use Rattle.line_parts.proofs.Laws.{bind_some, word_takes, word_again, byte_takes, none_left_is, number_takes, number_again}
 use Rattle.line_parts.proofs.Options.{map_none, map_some, behind_none, or_some}
 use Rattle.dual_cert.specs.declared.row.Row.{Row}
 use Rattle.dual_cert.specs.declared.row.Row.TheVariants.{Alpha, Beta, Bound}
-use Rattle.dual_cert.specs.Lines.{head_line, alpha_line, beta_line, bound_line}
+use Rattle.dual_cert.specs.Lines.{bound_line}
 use Rattle.dual_cert.specs.Reading.{indexed_at, bound_at, row_at, with_row}
-use Rattle.dual_cert.specs.Refusals.{Told, nothing, rows, all, Follows, head_first, alpha_next, beta_next, bound_last, DoesNotFollow}
+use Rattle.dual_cert.specs.Refusals.{Told, rows, all, Follows, alpha_next, beta_next, bound_last, DoesNotFollow}
 
 small : 2 ^ 64 ≤ 10 ^ 64
 small = lit≤ tt

@@ -3,7 +3,6 @@ use Rattle.std.specs.Prelude.{◌≡◌, ℕ, ◌+◌, ◌^◌, ◌<◌, ◌≤�
 use Rattle.std.specs.List.{flat_map, All}
 use Rattle.std.specs.Borrow.{Bor}
 use Rattle.line_parts.specs.Parts.{ended}
-use Rattle.dual_cert.specs.declared.cert.Cert.{Cert}
 use Rattle.dual_cert.specs.declared.fault.CertFault.{CertFault}
 use Rattle.dual_cert.specs.declared.fault.CertFault.TheVariants.{Line, Cut, OutOfMemory}
 use Rattle.dual_cert.specs.Lines.{head_line, bound_line, rows_lines}

@@ -1,15 +1,15 @@
 -- What is read from the front of bytes is what stands there, and what is written is read again.
-use Rattle.std.proofs.Common.{◌≡◌, ℕ, suc, ◌+◌, ◌-◌, ◌*◌, ◌/◌, ◌%◌, ◌^◌, ◌<◌, ◌≤◌, ◌&&◌, not, ◌==◌, nat_le, List, [], ◌∷◌, ◌++◌, length, get_or, take, drop, Bool, true, false, cond, eqb, ltb, Option, Some, None, refl, sym, ap, ◌∙◌, subst, arith, inl, inr}
-use Rattle.std.specs.List.{list_all, prefix_len}
+use Rattle.std.proofs.Common.{◌≡◌, ℕ, ◌+◌, ◌-◌, ◌^◌, ◌<◌, ◌≤◌, ◌&&◌, List, [], ◌∷◌, ◌++◌, length, take, drop, Bool, true, false, cond, eqb, ltb, Option, Some, None, refl, sym, ap, ◌∙◌, arith}
+use Rattle.std.specs.List.{prefix_len}
 use Rattle.std.specs.Fmt.{decimal}
 use Rattle.std.specs.Str.{bytes_eq}
-use Rattle.std.proofs.lemmas.Bool.{and_parts, and_from, ltb-true, lt-ltb, eqb-true, eq-eqb}
+use Rattle.std.proofs.lemmas.Bool.{and_parts, ltb-true, lt-ltb, eqb-true, eq-eqb}
 use Rattle.std.proofs.lemmas.Option.{none-some, same_Some}
 use Rattle.std.proofs.lemmas.List.{take-append-drop, take_at, drop_at}
 use Rattle.std.proofs.lemmas.Slice.Eq.{bytes_eq-Decides}
-use Rattle.adx_units.specs.Number.{is_digit, is_whole, is_digits, begins_with, digits_value}
+use Rattle.adx_units.specs.Number.{is_digit, is_whole, digits_value}
 use Rattle.line_parts.specs.Parts.{◌>>=◌, behind_word, behind_byte, none_left, front_digits, number_at}
-use Rattle.line_parts.proofs.Runs.{Stops, run_passes, run_len}
+use Rattle.line_parts.proofs.Runs.{Stops, run_len}
 use Rattle.line_parts.proofs.Decimals.{decimal_is_whole, decimal_is_digits, decimal_value, decimal_of_whole}
 
 -- a step that found something, and the next one

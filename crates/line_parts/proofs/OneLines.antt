@@ -1,6 +1,6 @@
 -- Bytes without a newline.
-use Rattle.std.proofs.Common.{◌≡◌, ◌≢◌, ℕ, zero, suc, ◌+◌, ◌/◌, ◌%◌, ◌≤◌, ◌<◌, List, [], ◌∷◌, ◌++◌, Bool, true, false, not, cond, eqb, ltb, refl, sym, ap, ◌∙◌, subst, arith, inl, inr}
-use Rattle.std.specs.List.{All, list_all}
+use Rattle.std.proofs.Common.{◌≡◌, ◌≢◌, ℕ, zero, suc, ◌+◌, ◌/◌, ◌%◌, List, [], ◌∷◌, ◌++◌, Bool, true, false, not, cond, eqb, ltb, sym, ◌∙◌, arith}
+use Rattle.std.specs.List.{list_all}
 use Rattle.std.specs.Fmt.{digits, digits_onto, digit_glyph, decimal}
 use Rattle.std.proofs.lemmas.Bool.{and_parts, not-true, eq-eqb, false≢true}
 use Rattle.std.proofs.lemmas.List.Elements.{All-nil, All-cons, All-append}

@@ -1,5 +1,5 @@
 -- The rule of a new table, and what it says of the value once no pass is out.
-use Rattle.std.proofs.Common.{◌≡◌, ◌≢◌, ◌⊎◌, ℕ, ◌+◌, ◌%◌, ◌^◌, ◌<◌, ◌≤◌, List, [], ◌∷◌, ◌++◌, length, set, get_or, sym, refl, ap, ◌∙◌, subst, ⊎_elim, inl, inr, arith, Option, Some, None}
+use Rattle.std.proofs.Common.{◌≡◌, ◌≢◌, ◌⊎◌, ℕ, ◌≤◌, List, [], ◌∷◌, length, sym, refl, ap, ◌∙◌, subst, ⊎_elim, inl, inr, arith, Option, Some}
 use mathlib.Core.Option.{none, some, some-injective, some-ne-none}
 use mathlib.Core.Option as maybe
 use mathlib.Core.Logic.{dite}
@@ -8,7 +8,6 @@ use lib.ListN.{get_elem?}
 use Rattle.atomic_table.specs.Table.{State}
 use Rattle.turnstile.specs.declared.view.Role.TheVariants.{First, Spent}
 use Rattle.turnstile.specs.declared.view.SeatView.{SeatView}
-use Rattle.std.proofs.Common.{map}
 use Rattle.atomic_table.specs.Table.{opening, Final, Seen}
 use Rattle.turnstile.specs.Rule.{is_pass, Whole, IsTicket, slot_of, IsHolder, IsPlain, Knows, Kept, first_view}
 use Rattle.turnstile.specs.Places.{times, within}

@@ -1,4 +1,4 @@
-use Rattle.std.proofs.Common.{sym, ap, ◌∙◌, ◌≡◌, true, subst, List, ℕ, codes, ◌++◌}
+use Rattle.std.proofs.Common.{sym, ap, ◌∙◌, true, List, ℕ, codes, ◌++◌}
 use Rattle.std.proofs.lemmas.Bool.{false≢true}
 use Rattle.line_parts.proofs.Laws.{word_takes}
 use Rattle.bid_record.specs.Records.{is_day}

@@ -1,4 +1,4 @@
-use Rattle.std.proofs.Common.{◌≡◌, ◌<◌, ℕ, length, sym, ◌∙◌, rules, arith}
+use Rattle.std.proofs.Common.{◌≡◌, ◌<◌, length, sym, ◌∙◌, rules, arith}
 use Rattle.bid_record.proofs.ReadLines.{is_shaped, not_shaped_at}
 use Rattle.bid_record.proofs.day.is_day.Goals as goal
 

@@ -1,4 +1,4 @@
-use Rattle.std.proofs.Common.{◌≡◌, ◌≤◌, ℕ, List, [], length, rules}
+use Rattle.std.proofs.Common.{◌≡◌, ◌≤◌, [], length, rules}
 use Rattle.std.proofs.lemmas.List.{nil_from_length}
 use Rattle.bid_record.specs.Reading.{charge_of}
 use Rattle.bid_record.proofs.OfferLists.{offers_fail, offer_shorter, offers_go_on, offers_end}

@@ -1,4 +1,4 @@
-use Rattle.std.proofs.Common.{◌≡◌, ◌≢◌, ℕ, refl, sym, ◌∙◌, length, rules, arith}
+use Rattle.std.proofs.Common.{◌≡◌, ◌≢◌, refl, sym, ◌∙◌, length, rules, arith}
 use Rattle.bid_record.proofs.Taken.{campaign_unread, campaign_no_room, campaign_order, campaign_taken}
 use Rattle.bid_record.proofs.take.take_campaign.Goals as goal
 

@@ -1,4 +1,4 @@
-use Rattle.std.proofs.Common.{◌≡◌, ◌≢◌, ◌≤◌, ℕ, refl, sym, ◌∙◌, length, rules, arith}
+use Rattle.std.proofs.Common.{◌≡◌, ◌≤◌, refl, length, rules, arith}
 use Rattle.bid_record.proofs.Taken.{end_unread, end_order, end_taken}
 use Rattle.bid_record.proofs.take.take_end.Goals as goal
 

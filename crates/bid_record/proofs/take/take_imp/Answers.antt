@@ -1,4 +1,4 @@
-use Rattle.std.proofs.Common.{◌≡◌, ◌≢◌, ◌≤◌, ◌<◌, ◌+◌, ◌^◌, ℕ, refl, sym, ◌∙◌, length, rules, arith}
+use Rattle.std.proofs.Common.{◌≡◌, ◌≢◌, ◌≤◌, ◌<◌, ◌+◌, ◌^◌, refl, length, rules}
 use Rattle.bid_record.proofs.ImpReads.{kept_none, kept_some}
 use Rattle.bid_record.proofs.Taken.{imp_unread, imp_order, imp_misplaced, imp_taken}
 use Rattle.bid_record.proofs.take.take_imp.Goals as goal

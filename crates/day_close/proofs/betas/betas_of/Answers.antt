@@ -1,4 +1,4 @@
-use Rattle.std.proofs.Common.{◌≡◌, ℕ, length, subst, sym, List, rules, arith}
+use Rattle.std.proofs.Common.{◌≡◌, length, subst, rules, arith}
 use Rattle.hindsight.specs.Assignments.{Impression}
 use Rattle.day_close.specs.Closing.{IsLeastBeta}
 use Rattle.day_close.proofs.Made.{betas_more}

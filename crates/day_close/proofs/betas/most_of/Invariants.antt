@@ -1,4 +1,4 @@
-use Rattle.std.proofs.Common.{◌≡◌, ◌≤◌, ◌*◌, ◌^◌, ℕ, take}
+use Rattle.std.proofs.Common.{◌≤◌, ◌*◌, ◌^◌, ℕ, take}
 use Rattle.std.specs.List.{All}
 use Rattle.dual_cert.specs.declared.cert.TheConstants.{WHOLE}
 use Rattle.hindsight.specs.Certificates.{Covers}

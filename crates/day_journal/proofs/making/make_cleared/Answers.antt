@@ -1,6 +1,5 @@
-use Rattle.std.proofs.Common.{◌≡◌, ◌⊎◌, ◌≤◌, List, ℕ, [], length, inl, inr}
-use Rattle.adx_io.specs.Disks.{Each}
-use Rattle.day_journal.specs.Places.{IsCleared, IsMarked, IsUnfinished, StandsFor, new_file}
+use Rattle.std.proofs.Common.{List, ℕ, [], inl, inr}
+use Rattle.day_journal.specs.Places.{IsCleared, IsMarked, StandsFor}
 use Rattle.day_journal.specs.Starts.{HasSome}
 use Rattle.day_journal.proofs.Moments.{weaker, joined}
 use Rattle.day_journal.proofs.NewFile.{stands_empty}

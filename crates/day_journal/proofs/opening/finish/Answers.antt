@@ -1,4 +1,4 @@
-use Rattle.std.proofs.Common.{◌≡◌, inl, inr, ℕ, List, length, take, subst}
+use Rattle.std.proofs.Common.{inl, inr, take, subst}
 use Rattle.day_journal.specs.Starts.{IsStart}
 use Rattle.day_journal.proofs.Begun.{begins_new, cleared_file, looked_cleared, looked_uncleared, made_on, reads_new, uncleared_file, unfinished}
 use Rattle.day_journal.proofs.NewFile.{unfinished_cleared}

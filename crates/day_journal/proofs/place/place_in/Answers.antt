@@ -1,4 +1,4 @@
-use Rattle.std.proofs.Common.{rules, ◌≡◌, ◌<◌, ℕ, get_or, arith}
+use Rattle.std.proofs.Common.{rules, ◌<◌, ℕ, get_or, arith}
 use Rattle.day_journal.proofs.Reading.{opens_place, sized_place}
 use Rattle.day_journal.proofs.place.place_in.Goals as goal
 

@@ -1,4 +1,4 @@
-use Rattle.std.proofs.Common.{inl, ◌≡◌, sym, ◌∙◌, true, false}
+use Rattle.std.proofs.Common.{inl, sym, ◌∙◌, true, false}
 use Rattle.std.proofs.lemmas.Bool.{false≢true}
 use Rattle.dual_cert.proofs.Documents.{first_cut, first_fails}
 use Rattle.dual_cert.proofs.read.behind_head.Goals as goal

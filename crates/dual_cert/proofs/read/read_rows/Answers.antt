@@ -1,4 +1,4 @@
-use Rattle.dual_cert.proofs.Documents.{first_read, read_more, read_last, read_cut, read_fault}
+use Rattle.dual_cert.proofs.Documents.{read_more, read_last, read_cut, read_fault}
 use Rattle.dual_cert.proofs.read.read_rows.Goals as goal
 
 pub returns-in_default-clause-fault : goal.returns-in_default-clause-fault

@@ -1,4 +1,4 @@
-use Rattle.std.proofs.Common.{refl, subst, sym, List, ℕ, ◌∷◌, [], ◌++◌, rules}
+use Rattle.std.proofs.Common.{refl, subst, sym, List, ℕ, rules}
 use Rattle.dual_cert.specs.declared.row.Row.TheVariants.{Alpha, Beta, Bound}
 use Rattle.dual_cert.specs.Refusals.{Follows, rows}
 use Rattle.dual_cert.proofs.Documents.{taken_row, taken_none}

@@ -1,6 +1,6 @@
 use Rattle.std.proofs.Common.{inr, ap, sym, ◌∙◌, length, List, ℕ, eqb}
 use Rattle.std.proofs.lemmas.Bool.{false≢true}
-use Rattle.dual_cert.proofs.Documents.{more_behind, none_behind_last}
+use Rattle.dual_cert.proofs.Documents.{more_behind}
 use Rattle.dual_cert.proofs.read.whole.Goals as goal
 
 pub returns-else-is_empty-clause-fault : goal.returns-else-is_empty-clause-fault

@@ -1,9 +1,8 @@
-use Rattle.std.proofs.Common.{◌≡◌, ℕ, List, ◌++◌, length, sym, ap, ◌∙◌, subst, inl, arith}
+use Rattle.std.proofs.Common.{◌≡◌, ℕ, List, length, sym, ap, ◌∙◌, subst, inl, arith}
 use Rattle.std.specs.List.{All}
 use Rattle.std.proofs.lemmas.List.{length_push}
 use Rattle.std.proofs.lemmas.List.Elements.{All-weaker}
 use Rattle.adx_units.specs.declared.offer.Offer.{Offer}
-use Rattle.day_rules.specs.declared.ask.Kept.{Kept}
 use Rattle.day_rules.specs.Asks.{AreKeptTexts, IsAdmittedOffer, IsOffer}
 use Rattle.day_asks.proofs.Texts.{each_text}
 use Rattle.machine_days.proofs.tests.ask.Goals as goal

@@ -1,4 +1,3 @@
-use Rattle.std.proofs.Common.{◌≡◌, length}
 use Rattle.day_asks.proofs.Texts.{one_more_text}
 use Rattle.machine_days.proofs.tests.texts.Goals as goal
 

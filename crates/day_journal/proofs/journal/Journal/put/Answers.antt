@@ -3,8 +3,8 @@ use Rattle.std.proofs.lemmas.Result.{IfOk-from_err, IfOk-at_ok, IfErr-at_err}
 use Rattle.adx_io.specs.Frames.{body}
 use Rattle.day_journal.specs.Places.{opened, IsClosed}
 use Rattle.day_journal.specs.Tails.{Keeps, WithOrWithout, WithAtMostOne, JournalState}
-use Rattle.day_journal.proofs.Keeping.{closed_keeps, closed_ends, keeps_stand, on_err, with_first, with_new, record_length}
-use Rattle.day_journal.proofs.Moments.{started, joined}
+use Rattle.day_journal.proofs.Keeping.{closed_keeps, closed_ends, on_err, with_first, with_new, record_length}
+use Rattle.day_journal.proofs.Moments.{joined}
 use Rattle.day_journal.proofs.journal.Journal.put.Goals as goal
 
 pub returns-in_err-stage-clause-kept : goal.returns-in_err-stage-clause-kept

@@ -1,12 +1,11 @@
-use Rattle.std.proofs.Common.{◌≡◌, ◌≤◌, ℕ, Bool, List, length, sym, ap, ◌∙◌, subst, arith, Decides}
+use Rattle.std.proofs.Common.{◌≡◌, ℕ, Bool, List, length, sym, ap, ◌∙◌, subst, arith, Decides}
 use Rattle.std.proofs.lemmas.Bool.{false≢true}
 use Rattle.campaign_book.specs.Accounts.{Account}
 use Rattle.day_rules.specs.declared.ask.Ask.{Ask}
-use Rattle.day_rules.specs.declared.entry.Entry.{Entry}
 use Rattle.day_rules.specs.Asks.{IsWellFormed, undecided}
 use Rattle.day_rules.specs.Books.{accounts_in, awards_of}
 use Rattle.day_rules.specs.DayState.{DayState}
-use Rattle.day_rules.specs.Terms.{Terms, budgets_after}
+use Rattle.day_rules.specs.Terms.{budgets_after}
 use Rattle.day_rules.proofs.Counting.{day_asks, day_bids, day_text}
 use Rattle.day_rules.proofs.Money.{accounts_length}
 use Rattle.day_machine.specs.DayFields.{AreSums}
