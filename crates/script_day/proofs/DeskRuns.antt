@@ -152,17 +152,24 @@ doubt_left terms start told t tail next (Some (Fault.JournalFull size)) is may l
     (doubt_stays terms start told t tail may (history_more terms start told t ∙ same_given_up terms (history_after terms start told) t (Fault.JournalFull size) is))
 
 -- the record of one of the calls is one of them and one more
-record_stays : (terms : Terms) (start : List Entry) (told : List Told) (t : Told) (tail : List Entry) → IsRecordOf terms start told tail → IsRecordOf terms start (told ++ t ∷ []) tail
-record_stays terms start told t tail r = record { front = r.front; one = r.one; back = r.back ++ t ∷ []; split = split_front told r.front r.one r.back t r.split; is = r.is }
+record_stays : (terms : Terms) (start : List Entry) (told : List Told) (t : Told) (history tail : List Entry) → IsRecordOf terms start told history tail → IsRecordOf terms start (told ++ t ∷ []) history tail
+record_stays terms start told t history tail r = record { front = r.front; one = r.one; back = r.back ++ t ∷ []; split = split_front told r.front r.one r.back t r.split; at = r.at; is = r.is }
 
--- what is in doubt is the record of one of the calls
-doubt_of : (terms : Terms) (start : List Entry) (told : List Told) (tail : List Entry) → MayBeInDoubt terms start told tail → (tail ≡ []) ⊎ IsRecordOf terms start told tail
+-- what is in doubt is the record of one of the calls at the history behind all of them
+doubt_of : (terms : Terms) (start : List Entry) (told : List Told) (tail : List Entry) → MayBeInDoubt terms start told tail → (tail ≡ []) ⊎ IsRecordOf terms start told (history_after terms start told) tail
 doubt_of terms start told tail (inl none) = inl none
-doubt_of terms start told tail (inr d) = inr (record { front = d.front; one = d.one; back = d.back; split = d.split; is = d.is })
+doubt_of terms start told tail (inr d) = inr (record {
+  front = d.front;
+  one = d.one;
+  back = d.back;
+  split = d.split;
+  at = d.last;
+  is = d.is ∙ ap (λ (h : List Entry). record_of terms h d.one.call) (sym d.last);
+})
 
-record_or_none : (terms : Terms) (start : List Entry) (told : List Told) (t : Told) (tail : List Entry) → (tail ≡ []) ⊎ IsRecordOf terms start told tail → (tail ≡ []) ⊎ IsRecordOf terms start (told ++ t ∷ []) tail
-record_or_none terms start told t tail (inl none) = inl none
-record_or_none terms start told t tail (inr r) = inr (record_stays terms start told t tail r)
+record_or_none : (terms : Terms) (start : List Entry) (told : List Told) (t : Told) (history tail : List Entry) → (tail ≡ []) ⊎ IsRecordOf terms start told history tail → (tail ≡ []) ⊎ IsRecordOf terms start (told ++ t ∷ []) history tail
+record_or_none terms start told t history tail (inl none) = inl none
+record_or_none terms start told t history tail (inr r) = inr (record_stays terms start told t history tail r)
 
 -- a file that stands within the run of the calls stands within that of one more
 within_more : (terms : DeskTerms) (images : List ℕ → Type 0) (start : List Entry) (told : List Told) (t : Told) (file : List ℕ) → StandsWithin terms images start told file → StandsWithin terms images start (told ++ t ∷ []) file
@@ -172,12 +179,12 @@ within_more terms images start told t file (inr s) = inr (record {
   back = s.back ++ t ∷ [];
   split = ap (λ l. l ++ t ∷ []) s.split ∙ append_assoc s.front s.back (t ∷ []);
   tail = s.tail;
-  is = record_or_none terms.day start told t s.tail s.is;
+  is = record_or_none terms.day start told t (history_after terms.day start s.front) s.tail s.is;
   stands = s.stands;
 })
 
 -- a crash in a call leaves the history before it, or it and one record
-stands_front : (terms : DeskTerms) (start : List Entry) (told : List Told) (t : Told) (tail : List Entry) (file : List ℕ) → (tail ≡ []) ⊎ IsRecordOf terms.day start (told ++ t ∷ []) tail
+stands_front : (terms : DeskTerms) (start : List Entry) (told : List Told) (t : Told) (tail : List Entry) (file : List ℕ) → (tail ≡ []) ⊎ IsRecordOf terms.day start (told ++ t ∷ []) (history_after terms.day start told) tail
     → WithOrWithout terms (history_after terms.day start told) tail file → StandsInRun terms start (told ++ t ∷ []) file
 stands_front terms start told t tail file is stands = record { front = told; back = t ∷ []; split = refl; tail = tail; is = is; stands = stands }
 
@@ -185,10 +192,10 @@ within_call : (terms : DeskTerms) (images : List ℕ → Type 0) (start : List E
     → WithAtMostOne terms (history_after terms.day start told) tail (record_of terms.day (history_after terms.day start told) t.call) file → StandsWithin terms images start (told ++ t ∷ []) file
 within_call terms images start told t tail file may (inl alone) = inr (stands_front terms start told t [] file (inl refl) (inl alone))
 within_call terms images start told t tail file may (inr (inl with_tail)) =
-    inr (stands_front terms start told t tail file (record_or_none terms.day start told t tail (doubt_of terms.day start told tail may)) (inr with_tail))
+    inr (stands_front terms start told t tail file (record_or_none terms.day start told t (history_after terms.day start told) tail (doubt_of terms.day start told tail may)) (inr with_tail))
 within_call terms images start told t tail file may (inr (inr with_new)) =
     inr (stands_front terms start told t (record_of terms.day (history_after terms.day start told) t.call) file
-    (inr (record { front = told; one = t; back = []; split = refl; is = refl })) (inr with_new))
+    (inr (record { front = told; one = t; back = []; split = refl; at = refl; is = refl })) (inr with_new))
 
 module _ {D : Type 0} (faults : D → ℕ) (reads : D → Option (List ℕ)) (may_leave : D → List ℕ → Type 0) (moment : D → ℕ) (left_since : D → ℕ → List ℕ → Type 0) where
   -- a desk that was opened, and answered no call yet

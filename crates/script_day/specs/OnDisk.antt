@@ -26,13 +26,14 @@ history_after terms start told = run terms start (turns_of told)
 abbrev pub record_of : Terms → List Entry → Call → List Entry
 record_of terms history call = added_by (reply terms history call).entry
 
--- the tail is the record of one of the calls
-pub record IsRecordOf (terms : Terms) (start : List Entry) (told : List Told) (tail : List Entry) : Type 0 where
+-- the tail is the record of one of the calls at this history: that of the calls before it
+pub record IsRecordOf (terms : Terms) (start : List Entry) (told : List Told) (history tail : List Entry) : Type 0 where
   pub front : List Told
   pub one : Told
   pub back : List Told
   pub split : told ≡ front ++ one ∷ back
-  pub is : tail ≡ record_of terms (history_after terms start front) one.call
+  pub at : history ≡ history_after terms start front
+  pub is : tail ≡ record_of terms history one.call
 
 -- the tail is the record of a call that a fault of the disk gave up, and no entry was added behind it
 pub record IsInDoubt (terms : Terms) (start : List Entry) (told : List Told) (tail : List Entry) : Type 0 where
@@ -54,13 +55,14 @@ pub record KeepsRun (images : List ℕ → Type 0) (terms : DeskTerms) (start : 
   pub doubted : MayBeInDoubt terms.day start told tail
   pub each : Each images (WithOrWithout terms (history_after terms.day start told) tail)
 
--- the file stands for the history behind some first ones of these calls, or for it and the record of one of the calls
+-- the file stands for the history behind some first ones of these calls, or for it and the record of one of the calls at
+-- just that history
 pub record StandsInRun (terms : DeskTerms) (start : List Entry) (told : List Told) (file : List ℕ) : Type 0 where
   pub front : List Told
   pub back : List Told
   pub split : told ≡ front ++ back
   pub tail : List Entry
-  pub is : (tail ≡ []) ⊎ IsRecordOf terms.day start told tail
+  pub is : (tail ≡ []) ⊎ IsRecordOf terms.day start told (history_after terms.day start front) tail
   pub stands : WithOrWithout terms (history_after terms.day start front) tail file
 
 -- what a crash at some moment of a day leaves: the history of an image from before it, or one of its run
