@@ -1,8 +1,9 @@
 -- How a bidder's run ended, from what came of its first line.
-use Rattle.std.proofs.Common.{◌≡◌, inl, inr, ℕ, List, [], ◌++◌, refl, sym, ap, ◌∙◌, subst, zero-le, Option, Some, None, Result, Err}
+use Rattle.std.proofs.Common.{◌≡◌, inl, inr, ℕ, List, [], ◌++◌, refl, sym, ap, ◌∙◌, subst, ◌≤◌, length, zero-le, Option, Result, Err}
 use Rattle.adx_io.specs.Lines.{HasNoNewline, tape_behind}
 use Rattle.adx_io.specs.Streams.{Tape, WhereTold}
 use Rattle.adx_io.specs.Talk.{TalkState, ended}
+use Rattle.adx_io.specs.declared.line_buffer.TheConstants.{CHUNK}
 use Rattle.adx_io.specs.declared.stop.Stop.{Stop}
 use Rattle.bidder_core.specs.Seen.{BidderState}
 use Rattle.http_connection.specs.declared.conn.ConnEnd.{ConnEnd}
@@ -12,9 +13,9 @@ use Rattle.script_day.specs.Output.{roster_refused_line}
 use Rattle.script_day.specs.Parts.{PutsEnd}
 use Rattle.script_day.specs.declared.ending.Ending.{Ending}
 use Rattle.script_day.specs.declared.limits.TheConstants.{INPUT_LIMIT}
-use Rattle.script_day.proofs.Told.{told_map, told_then, unread_tape}
+use Rattle.script_day.proofs.Told.{told_ahead, told_map, told_then, unread_tape}
 use Rattle.script_lines.specs.declared.refusal.RosterRefusal.{RosterRefusal}
-use Rattle.bidder_day.specs.Bidding.{ComesBehind, EndsBidder, HasNoPrices, ServesBehind, StopsFirst}
+use Rattle.bidder_day.specs.Bidding.{ComesBehind, EndsBidder, HasNoPrices, IsLeftAtEnd, IsLeftBehind, ServesBehind, StopsFirst}
 use Rattle.bidder_day.specs.Prices.{IsShortPrices}
 use Rattle.bidder_day.specs.Serving.{EndsFirst, RefusesLine, ServesLine, WantsMemory, ending_by}
 
@@ -83,10 +84,18 @@ module _ (tape tape_now : Option Tape) (held held_now : Option (List ℕ)) where
     first_ends result (inr (inl r)) = first_refused result r
     first_ends result (inr (inr w)) = first_unread result w
 
--- what was taken of a source and not looked at is a piece of what comes
-pub piece_left : (pending : List ℕ) (told : Option Tape) → WhereTold (tape_behind pending told) told (λ rest now. (piece : List ℕ) × (rest.left ≡ piece ++ now.left))
-piece_left pending None = refl
-piece_left pending (Some t) = (pending, refl)
+-- what the buffer holds is taken and not looked at, and nothing where the source failed
+left_at : (end : ConnEnd) (pending left : List ℕ) → length pending ≤ CHUNK → (end ≡ ConnEnd.ReadFault → pending ≡ []) → IsLeftAtEnd end (pending ++ left) left
+left_at ConnEnd.Closed pending left few read_out = (pending, few, refl)
+left_at ConnEnd.Cut pending left few read_out = (pending, few, refl)
+left_at (ConnEnd.Refused fault) pending left few read_out = (pending, few, refl)
+left_at ConnEnd.ReadFault pending left few read_out = sym (ap (λ (front : List ℕ). front ++ left) (read_out refl))
+left_at ConnEnd.WriteFault pending left few read_out = (pending, few, refl)
+left_at ConnEnd.Spent pending left few read_out = (pending, few, refl)
+left_at ConnEnd.OutOfMemory pending left few read_out = (pending, few, refl)
+
+pub left_by_end : (end : ConnEnd) (pending : List ℕ) (told : Option Tape) → length pending ≤ CHUNK → (end ≡ ConnEnd.ReadFault → pending ≡ []) → IsLeftBehind end (tape_behind pending told) told
+left_by_end end pending told few read_out = told_ahead pending told (λ rest now. IsLeftAtEnd end rest.left now.left) (λ t. left_at end pending t.left few read_out)
 
 -- an input that has no price line first, since it has no whole line within its limit
 no_prices : (limit : ℕ) (why : RosterRefusal) (input left : List ℕ) → limit ≡ INPUT_LIMIT → HasNoLine limit why input left → HasNoPrices why input left

@@ -21,9 +21,20 @@ use Rattle.bidder_day.specs.Prices.{IsShortPrices, WholeFails}
 abbrev pub ComesBehind : BidderState → Option Tape → Option Tape → Type 0
 ComesBehind bidder tape behind = WhereTold tape behind (λ before rest. (line : List ℕ) × HasNoNewline line × IsShortPrices line bidder × (before.left ≡ ended line ++ rest.left))
 
--- what is left in the source when this is left of what came behind the line: a piece was taken with the line
-abbrev pub IsLeftBehind : Option Tape → Option Tape → Type 0
-IsLeftBehind behind tape = WhereTold behind tape (λ rest now. (piece : List ℕ) × (rest.left ≡ piece ++ now.left))
+-- what of a rest is left in the source where the connection ended so: all of it at a fault of the source, and else all but
+-- at most one piece, which was taken with the line
+abbrev pub IsLeftAtEnd : ConnEnd → List ℕ → List ℕ → Type 0
+IsLeftAtEnd ConnEnd.Closed rest left = LeftBehind rest left
+IsLeftAtEnd ConnEnd.Cut rest left = LeftBehind rest left
+IsLeftAtEnd (ConnEnd.Refused fault) rest left = LeftBehind rest left
+IsLeftAtEnd ConnEnd.ReadFault rest left = left ≡ rest
+IsLeftAtEnd ConnEnd.WriteFault rest left = LeftBehind rest left
+IsLeftAtEnd ConnEnd.Spent rest left = LeftBehind rest left
+IsLeftAtEnd ConnEnd.OutOfMemory rest left = LeftBehind rest left
+
+-- the same where the source tells its bytes, of what came behind the line
+abbrev pub IsLeftBehind : ConnEnd → Option Tape → Option Tape → Type 0
+IsLeftBehind end behind tape = WhereTold behind tape (λ rest now. IsLeftAtEnd end rest.left now.left)
 
 -- The first line is a price line; its bidder, which was told nothing yet, served the connection behind it, which ended so.
 pub record ServesBehind (tape tape_now : Option Tape) (held held_now : Option (List ℕ)) (end : ConnEnd) : Type 0 where
@@ -34,7 +45,7 @@ pub record ServesBehind (tape tape_now : Option Tape) (held held_now : Option (L
   pub fresh : bidder.rows ≡ []
   pub comes : ComesBehind bidder tape behind
   pub serves : EndsWith BidderAnswers BidderGivesUp REQUEST_LIMIT behind behind_now held held_now bidder bidder_now end
-  pub left : IsLeftBehind behind_now tape_now
+  pub left : IsLeftBehind end behind_now tape_now
 
 -- the ends of a connection that was read to its end
 abbrev pub IsReadOut : ConnEnd → Type 0

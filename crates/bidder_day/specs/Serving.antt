@@ -31,7 +31,7 @@ pub record EndsBehind (bidder bidder_now : BidderState) (behind tape_now : Optio
   pub behind_now : Option Tape
   pub ends : result ≡ ending_by end
   pub serves : EndsWith BidderAnswers BidderGivesUp REQUEST_LIMIT behind behind_now held held_now bidder bidder_now end
-  pub left : IsLeftBehind behind_now tape_now
+  pub left : IsLeftBehind end behind_now tape_now
 
 -- a whole first line, of which this is known, was refused
 pub record RefusesLine (Known : List ℕ → Type 0) (behind tape_now : Option Tape) (held held_now : Option (List ℕ)) (result : Result (Unit {0}) Ending) : Type 0 where

@@ -2,6 +2,7 @@
 ghost use Rattle.std.specs.Prelude.{◌≡◌, ◌≢◌, ◌≤◌, [], length, Ok, Err};
 ghost use Rattle.adx_io.specs.Lines.{Keeps, TookLast, tape_behind};
 ghost use Rattle.bidder_http.specs.Messages.{BidderAnswers, BidderGivesUp};
+ghost use Rattle.http_connection.specs.declared.conn.ConnEnd.TheVariants.{ReadFault as ConnReadFault};
 ghost use Rattle.http_service.specs.Connections.{EndsWith, HasCauses as ConnCauses};
 ghost use Rattle.http_service.specs.declared.limits.TheConstants.{REQUEST_LIMIT as request_limit};
 ghost use Rattle.adx_io.specs.Streams.{Rises};
@@ -21,6 +22,7 @@ use bidder_http::serve_bidder;
 use http_connection::ConnEnd;
 use script_day::{Ending, INPUT_LIMIT, read_first, refuse_roster};
 use std::alloc::Global;
+use std::snapshot::Snapshot;
 
 /// How the run ends whose connection ended so.
 fn ending_of(end: ConnEnd) -> Result<(), Ending>
@@ -45,14 +47,18 @@ fn serve_rest<S: Source, K: Sink>(
     buffer: &mut LineBuffer,
     sink: &mut K,
 ) -> ConnEnd
-    requires { TookLast (S.tape source.old) buffer.old.pending }
+    requires last { TookLast (S.tape source.old) buffer.old.pending }
+    requires ahead { length buffer.old.pending ≤ CHUNK }
     ensures last { TookLast (S.tape source.new) buffer.new.pending }
+    ensures ahead { length buffer.new.pending ≤ CHUNK }
+    ensures read_out { result ≡ ConnReadFault → buffer.new.pending ≡ [] }
     ensures ends { EndsWith BidderAnswers BidderGivesUp request_limit (tape_behind buffer.old.pending (S.tape source.old)) (tape_behind buffer.new.pending (S.tape source.new)) (K.held sink.old) (K.held sink.new) bidder.old bidder.new result }
     ensures causes { ConnCauses (S.faults source.old) (S.faults source.new) (K.faults sink.old) (K.faults sink.new) result }
     ensures source_same { S.place source.new ≡ S.place source.old }
     ensures sink_same { K.place sink.new ≡ K.place sink.old }
 {
-    let mut rest = Lines::over(source, buffer, 0);
+    let since = Snapshot::of(&*source);
+    let mut rest = Lines::over(source, buffer, &since, 0);
     serve_bidder(alloc, bidder, &mut rest, sink)
 }
 
@@ -62,6 +68,7 @@ fn serve_behind<S: Source, K: Sink>(
     bidder: &mut Bidder,
     talk: &mut Talk<'_, S, K>,
 ) -> Result<(), Ending>
+    requires { length talk.old.buffer.now.pending ≤ CHUNK }
     ensures ends { EndsBehind bidder.old bidder.new (state_of talk.old).tape (S.tape talk.new.source.now) (K.held talk.old.sink.now) (K.held talk.new.sink.now) result }
     ensures causes { HasCauses (state_of talk.old) (state_of talk.new) result }
     ensures same { place_of talk.new ≡ place_of talk.old }
@@ -106,8 +113,8 @@ fn serve<S: Source, K: Sink>(alloc: Global, talk: &mut Talk<'_, S, K>) -> Result
 ///
 /// `Ok`: the connection was read to the end that a `ConnEnd` names, and all replies were put. `Refused`: the first line
 /// isn't a price line, and the sink took the line that says why; nothing more was asked of the source. `Stopped`: the
-/// source or the sink failed, whose count rose then, or memory was refused; then the sink took a front of the output.
-/// The endings of a disk never come.
+/// source or the sink failed, whose count rose then, or memory was refused; then the sink took a front of the output, and
+/// where the source failed the replies to all whole messages that were taken of it. The endings of a disk never come.
 pub fn serve_prices<S: Source, K: Sink>(
     alloc: Global,
     source: &mut S,

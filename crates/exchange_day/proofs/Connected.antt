@@ -1,5 +1,5 @@
 -- A connection on a desk that was opened on a loan of a disk, told of the disk.
-use Rattle.std.proofs.Common.{◌≡◌, ◌≢◌, ◌∙◌, subst, ℕ, List, Option, Some, Result}
+use Rattle.std.proofs.Common.{◌≡◌, ◌∙◌, subst, ℕ, List, Option, Some, Result}
 use Rattle.adx_io.specs.Streams.{Rises, Tape}
 use Rattle.adx_desk.specs.Desks.{OnDisk}
 use Rattle.adx_desk.specs.Opened.{Opens}

@@ -1,21 +1,19 @@
 -- What a connection on a desk leaves on its disk, where the desk was opened on a loan of it, and how its run ends.
-use Rattle.std.proofs.Common.{◌≡◌, ◌≢◌, ◌⊎◌, ◌∙◌, inl, inr, refl, sym, ap, subst, arith, ℕ, zero, suc, ◌+◌, ◌<◌, ◌≤◌, ◌==◌, min, List, [], ◌∷◌, length, Option, Some, None, if◌then◌else◌, Result, Ok, Err}
+use Rattle.std.proofs.Common.{◌≡◌, ◌≢◌, ◌⊎◌, ◌∙◌, inl, inr, refl, sym, subst, arith, ℕ, zero, suc, ◌+◌, ◌<◌, ◌≤◌, min, List, [], ◌∷◌, length, Option, Some, None}
 use Rattle.std.proofs.lemmas.List.Elements.{All-nil, All-cons}
 use Rattle.adx_io.specs.Disks.{Each, LeavesOnly}
 use Rattle.adx_io.specs.Fakes.{counted}
-use Rattle.adx_io.specs.Streams.{Rises, last_count}
+use Rattle.adx_io.specs.Streams.{last_count}
 use Rattle.adx_desk.specs.Desks.{DeskKeeps, OnDisk}
 use Rattle.adx_desk.specs.Histories.{DeskTerms, WithOrWithout}
 use Rattle.adx_desk.specs.Opened.{Opens}
 use Rattle.adx_desk.specs.Openings.{StandsAsOneOf}
-use Rattle.adx_desk.specs.Rosters.{desk_terms}
 use Rattle.adx_desk.proofs.Keeping.{keeps_histories}
 use Rattle.answer_lines.specs.declared.faults.Fault.{Fault}
 use Rattle.day_journal.proofs.Moments.{joined}
 use Rattle.day_rules.specs.declared.entry.Entry.{Entry}
 use Rattle.day_rules.specs.Runs.{AreTurns}
 use Rattle.day_rules.specs.Terms.{Terms}
-use Rattle.deal_floor.specs.declared.roster.Roster.{Roster}
 use Rattle.exchange_http.specs.Records.{CountsAmong, MayBeLeftBy, IsLeftInDoubt, RaisesAmong, RunsOn, StandsInRunFrom, count_after, raised}
 use Rattle.script_day.specs.Calls.{HasBooks}
 use Rattle.script_day.specs.Courses.{HasNoDiskFault}

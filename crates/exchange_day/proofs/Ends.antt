@@ -1,5 +1,5 @@
 -- How a run ends by the end of its connection, and by what came of its first line.
-use Rattle.std.proofs.Common.{◌≡◌, ◌≢◌, ◌⊎◌, ⊎_elim, ◌∙◌, inl, inr, refl, sym, ap, subst, arith, ℕ, zero, suc, ◌≤◌, List, [], ◌++◌, Option, Some, Result, Ok, Err, zero-le}
+use Rattle.std.proofs.Common.{◌≡◌, ◌≢◌, ◌⊎◌, ⊎_elim, ◌∙◌, inl, inr, refl, sym, ap, subst, arith, ℕ, zero, suc, ◌≤◌, List, [], ◌++◌, length, Option, Result, Ok, Err, zero-le}
 use Rattle.std.proofs.lemmas.List.Elements.{All-nil}
 use Rattle.adx_io.specs.Lines.{tape_behind}
 use Rattle.adx_io.specs.Streams.{Rises, Tape, WhereTold}
@@ -10,8 +10,7 @@ use Rattle.deal_floor.specs.declared.roster.Roster.{Roster}
 use Rattle.exchange_http.specs.Records.{RaisesAmong}
 use Rattle.http_connection.specs.declared.conn.ConnEnd.{ConnEnd}
 use Rattle.http_service.specs.Connections.{HasCauses as ConnCauses}
-use Rattle.script_day.specs.Courses.{HasNoDiskFault, given_up}
-use Rattle.script_day.specs.Endings.{LeftBehind}
+use Rattle.script_day.specs.Courses.{given_up}
 use Rattle.script_day.specs.Firsts.{EndsRosterless, HasNoRoster, ReadsLine, StopsAt, StopsInLine}
 use Rattle.script_day.specs.Meanings.{Told}
 use Rattle.script_day.specs.Output.{roster_refused_line}
@@ -22,9 +21,9 @@ use Rattle.script_day.specs.declared.limits.TheConstants.{INPUT_LIMIT}
 use Rattle.script_day.proofs.DiskCounts.{cause_stays, day_later, day_rises}
 use Rattle.script_day.proofs.FirstReads.{unanswered_read}
 use Rattle.script_day.proofs.Putting.{cut_or_put}
-use Rattle.script_day.proofs.Told.{told_ahead, told_map, told_start, told_then, unread_tape}
-use Rattle.exchange_day.specs.Connecting.{ComesBehind, EndsExchange, EndsSo, GivesUpBehind, IsLeftBehind, IsReadOut, ServesBehind}
-use Rattle.exchange_day.specs.Serving.{EndsConn, EndsReadOut, EndsRoster, WantsMemory}
+use Rattle.script_day.proofs.Told.{told_ahead, told_map, told_start, unread_tape}
+use Rattle.exchange_day.specs.Connecting.{ComesBehind, EndsExchange, EndsSo, GivesUpBehind, IsLeftAtEnd, IsLeftBehind, IsReadOut, ServesBehind}
+use Rattle.exchange_day.specs.Serving.{EndsConn, EndsReadOut, EndsRoster}
 use Rattle.exchange_day.proofs.Disks.{counts_later, none_among}
 
 -- ---- the end of a connection
@@ -50,9 +49,18 @@ module _ (told : List Told) (faults before now : ℕ) (known : RaisesAmong 0 tol
   ends_so ConnEnd.Spent result ends = read_out ConnEnd.Spent result tt ends
   ends_so ConnEnd.OutOfMemory result is = subst (EndsSo ConnEnd.OutOfMemory told before now) (sym is) refl
 
--- what was taken of a source and not looked at is a piece of what comes
-pub piece_left : (pending : List ℕ) (told : Option Tape) → WhereTold (tape_behind pending told) told (λ rest now. (piece : List ℕ) × (rest.left ≡ piece ++ now.left))
-piece_left pending told = told_ahead pending told (λ rest now. (piece : List ℕ) × (rest.left ≡ piece ++ now.left)) (λ t. (pending, refl))
+-- what the buffer holds is taken and not looked at, and nothing where the source failed
+left_at : (end : ConnEnd) (pending left : List ℕ) → length pending ≤ CHUNK → (end ≡ ConnEnd.ReadFault → pending ≡ []) → IsLeftAtEnd end (pending ++ left) left
+left_at ConnEnd.Closed pending left few read_out = (pending, few, refl)
+left_at ConnEnd.Cut pending left few read_out = (pending, few, refl)
+left_at (ConnEnd.Refused fault) pending left few read_out = (pending, few, refl)
+left_at ConnEnd.ReadFault pending left few read_out = sym (ap (λ (front : List ℕ). front ++ left) (read_out refl))
+left_at ConnEnd.WriteFault pending left few read_out = (pending, few, refl)
+left_at ConnEnd.Spent pending left few read_out = (pending, few, refl)
+left_at ConnEnd.OutOfMemory pending left few read_out = (pending, few, refl)
+
+pub left_by_end : (end : ConnEnd) (pending : List ℕ) (told : Option Tape) → length pending ≤ CHUNK → (end ≡ ConnEnd.ReadFault → pending ≡ []) → IsLeftBehind end (tape_behind pending told) told
+left_by_end end pending told few read_out = told_ahead pending told (λ rest now. IsLeftAtEnd end rest.left now.left) (λ t. left_at end pending t.left few read_out)
 
 -- ---- the causes of an end
 

@@ -32,9 +32,20 @@ use Rattle.exchange_day.specs.OnDisk.{ServesTogether}
 abbrev pub ComesBehind : Roster → Option Tape → Option Tape → Type 0
 ComesBehind r tape behind = WhereTold tape behind (λ before rest. (line : List ℕ) × HasNoNewline line × IsShortRoster line r × (before.left ≡ ended line ++ rest.left))
 
--- what is left in the source when this is left of what came behind the line: a piece was taken with the line
-abbrev pub IsLeftBehind : Option Tape → Option Tape → Type 0
-IsLeftBehind behind tape = WhereTold behind tape (λ rest now. (piece : List ℕ) × (rest.left ≡ piece ++ now.left))
+-- what of a rest is left in the source where the connection ended so: all of it at a fault of the source, and else all but
+-- at most one piece, which was taken with the line
+abbrev pub IsLeftAtEnd : ConnEnd → List ℕ → List ℕ → Type 0
+IsLeftAtEnd ConnEnd.Closed rest left = LeftBehind rest left
+IsLeftAtEnd ConnEnd.Cut rest left = LeftBehind rest left
+IsLeftAtEnd (ConnEnd.Refused fault) rest left = LeftBehind rest left
+IsLeftAtEnd ConnEnd.ReadFault rest left = left ≡ rest
+IsLeftAtEnd ConnEnd.WriteFault rest left = LeftBehind rest left
+IsLeftAtEnd ConnEnd.Spent rest left = LeftBehind rest left
+IsLeftAtEnd ConnEnd.OutOfMemory rest left = LeftBehind rest left
+
+-- the same where the source tells its bytes, of what came behind the line
+abbrev pub IsLeftBehind : ConnEnd → Option Tape → Option Tape → Type 0
+IsLeftBehind end behind tape = WhereTold behind tape (λ rest now. IsLeftAtEnd end rest.left now.left)
 
 -- the ends of a connection that was read to its end
 abbrev pub IsReadOut : ConnEnd → Type 0
@@ -86,7 +97,7 @@ module _ {D : Type 0} (faults : D → ℕ) (reads : D → Option (List ℕ)) (ma
     pub lanes_are : AreRosterLanes r lanes
     -- which messages came, what they were replied, and why no more were read
     pub answered : Answered r start lanes course behind behind_now held held_now end
-    pub left : IsLeftBehind behind_now tape_now
+    pub left : IsLeftBehind end behind_now tape_now
     -- the calls of the messages, and what the disk keeps of them
     pub on_disk : ServesTogether faults reads may_leave moment left_since (desk_terms r) start course.told old new
     pub ends : EndsSo end course.told (faults old) (faults new) result

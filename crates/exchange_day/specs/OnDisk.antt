@@ -10,13 +10,15 @@ use Rattle.script_day.specs.Calls.{HasBooks}
 use Rattle.script_day.specs.Meanings.{Told, turns_of}
 use Rattle.script_day.specs.OnDisk.{FullEach, history_after}
 
--- Behind these calls the disk keeps their history: each image stands for it, or for it and one record in doubt.
+-- Behind these calls the disk keeps their history: each image stands for it, or for it and one record in doubt, of
+-- entries whose calls a fault of the disk gave up.
 pub record KeepsHistory (images : List ℕ → Type 0) (terms : DeskTerms) (start : List Entry) (told : List Told) : Type 0 where
   pub tail : List Entry
   pub doubted : (tail ≡ []) ⊎ IsLeftInDoubt terms.day start told tail
   pub each : Each images (WithOrWithout terms (history_after terms.day start told) tail)
 
--- what a crash at some moment of a day leaves: the history of an image from before it, or one of its run
+-- what a crash at some moment of a day leaves: the history of an image from before it; or one of its run, alone or with a
+-- record of the run at that history
 abbrev pub StandsAmong : DeskTerms → (List ℕ → Type 0) → List Entry → List Told → List ℕ → Type 0
 StandsAmong terms images start told file = StandsAsOneOf terms images file ⊎ StandsInRunFrom terms start [] told file
 
@@ -27,7 +29,7 @@ pub record ServesTogether {D : Type 0} (faults : D → ℕ) (reads : D → Optio
   -- The calls are some that a day takes, and their books are those of the headline.
   pub taken : AreTurns (length terms.day.budgets) (turns_of told)
   pub books : HasBooks terms.day start (turns_of told) (history_after terms.day start told)
-  -- The disk's count rose in each call that its fault gave up, and else only by a record of several notices,
+  -- The disk's count rose in each call that its fault gave up, and else only by a record of notices that waited together,
   pub counted : CountsAmong (faults old) told (faults new)
   -- and a call was told that the journal is full only where it may be.
   pub full : FullEach terms start told

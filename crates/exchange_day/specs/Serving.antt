@@ -32,7 +32,7 @@ pub record ServesDesk {D L : Type 0} (faults : D → ℕ) (may_leave : D → Lis
   pub end : ConnEnd
   pub behind_now : Option Tape
   pub serves : ServesConnection faults may_leave moment left_since Works (IsMomentOf (Some r.now)) r behind behind_now held held_now lanes lanes_now old new end
-  pub left : IsLeftBehind behind_now tape_now
+  pub left : IsLeftBehind end behind_now tape_now
   pub ends : EndsConn end new.desk.faults result
 
 -- memory was refused before a day was opened

@@ -8,6 +8,7 @@ ghost use Rattle.adx_io.specs.declared.stop.Stop.TheVariants.{ReadFault, WriteFa
 ghost use Rattle.adx_desk.specs.Rosters.{desk_terms};
 ghost use Rattle.exchange_http.specs.Serving.{AreLanes, IsMomentOf, ServesConnection};
 ghost use Rattle.fan_out.specs.Lanes.{IsWorked};
+ghost use Rattle.http_connection.specs.declared.conn.ConnEnd.TheVariants.{ReadFault as ConnReadFault};
 ghost use Rattle.http_service.specs.Connections.{HasCauses as ConnCauses};
 ghost use Rattle.script_day.specs.Steps.{HasCauses};
 ghost use Rattle.script_day.specs.declared.ending.Ending.TheVariants.{DiskFault as FaultOfDisk, NoHistory, Stopped};
@@ -25,6 +26,7 @@ use http_connection::ConnEnd;
 use roster_links::roster_lanes;
 use script_day::{Ending, INPUT_LIMIT, first_roster, give_up};
 use std::alloc::Global;
+use std::snapshot::Snapshot;
 
 /// How the run ends that was read to the end of its connection, on a desk that counted so many faults of its disk.
 fn at_end(faults: u64) -> Result<(), Ending>
@@ -72,7 +74,10 @@ fn serve_rest<S: Source, K: Sink, D: Disk, L: Link>(
     requires terms { desk.old.desk.terms ≡ desk_terms roster.now }
     requires lanes { AreLanes roster.now lanes.old.items }
     requires last { TookLast (S.tape source.old) buffer.old.pending }
+    requires ahead { length buffer.old.pending ≤ CHUNK }
     ensures last { TookLast (S.tape source.new) buffer.new.pending }
+    ensures ahead { length buffer.new.pending ≤ CHUNK }
+    ensures read_out { result ≡ ConnReadFault → buffer.new.pending ≡ [] }
     ensures serves { ServesConnection D.faults D.may_leave D.moment D.left_since (IsWorked L.exchanges L.course L.faults L.place) (IsMomentOf (Some roster.entry.now.now)) roster.entry.now (tape_behind buffer.old.pending (S.tape source.old)) (tape_behind buffer.new.pending (S.tape source.new)) (K.held sink.old) (K.held sink.new) lanes.old.items lanes.new.items desk.old desk.new result }
     ensures causes { ConnCauses (S.faults source.old) (S.faults source.new) (K.faults sink.old) (K.faults sink.new) result }
     ensures lasts { D.lasts desk.old.disk desk.new.disk }
@@ -80,7 +85,8 @@ fn serve_rest<S: Source, K: Sink, D: Disk, L: Link>(
     ensures sink_same { K.place sink.new ≡ K.place sink.old }
 {
     let clock = clock_of(roster);
-    let mut rest = Lines::over(source, buffer, 0);
+    let since = Snapshot::of(&*source);
+    let mut rest = Lines::over(source, buffer, &since, 0);
     serve_connection(alloc, roster, desk, lanes, &mut rest, sink, &clock)
 }
 
@@ -94,6 +100,7 @@ fn serve_behind<S: Source, K: Sink, D: Disk, L: Link>(
 ) -> Result<(), Ending>
     requires terms { desk.old.desk.terms ≡ desk_terms roster.now }
     requires lanes { AreLanes roster.now lanes.old.items }
+    requires ahead { length talk.old.buffer.now.pending ≤ CHUNK }
     ensures ends { ServesDesk D.faults D.may_leave D.moment D.left_since (IsWorked L.exchanges L.course L.faults L.place) roster.entry.now (state_of talk.old).tape (S.tape talk.new.source.now) (K.held talk.old.sink.now) (K.held talk.new.sink.now) lanes.old.items lanes.new.items desk.old desk.new result }
     ensures causes { HasCauses (state_of talk.old) (state_of talk.new) result }
     ensures lasts { D.lasts desk.old.disk desk.new.disk }
@@ -166,10 +173,11 @@ fn serve<S: Source, K: Sink, D: Disk>(
 ///
 /// `Ok`: the connection was read to the end that a `ConnEnd` names, all replies were put, and no fault of the disk gave up
 /// a call. `Refused`: the first line isn't a roster's, and the sink took the line that says why. `DiskFault`: the disk
-/// failed, while the day was opened, and then the sink took nothing, or in a call or a record of several notices, and then
-/// the connection was read to its end and all replies were put. `NoHistory`: the disk's file stands for no history of the
-/// roster, and the sink took a line that says why. `Stopped`: the source or the sink failed, whose count rose then, or
-/// memory was refused; then the sink took a front of the output.
+/// failed, while the day was opened, and then the sink took nothing, or in a call or a record of notices that waited
+/// together, one or more, and then the connection was read to its end and all replies were put. `NoHistory`: the disk's
+/// file stands for no history of the roster, and the sink took a line that says why. `Stopped`: the source or the sink
+/// failed, whose count rose then, or memory was refused; then the sink took a front of the output, and where the source
+/// failed the replies to all whole messages that were taken of it.
 pub fn serve_exchange<S: Source, K: Sink, D: Disk>(
     alloc: Global,
     source: &mut S,

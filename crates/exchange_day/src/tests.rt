@@ -121,10 +121,15 @@ fn ends_by_the_fault_of_a_call(rt: HostRuntime) -> Result<(), Fail> {
     Ok(())
 }
 
+/// How a run ends where this call of its disk fails. Opening the day makes 14 calls, and each of the two records 4.
+fn wanted_at(call: u64) -> &'static str {
+    if call < 22 { "disk" } else { "served" }
+}
+
 #[test]
 fn a_fault_of_the_disk_is_told_at_the_end(rt: HostRuntime) -> Result<(), Fail> {
-    for call in 0..12 {
-        assert_eq!(rt; ends(rt.alloc(), &[], &[], &[call])?, "disk");
+    for call in 0..23 {
+        assert_eq!(rt; ends(rt.alloc(), &[], &[], &[call])?, wanted_at(call));
     }
     Ok(())
 }

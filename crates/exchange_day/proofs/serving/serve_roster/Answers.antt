@@ -1,13 +1,8 @@
 -- The day was opened on the lent disk and the connection served on it, or it wasn't opened, or memory was refused before.
-use Rattle.std.proofs.Common.{◌≡◌, ◌≢◌, ◌∙◌, ℕ, inl, inr, refl, sym, ap, subst, rules, Err}
+use Rattle.std.proofs.Common.{◌∙◌, inl, inr, refl, ap, subst, rules, Err}
 use Rattle.std.proofs.lemmas.Result.{err_from_is_err_and}
 use Rattle.std.specs.Borrow.{MutBor}
-use Rattle.adx_io.specs.Lines.{tape_behind}
-use Rattle.adx_io.specs.Streams.{Rises}
 use Rattle.adx_io.specs.TalkState.{state_of}
-use Rattle.adx_desk.specs.Rosters.{desk_terms}
-use Rattle.exchange_http.specs.Records.{RaisesAmong}
-use Rattle.roster_links.specs.RosterLinks.{WorksByTexts}
 use Rattle.script_day.proofs.Lent.{course_lent}
 use Rattle.script_day.proofs.Told.{left_behind}
 use Rattle.script_day.proofs.Unopened.{gave_up}
