@@ -1,6 +1,6 @@
 -- What a request's target names (RFC 9112, section 3.2), with the authority passed over. Pairs of a query are those of
 -- a form (the URL Standard, section 5).
-use Rattle.std.specs.Prelude.{◌==◌, ◌||◌, ℕ, List, length, take, drop, codes, Bool, Option, option_map, if◌then◌else◌}
+use Rattle.std.specs.Prelude.{◌==◌, ◌||◌, ℕ, List, length, take, drop, codes, Bool, Option, Some, None, cond, option_map, if◌then◌else◌}
 use Rattle.std.specs.List.{position_or_len, before_first, after_first, find}
 use Rattle.std.specs.Str.{bytes_eq, str_eq_ignore_ascii_case}
 use Rattle.std.specs.Str.Lossy.{utf8_lossy}
@@ -34,6 +34,14 @@ decoded bytes = utf8_lossy (decode bytes)
 abbrev pub has_name : List ℕ → List ℕ × List ℕ → Bool
 has_name name pair = bytes_eq (decoded pair.0) name
 
--- the value of the first pair with this name
+-- what was found first: the earlier one, and else the new one, where it is named so
+abbrev pub first_of : {A : Type 0} → Option A → Bool → A → Option A
+first_of (Some earlier) is_named value = Some earlier
+first_of None is_named value = cond is_named (Some value) None
+
+-- the value of the first pair with this name, which isn't decoded, and as text
+abbrev pub raw_value_of : List ℕ → List ℕ → Option (List ℕ)
+raw_value_of name query = option_map (λ (p : List ℕ × List ℕ). p.1) (find (has_name name) (raw_pairs query))
+
 abbrev pub value_of : List ℕ → List ℕ → Option (List ℕ)
 value_of name query = option_map (λ (p : List ℕ × List ℕ). decoded p.1) (find (has_name name) (raw_pairs query))

@@ -1,11 +1,12 @@
 //! The path and the query of a request's target.
-ghost use Rattle.std.specs.Prelude.{◌≡◌, ◌≤◌, length, position, option_map, IfOk};
+ghost use Rattle.std.specs.Prelude.{◌≡◌, ◌≤◌, List, ℕ, length, position, option_map, IfOk};
+ghost use Rattle.std.specs.Borrow.{Bor};
 ghost use Rattle.std.specs.List.{position_or_len};
 ghost use Rattle.std.specs.Cow.{cow_str_bytes};
-ghost use Rattle.adx_http.specs.Targets.{is_end, is_question_mark, rest_of, path_of, query_of, value_of};
+ghost use Rattle.adx_http.specs.Targets.{is_end, is_question_mark, rest_of, path_of, query_of, decoded, first_of, raw_value_of, value_of};
 
 use adx_units::OutOfMemory;
-use form_urlencoded::parse;
+use form_urlencoded::{decode, parse, raw_pairs};
 use std::alloc::Global;
 use std::borrow::CowStr;
 
@@ -14,7 +15,7 @@ use std::borrow::CowStr;
 pub struct Target<'a> {
     /// The path, not decoded; `/` where the target has none.
     pub path: &'a [u8],
-    /// What stands behind the first question mark, as `query_value` reads it.
+    /// What stands behind the first question mark, as `query_value` and `query_values` read it.
     pub query: &'a [u8],
 }
 
@@ -97,4 +98,67 @@ pub fn query_value<'a>(
         }
     }
     Ok(None)
+}
+
+/// The value, where no earlier one was found and its name is the wanted one.
+fn first_value<'a>(found: Option<&'a [u8]>, is_named: bool, value: &'a [u8]) -> Option<&'a [u8]>
+    ensures { result ≡ first_of found.entry is_named value.entry }
+{
+    match found {
+        Some(earlier) => Some(earlier),
+        None if is_named => Some(value),
+        None => None,
+    }
+}
+
+/// The values of the first pairs with these names in a query, which aren't decoded.
+fn raw_values<'a>(
+    alloc: Global,
+    query: &'a [u8],
+    one: &str,
+    other: &str,
+) -> Result<(Option<&'a [u8]>, Option<&'a [u8]>), OutOfMemory>
+    ensures one { IfOk result (λ found. option_map (λ (v : Bor (List ℕ)). v.now) found.0 ≡ raw_value_of one.now query.now) }
+    ensures other { IfOk result (λ found. option_map (λ (v : Bor (List ℕ)). v.now) found.1 ≡ raw_value_of other.now query.now) }
+{
+    let mut first = None;
+    let mut second = None;
+    let mut pairs = raw_pairs(query);
+    'pairs: while let Some((name, value)) = pairs.next() {
+        let key = decode(alloc, name)?;
+        first = first_value(first, key.as_str() == one, value);
+        second = first_value(second, key.as_str() == other, value);
+        if first.is_some() && second.is_some() {
+            return Ok((first, second));
+        }
+    }
+    Ok((first, second))
+}
+
+/// A value as text.
+fn text_of<'a>(
+    alloc: Global,
+    value: Option<&'a [u8]>,
+) -> Result<Option<CowStr<'a, Global>>, OutOfMemory>
+    ensures { IfOk result (λ text. option_map cow_str_bytes text ≡ option_map (λ (v : Bor (List ℕ)). decoded v.now) value.entry) }
+{
+    match value {
+        Some(bytes) => Ok(Some(decode(alloc, bytes)?)),
+        None => Ok(None),
+    }
+}
+
+/// The values of the first pairs with these names in a query, in one pass over its pairs, decoded as
+/// in a form.
+pub fn query_values<'a>(
+    alloc: Global,
+    query: &'a [u8],
+    one: &str,
+    other: &str,
+) -> Result<(Option<CowStr<'a, Global>>, Option<CowStr<'a, Global>>), OutOfMemory>
+    ensures one { IfOk result (λ found. option_map cow_str_bytes found.0 ≡ value_of one.now query.now) }
+    ensures other { IfOk result (λ found. option_map cow_str_bytes found.1 ≡ value_of other.now query.now) }
+{
+    let (first, second) = raw_values(alloc, query, one, other)?;
+    Ok((text_of(alloc, first)?, text_of(alloc, second)?))
 }

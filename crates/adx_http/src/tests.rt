@@ -1,6 +1,8 @@
 //! Replies and targets, each with its bytes.
-use crate::{Reply, query_value, read_target, write_reply};
+use crate::{Reply, query_value, query_values, read_target, write_reply};
 use adx_io::MemorySink;
+use std::alloc::Global;
+use std::borrow::CowStr;
 use std::test::Fail;
 
 /// Whether the reply is written as these bytes, in one put.
@@ -78,5 +80,41 @@ fn reads_targets(rt: HostRuntime) -> Result<(), Fail> {
         None => return Err(Fail::from("no auction")),
     }
     assert!(rt; query_value(rt.alloc(), target.query, "Bid")?.is_none());
+    Ok(())
+}
+
+/// A value; `-` where there is none.
+fn shown<'a>(value: &'a Option<CowStr<'_, Global>>) -> &'a str {
+    match value {
+        Some(text) => text.as_str(),
+        None => "-",
+    }
+}
+
+/// Whether `auction` and `bid` have these values in a query.
+fn has_values(alloc: Global, query: &[u8], auction: &str, bid: &str) -> bool {
+    match query_values(alloc, query, "auction", "bid") {
+        Ok((one, other)) => shown(&one) == auction && shown(&other) == bid,
+        Err(_) => false,
+    }
+}
+
+/// Two values of a query, whose names stand in any order: of each name the first one counts.
+#[test]
+fn reads_two_values(rt: HostRuntime) -> Result<(), Fail> {
+    assert!(rt; has_values(rt.alloc(), b"", "-", "-"));
+    assert!(rt; has_values(rt.alloc(), b"auction=a", "a", "-"));
+    assert!(rt; has_values(rt.alloc(), b"bid=1&bid=2", "-", "1"));
+    assert!(rt;
+        has_values(
+            rt.alloc(),
+            b"bid=0&auction=a%201&auction=b&bid=2",
+            "a 1",
+            "0"
+        )
+    );
+    assert!(rt; has_values(rt.alloc(), b"Auction=a&%62id=7", "-", "7"));
+    assert!(rt; has_values(rt.alloc(), b"x=y&auction&bid=", "", ""));
+    assert!(rt; has_values(rt.alloc(), b"bid=%FF&auction=+", " ", "\u{FFFD}"));
     Ok(())
 }

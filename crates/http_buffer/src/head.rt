@@ -6,7 +6,7 @@ ghost use Rattle.http_buffer.specs.HeadEnds.{is_empty_line, FindsHead};
 ghost use Rattle.http_buffer.specs.Walks.{step, count_of};
 
 use crate::buffer::Buffer;
-use crate::line::{Line, line_end, line_in};
+use crate::line::{Line, line_end};
 use crate::offsets::between;
 use adx_io::{Failed, Source};
 
@@ -67,28 +67,6 @@ fn walked(walk: Walk, empty: bool) -> Walk
         Walk::Full(lines) if empty => Walk::Over(lines),
         Walk::Full(lines) => Walk::Full(lines + 1),
         Walk::Over(lines) => Walk::Over(lines),
-    }
-}
-
-/// Where a head ends in the bytes at hand. `Open` where none does and there are fewer than
-/// `HEAD_LIMIT` bytes.
-pub fn head_in(bytes: &[u8]) -> HeadEnd
-    ensures { FindsHead bytes.now result }
-{
-    let mut at = 0;
-    let mut walk = Walk::Blank;
-    'lines: loop {
-        match line_in(bytes, at, HEAD_LIMIT) {
-            Line::At(end) => match walked(walk, is_empty_at(bytes, at, end)) {
-                Walk::Over(lines) => return HeadEnd::At(end, lines),
-                next => {
-                    walk = next;
-                    at = end;
-                }
-            },
-            Line::TooLong => return HeadEnd::TooLong,
-            Line::Open => return HeadEnd::Open,
-        }
     }
 }
 

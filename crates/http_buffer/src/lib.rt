@@ -4,7 +4,7 @@
 //! bytes of a source as fit; whatever the pieces of the source, pending bytes and bytes left are
 //! together what they were. Nothing is moved but where the room is used up, or bytes are joined.
 //! `line_end`, `head_end` and `need` take until a line ends, a head ends, or so many bytes are there;
-//! no byte is searched twice. `line_in` and `head_in` look at bytes at hand alone. Stands on `adx_io` and `memchr`.
+//! no byte is searched twice. `line_in` looks at bytes at hand alone. Stands on `adx_io` and `memchr`.
 #![tactic(auto)]
 
 mod buffer;
@@ -13,5 +13,5 @@ mod line;
 mod offsets;
 
 pub use buffer::Buffer;
-pub use head::{HEAD_LIMIT, HeadEnd, head_end, head_in, is_empty_line};
+pub use head::{HEAD_LIMIT, HeadEnd, head_end, is_empty_line};
 pub use line::{Line, line_end, line_in, need};

@@ -69,7 +69,7 @@ first_found limit bytes first parts b least is within =
       };
     }
 
-first_fails : (limit : ℕ) (bytes : List ℕ) (first : FirstRequest) (fault : HttpFault) → grammar.BeginsWithRequest LINE_COUNT_LIMIT limit bytes first → first.parts ≡ Err fault
+pub first_fails : (limit : ℕ) (bytes : List ℕ) (first : FirstRequest) (fault : HttpFault) → grammar.BeginsWithRequest LINE_COUNT_LIMIT limit bytes first → first.parts ≡ Err fault
     → grammar.RefusesRequest LINE_COUNT_LIMIT limit (take first.len bytes) fault
 first_fails limit bytes first fault b is =
     let h = grammar.BeginsWithRequest.h b in

@@ -5,6 +5,7 @@ use Rattle.http_grammar.specs.Requests.{verb_of_method, is_kept}
 use Rattle.http_grammar.specs.declared.fault.HttpFault.{HttpFault}
 use Rattle.httparse.specs.Grammar.{status_code}
 use Rattle.http_connection.specs.State.{ConnState}
+use Rattle.http_connection.specs.Ready.{IsReady}
 use Rattle.http_bodies.specs.Steps.{Advances}
 use Rattle.http_connection.specs.Messages.{Request, IsRequestThen, RefusesRequest, IsUnfinishedRequest, ResponseRead, IsResponseThen, RefusesResponse, IsUnfinishedResponse}
 use Rattle.http_connection.specs.declared.conn.Message.{Message}
@@ -23,6 +24,14 @@ GivesMessage limit bytes (Ok (Some m)) rest = (r : Request) × IsRequestThen lim
 GivesMessage limit bytes (Ok None) rest = (bytes ≡ []) × (rest ≡ [])
 GivesMessage limit bytes (Err HttpFault.ReadFault) rest = ⊤
 GivesMessage limit bytes (Err fault) rest = RefusesRequest limit bytes fault
+
+-- The next message, where no fault stands and the bytes held begin with a whole request: it shows that one, and what
+-- stands behind it is held. None where they don't, or a fault stands; then nothing changes.
+abbrev pub AnswersHeld : ConnState → ConnState → Option Message → Type 0
+AnswersHeld before now (Some m) =
+    (before.failed ≡ false) × (now ≡ record before { held = now.held })
+    × ((r : Request) × IsRequestThen before.limit before.held r now.held × Shows m r)
+AnswersHeld before now None = (IsReady before → ⊥) × (now ≡ before)
 
 -- After a fault the answer is `Cut`, and nothing changes. Else the answer is a function of the bytes held and those that
 -- the source has left, where it tells them. Where the source fails, the bytes held and those that it gave are unfinished:

@@ -9,9 +9,11 @@ use Rattle.http_grammar.specs.declared.parts.RequestParts.{RequestParts}
 use Rattle.http_grammar.specs.declared.fault.HttpFault.{HttpFault}
 use Rattle.http_buffer.specs.HeadEnds.{HeadEndsAt, NeverHasHead, HasNoHeadYet}
 use Rattle.http_bodies.specs.declared.chunks.TheConstants.{LINE_COUNT_LIMIT}
+use Rattle.http_bodies.specs.BodyForms.{HasBody, body_of_request}
 use Rattle.http_bodies.specs.Steps.{HasGiven, coming}
 use Rattle.http_connection.specs.Messages.{Request, IsRequestThen, RefusesRequest, IsUnfinishedRequest, ResponseRead, IsResponseThen, RefusesResponse, IsUnfinishedResponse}
 use Rattle.http_connection.specs.declared.conn.Found.{Found}
+use Rattle.http_connection.specs.declared.whole.Whole.{Whole}
 
 -- the bytes begin with a head that is so long, whose lines are few
 pub record HasHead (bytes : List ℕ) (end : ℕ) : Type 0 where
@@ -44,6 +46,11 @@ pub record FoundShows (f : Found) (kept : List ℕ) (r : Request) : Type 0 where
   pub body : drop f.head kept ≡ r.body
   pub keep : f.keep ≡ is_kept r.head
 
+-- the bytes begin with a whole request, whose head is so long and says this
+pub record IsWhole (limit : ℕ) (bytes : List ℕ) (w : Whole) : Type 0 where
+  pub head : HasRequestHead limit bytes w.head w.parts
+  pub body : HasBody limit (body_of_request w.parts.framing) (drop w.head bytes)
+
 -- the offsets stand in their order
 pub record IsWithin (f : Found) (kept : List ℕ) : Type 0 where
   pub head : f.head ≤ length kept
@@ -66,6 +73,11 @@ RequestGives limit before now old new (Ok (Some f)) =
     IsWithin f now.kept × WhereTold old new (λ o n. (r : Request) × IsRequestThen limit (coming before o) r (coming now n) × FoundShows f now.kept r)
 RequestGives limit before now old new (Ok None) = WhereTold old new (λ o n. (coming before o ≡ []) × (coming now n ≡ []))
 RequestGives limit before now old new (Err fault) = FaultGives RefusesRequest IsUnfinishedRequest limit before old new fault
+
+-- the whole request that was pending is kept, what was found shows it, and what stood behind it is pending
+abbrev pub GivesWhole : ℕ → BufferState → BufferState → Found → Type 0
+GivesWhole limit before now f =
+    IsWithin f now.kept × ((r : Request) × IsRequestThen limit before.pending r now.pending × FoundShows f now.kept r)
 
 -- a status, and a response in what is kept, whose head is so long
 pub record StatusShows (status head : ℕ) (kept : List ℕ) (r : ResponseRead) : Type 0 where

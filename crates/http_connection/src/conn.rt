@@ -8,8 +8,8 @@ ghost use Rattle.http_connection.specs.Found.{HeadGives, HasHead, IsWithin, Resp
 ghost use Rattle.http_buffer.specs.State.{Takes, IsAtEnd};
 ghost use Rattle.httparse.specs.Spans.{span_bytes};
 
-use crate::ready::has_request;
 use crate::request::advance;
+use crate::whole::{join_whole, whole_in};
 use adx_io::Source;
 use adx_units::OutOfMemory;
 use http_bodies::{LINE_COUNT_LIMIT, body_of_response, read_body};
@@ -97,10 +97,10 @@ impl Model for Conn {
 }
 
 impl Conn {
-    ghost use Rattle.std.specs.Prelude.{Decides};
     ghost use Rattle.http_connection.specs.State.{ConnState};
+    ghost use Rattle.std.specs.Prelude.{Decides};
     ghost use Rattle.http_connection.specs.Ready.{IsReady};
-    ghost use Rattle.http_connection.specs.Answers.{AnswersMessage, AnswersResponse};
+    ghost use Rattle.http_connection.specs.Answers.{AnswersHeld, AnswersMessage, AnswersResponse};
     ghost use Rattle.http_connection.specs.contracts.conn.Conn.{the_row};
 
     /// A connection whose bodies are at most `body_limit` bytes. No later call takes memory.
@@ -131,7 +131,27 @@ impl Conn {
         if self.failed {
             return false;
         }
-        has_request(self.buffer.pending(), self.limit)
+        let mut spans = [EMPTY_HEADER_SPAN; LINE_COUNT_LIMIT];
+        whole_in(self.buffer.pending(), &mut spans, self.limit).is_some()
+    }
+
+    /// The next message where the bytes that were taken and not handed out begin with a whole one. None
+    /// where they don't, and behind a fault; then nothing changes. Takes no memory and nothing from a
+    /// source.
+    pub fn held_message(&mut self) -> Option<Message<'_>>
+        ensures* after_borrow { sem 𝓛 (Rests the_row self.entry (λ new. AnswersHeld self.old new result)) }
+    {
+        if self.failed {
+            return None;
+        }
+        match whole_in(self.buffer.pending(), &mut self.spans, self.limit) {
+            Some(whole) => {
+                self.buffer.release();
+                let found = join_whole(&mut self.buffer, whole, self.limit);
+                Some(lend(&self.buffer, found))
+            }
+            None => None,
+        }
     }
 
     /// Reads the next message; None where the source ended between messages. After a fault each call

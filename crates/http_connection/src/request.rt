@@ -13,7 +13,7 @@ use http_grammar::{HttpFault, RequestParts, first_request, request_parts};
 use httparse::spans::HeaderSpan;
 
 /// Joins the body to the request's head that the pending bytes begin with.
-fn request_behind<S: Source>(
+pub(crate) fn request_behind<S: Source>(
     buffer: &mut Buffer,
     source: &mut S,
     head: usize,

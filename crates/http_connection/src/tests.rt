@@ -367,3 +367,67 @@ fn keeps_a_fault(rt: HostRuntime) -> Result<(), Fail> {
     assert_eq!(rt; out.as_str(), "BadHeadCutend");
     Ok(())
 }
+
+/// What stands whole at hand; `-` where nothing does, and `?` where `ready` says otherwise.
+fn push_held(out: &mut String, conn: &mut Conn) -> Result<(), OutOfMemory> {
+    let ready = conn.ready();
+    match conn.held_message() {
+        Some(message) if ready => push_message(out, &message),
+        None if !ready => Ok(out.push_str("-")?),
+        _ => Ok(out.push_str("?")?),
+    }
+}
+
+/// What stands whole at hand before the first message is read and behind it, and what the next call gives.
+fn push_looks(
+    out: &mut String,
+    conn: &mut Conn,
+    source: &mut MemorySource,
+) -> Result<(), OutOfMemory> {
+    push_held(out, conn)?;
+    push_next(out, conn, source)?;
+    push_held(out, conn)?;
+    push_held(out, conn)?;
+    push_next(out, conn, source)?;
+    Ok(())
+}
+
+/// The same for the bytes of a row, which come whole.
+fn looked(alloc: Global, conn: &mut Conn, text: &str) -> Result<String, OutOfMemory> {
+    let bytes = bytes_of(alloc, text)?;
+    let mut source = MemorySource::new(alloc, &bytes, 0, &[])?;
+    let mut out = String::new(alloc);
+    conn.clear();
+    push_looks(&mut out, conn, &mut source)?;
+    Ok(out)
+}
+
+/// Whether the looks at the bytes of a row give what it says.
+fn look_gives(alloc: Global, conn: &mut Conn, row: &str) -> bool {
+    let (text, wanted) = row.split_once(" => ").unwrap_or(("", "?"));
+    match looked(alloc, conn, text) {
+        Ok(got) => got.as_str() == wanted,
+        Err(_) => false,
+    }
+}
+
+/// Rows of bytes and what the looks at them give.
+const LOOKS: &str = " => -end--end
+GET /a HTTP/1.1<Host: x<<GET /b HTTP/1.1<Host: x<< => -Get keep /a ;Get keep /b ;-end
+GET /a HTTP/1.1<Host: x<<GET /b HTTP/1.1<Host: x<<GET /c HTTP/1.1<Host: x<< => -Get keep /a ;Get keep /b ;Get keep /c ;end
+GET /a HTTP/1.1<Host: x<<POST /b HTTP/1.1<Host: x<Content-Length: 3<<abcGET /c HTTP/1.1<Host: x< => -Get keep /a ;Post keep /b abc;-Cut
+GET /a HTTP/1.1<Host: x<<POST /b HTTP/1.1<Host: x<Content-Length: 3<<ab => -Get keep /a ;--Cut
+GET /a HTTP/1.1<Host: x<<POST /b HTTP/1.1<Host: x<Transfer-Encoding: chunked<<3<abc<0<<GET /c HTTP/1.0<< => -Get keep /a ;Post keep /b abc;Get close /c ;end
+GET /a HTTP/1.1<Host: x<<GET<< => -Get keep /a ;--BadHead
+GET<<GET / HTTP/1.1<Host: x<< => -BadHead--Cut";
+
+/// A message is at hand where it stands whole in what was taken, and none behind a fault.
+#[test]
+fn looks_at_hand(rt: HostRuntime) -> Result<(), Fail> {
+    assert_eq!(rt; LOOKS.lines().count(), 8);
+    let mut conn = Conn::new(rt.alloc(), LIMIT)?;
+    for row in LOOKS.lines() {
+        assert!(rt; look_gives(rt.alloc(), &mut conn, row), "{row}");
+    }
+    Ok(())
+}
