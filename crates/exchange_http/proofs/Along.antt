@@ -1,5 +1,5 @@
 -- What is said over a roster and a clock, said over the same ones by another name.
-use Rattle.std.proofs.Common.{◌≡◌, ℕ, List, false, Option, Result, Ok, Err, OnOk, IfErr, sym, subst}
+use Rattle.std.proofs.Common.{◌≡◌, ℕ, List, false, Option, Result, Ok, Err, IfOk, OnOk, OnErr, IfErr, sym, subst}
 use Rattle.adx_io.specs.Streams.{Tape}
 use Rattle.adx_desk.specs.Desks.{OnDisk}
 use Rattle.day_rules.specs.Laws.{Arrival}
@@ -48,14 +48,40 @@ pub way_with : {D L : Type 0} {faults : D → ℕ} {may_leave : D → List ℕ �
 way_with {faults = faults} {may_leave = may_leave} {moment = moment} {left_since = left_since} {Works = Works} {IsMoment = IsMoment} {r = r} {start = start} {lanes = lanes} {tape = tape} {tape_now = tape_now} {coming = coming} {before = before} {now = now} {lanes_now = lanes_now} {held = held} {least = least} {waiting = waiting} notices other same w =
     subst (λ (l : List Arrival). IsUnderWay faults may_leave moment left_since Works IsMoment r start lanes tape tape_now coming before now lanes_now l false held least waiting) same w
 
+-- and behind the same bytes that are held
+pub way_behind : {D L : Type 0} {faults : D → ℕ} {may_leave : D → List ℕ → Type 0} {moment : D → ℕ} {left_since : D → ℕ → List ℕ → Type 0} {Works : List ℕ → List ℕ → Lane L → Lane L → Outcome → Type 0} {IsMoment : ℕ → Type 0} {r : Roster}
+    {start : OnDisk D} {lanes : List (Lane L)} {tape tape_now : Option Tape} {count : ℕ} {before : Option (List ℕ)} {now : OnDisk D} {lanes_now : List (Lane L)} {notices : List Arrival} {held : Option (List ℕ)} {least waiting : ℕ}
+    (ahead other : List ℕ) → ahead ≡ other
+    → IsUnderWay faults may_leave moment left_since Works IsMoment r start lanes tape tape_now (more ahead count) before now lanes_now notices false held least waiting
+    → IsUnderWay faults may_leave moment left_since Works IsMoment r start lanes tape tape_now (more other count) before now lanes_now notices false held least waiting
+way_behind {faults = faults} {may_leave = may_leave} {moment = moment} {left_since = left_since} {Works = Works} {IsMoment = IsMoment} {r = r} {start = start} {lanes = lanes} {tape = tape} {tape_now = tape_now} {count = count} {before = before} {now = now} {lanes_now = lanes_now} {notices = notices} {held = held} {least = least} {waiting = waiting} ahead other same w =
+    subst (λ (l : List ℕ). IsUnderWay faults may_leave moment left_since Works IsMoment r start lanes tape tape_now (more l count) before now lanes_now notices false held least waiting) same w
+
 -- what follows of an answer that is so
 pub on_ok : {T E P Q : Type 0} (result : Result T E) → OnOk result P → (P → Q) → OnOk result Q
 on_ok (Ok x) p f = f p
 on_ok (Err e) p f = tt
 
+pub on_ok_both : {T E P Q R : Type 0} (result : Result T E) → OnOk result P → OnOk result Q → (P → Q → R) → OnOk result R
+on_ok_both (Ok x) p q f = f p q
+on_ok_both (Err e) p q f = tt
+
 pub on_err : {T E : Type 0} {P Q : E → Type 0} (result : Result T E) → IfErr result P → ((e : E) → P e → Q e) → IfErr result Q
 on_err (Ok x) p f = tt
 on_err (Err e) p f = f e p
+
+-- what follows of a result that is so, where it is an answer, and where it is an error
+pub if_ok_by : {T E : Type 0} {P : T → Type 0} (Q : Result T E → Type 0) (result : Result T E) → Q result → ((x : T) → Q (Ok x) → P x) → IfOk result P
+if_ok_by Q (Ok x) q f = f x q
+if_ok_by Q (Err e) q f = tt
+
+pub on_ok_by : {T E P : Type 0} (Q : Result T E → Type 0) (result : Result T E) → Q result → ((x : T) → Q (Ok x) → P) → OnOk result P
+on_ok_by Q (Ok x) q f = f x q
+on_ok_by Q (Err e) q f = tt
+
+pub on_err_by : {T E P : Type 0} (Q : Result T E → Type 0) (result : Result T E) → Q result → ((e : E) → Q (Err e) → P) → OnErr result P
+on_err_by Q (Ok x) q f = tt
+on_err_by Q (Err e) q f = f e q
 
 -- and with a count that is the same
 pub way_count : {D L : Type 0} {faults : D → ℕ} {may_leave : D → List ℕ → Type 0} {moment : D → ℕ} {left_since : D → ℕ → List ℕ → Type 0} {Works : List ℕ → List ℕ → Lane L → Lane L → Outcome → Type 0} {IsMoment : ℕ → Type 0} {r : Roster}

@@ -1,5 +1,5 @@
 -- Notices that wait were taken, and their replies gathered or not.
-use Rattle.std.proofs.Common.{◌≡◌, inl, inr, ℕ, ◌+◌, List, [], ◌∷◌, ◌++◌, length, take, drop, Bool, true, false, MatchBool, Option, Result, Ok, Err, OnErr, refl, sym, ap, ◌∙◌, subst, arith}
+use Rattle.std.proofs.Common.{◌≡◌, inl, inr, ℕ, ◌+◌, List, [], ◌∷◌, ◌++◌, length, take, drop, Bool, true, false, MatchBool, Option, Result, Ok, Err, OnOk, OnErr, refl, sym, ap, ◌∙◌, subst, arith}
 use Rattle.std.specs.Io.KnownBytes.{append_known}
 use Rattle.std.proofs.lemmas.List.{take-append-drop}
 use Rattle.adx_http.specs.Written.{Writes, WritesBy}
@@ -12,7 +12,7 @@ use Rattle.day_rules.specs.declared.answer.Answer.{Answer}
 use Rattle.deal_floor.specs.declared.roster.Roster.{Roster}
 use Rattle.fan_out.specs.declared.lane.Lane.{Lane}
 use Rattle.fan_out.specs.Lanes.{Outcome}
-use Rattle.notice_batches.specs.Batches.{BatchState, joined}
+use Rattle.notice_batches.specs.Batches.{BatchState, MayJoin, joined}
 use Rattle.exchange_http.specs.Gathered.{Moves, count_of}
 use Rattle.exchange_http.specs.Running.{Coming, FlushFails, Flushes, IsFloor, IsSettled, IsUnderWay, TakesNotices, outcomes_bytes, told_all}
 use Rattle.exchange_http.proofs.Gathered.{known_none}
@@ -44,13 +44,13 @@ settled_now held sunk left least at none all =
     record { none = none; all = all ∙ ap count_of (sym (at ∙ ap (append_known sunk) none ∙ known_none sunk)) }
 
 -- a batch that a notice joined, or that is as it was
-pub added_calls : (b : Bool) (old new : BatchState) (x : Arrival) → b ≡ true → MatchBool b (new ≡ joined old x) (new ≡ old) → new.calls ≡ old.calls ++ x ∷ []
-added_calls true old new x is clause = ap (λ (s : BatchState). s.calls) clause
+pub added_calls : (b : Bool) (old new : BatchState) (x : Arrival) → b ≡ true → MatchBool b (MayJoin old x × (new ≡ joined old x)) ((MayJoin old x → ⊥) × (new ≡ old)) → new.calls ≡ old.calls ++ x ∷ []
+added_calls true old new x is clause = ap (λ (s : BatchState). s.calls) clause.1
 added_calls false old new x is clause = absurd (cc is)
 
-pub same_calls : (b : Bool) (old new : BatchState) (x : Arrival) → b ≡ false → MatchBool b (new ≡ joined old x) (new ≡ old) → new.calls ≡ old.calls
+pub same_calls : (b : Bool) (old new : BatchState) (x : Arrival) → b ≡ false → MatchBool b (MayJoin old x × (new ≡ joined old x)) ((MayJoin old x → ⊥) × (new ≡ old)) → new.calls ≡ old.calls
 same_calls true old new x is clause = absurd (cc is)
-same_calls false old new x is clause = ap (λ (s : BatchState). s.calls) clause
+same_calls false old new x is clause = ap (λ (s : BatchState). s.calls) clause.1
 
 -- under way with the same notices, and behind the same last message
 pub way_notices : {D L : Type 0} {faults : D → ℕ} {may_leave : D → List ℕ → Type 0} {moment : D → ℕ} {left_since : D → ℕ → List ℕ → Type 0} {Works : List ℕ → List ℕ → Lane L → Lane L → Outcome → Type 0} {IsMoment : ℕ → Type 0} {r : Roster}
@@ -120,3 +120,10 @@ module _ {D : Type 0} (faults : D → ℕ) (may_leave : D → List ℕ → Type 
       → FlushFails faults may_leave moment left_since close notices old new held held_now least waiting least_now waiting_now → IsFloor r new lanes
   floor_failed {L = L} r old new lanes close notices held held_now least waiting least_now waiting_now floor (inl same) = subst (λ (d : OnDisk D). IsFloor r d lanes) (sym same.0) floor
   floor_failed {L = L} r old new lanes close notices held held_now least waiting least_now waiting_now floor (inr f) = floor_behind r old new lanes notices f.0 floor f.1
+
+  -- the floor behind notices, whose replies were gathered or not
+  pub floor_after : {L T E : Type 0} (result : Result T E) (r : Roster) (old new : OnDisk D) (lanes : List (Lane L)) (close : Bool) (notices : List Arrival) (held held_now : Option (List ℕ)) (least waiting least_now waiting_now : ℕ) → IsFloor r old lanes
+      → OnOk result (Flushes faults may_leave moment left_since close notices old new held held_now least waiting least_now waiting_now)
+      → OnErr result (FlushFails faults may_leave moment left_since close notices old new held held_now least waiting least_now waiting_now) → IsFloor r new lanes
+  floor_after (Ok done) r old new lanes close notices held held_now least waiting least_now waiting_now floor done_so fails = floor_flushed r old new lanes close notices held held_now least waiting least_now waiting_now floor done_so
+  floor_after (Err e) r old new lanes close notices held held_now least waiting least_now waiting_now floor done_so fails = floor_failed r old new lanes close notices held held_now least waiting least_now waiting_now floor fails

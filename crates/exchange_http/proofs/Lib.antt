@@ -19,6 +19,7 @@ pub mod RunsJoined
 pub mod RunsOfCalls
 pub mod RunsOfNotices
 pub mod RunsOutcomes
+pub mod RunsRecords
 pub mod RunsTogether
 pub mod Served
 pub mod TakenAnswers

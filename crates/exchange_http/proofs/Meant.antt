@@ -1,4 +1,4 @@
--- No message is without a meaning, and each has one but for how a request for bids is read of its tree.
+-- No message is without a meaning, and none has two.
 use Rattle.std.proofs.Common.{◌≡◌, ◌≢◌, inl, inr, ℕ, List, Bool, true, false, Option, Some, None, Ok, Err, refl, sym, ap, ◌∙◌, subst}
 use Rattle.adx_json.specs.Faults.{IsFault}
 use Rattle.adx_json.specs.Grammar.{IsJson}
@@ -17,8 +17,8 @@ use Rattle.script_lines.proofs.OneFault.{one_fault}
 use Rattle.script_lines.proofs.SomeMeaning.{some_first}
 use Rattle.script_lines.proofs.SomeRequest.{some_request}
 use Rattle.tree_view.specs.Checks.{first_fault, judged_by}
-use Rattle.exchange_http.specs.Laws.{HasMeaning}
-use Rattle.exchange_messages.specs.Meanings.{BodyMeans, Meaning, Means, MeansBy, PathMeans, ServedMeans, TreeMeans, asks, notifies, query_meaning, refused, wants_books}
+use Rattle.exchange_http.specs.Laws.{AreOne, HasMeaning, HasOneMeaning}
+use Rattle.exchange_messages.specs.Meanings.{BodyMeans, Meaning, MeansBy, PathMeans, ServedMeans, TreeMeans, asks, notifies, query_meaning, refused, wants_books}
 use Rattle.exchange_messages.specs.Paths.{is_served, path_named}
 use Rattle.exchange_messages.specs.declared.path.Path.{Path}
 use Rattle.exchange_messages.specs.declared.refusal.Refusal.{Refusal}
@@ -70,16 +70,7 @@ means_by (Some path) request none = served_means (is_served path (verb_of_method
 pub has_meaning : HasMeaning
 has_meaning = λ request none. means_by (path_named (path_of request.head.target)) request none
 
--- two meanings are one, but for the request that is read of a tree
-abbrev pub AreOne : Meaning → Meaning → Type 0
-AreOne (asks t asked) (asks u other) = t ≡ u
-AreOne (asks t asked) (notifies kind auction award) = ⊥
-AreOne (asks t asked) wants_books = ⊥
-AreOne (asks t asked) (refused why) = ⊥
-AreOne (notifies kind auction award) y = y ≡ notifies kind auction award
-AreOne wants_books y = y ≡ wants_books
-AreOne (refused why) y = y ≡ refused why
-
+-- equal meanings are one
 same_one : (x y : Meaning) → y ≡ x → AreOne x y
 same_one (asks t asked) y is = subst (AreOne (asks t asked)) (sym is) refl
 same_one (notifies kind auction award) y is = is
@@ -115,5 +106,6 @@ one_meaning_by : (path : Option Path) (request : Request) (x y : Meaning) → Me
 one_meaning_by None request x y means other = same_one x y (other ∙ sym means)
 one_meaning_by (Some path) request x y means other = one_served_meaning (is_served path (verb_of_method request.head.method)) path request x y means other
 
-pub one_meaning : (request : Request) (x y : Meaning) → Means request x → Means request y → AreOne x y
+-- and none with two
+pub one_meaning : HasOneMeaning
 one_meaning request x y means other = one_meaning_by (path_named (path_of request.head.target)) request x y means other

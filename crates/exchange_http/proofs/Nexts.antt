@@ -1,5 +1,5 @@
 -- What the next message of a connection gives, by what taking it gives.
-use Rattle.std.proofs.Common.{◌≡◌, ℕ, suc, ◌<◌, List, [], ◌∷◌, ◌++◌, Bool, true, false, Option, Some, None, Ok, Err, refl, sym, ap, ◌∙◌, inl, inr, arith, subst, append-nil}
+use Rattle.std.proofs.Common.{◌≡◌, ℕ, suc, ◌<◌, List, [], ◌++◌, Bool, true, false, Option, Some, None, Ok, Err, refl, sym, ap, arith, subst, append-nil}
 use Rattle.std.proofs.lemmas.List.Elements.{All-nil}
 use Rattle.adx_io.specs.Streams.{Tape, WhereTold}
 use Rattle.adx_desk.specs.Desks.{OnDisk}
@@ -9,15 +9,11 @@ use Rattle.deal_floor.specs.declared.roster.Roster.{Roster}
 use Rattle.fan_out.specs.declared.lane.Lane.{Lane}
 use Rattle.fan_out.specs.Lanes.{Outcome}
 use Rattle.http_bodies.specs.Steps.{Advances}
-use Rattle.http_connection.specs.Answers.{AnswersMessage, GivesMessage, Shows}
-use Rattle.http_connection.specs.Laws.RequestAnswer.{request, ending}
-use Rattle.http_connection.specs.Messages.{IsRequestThen, IsUnfinishedRequest, RefusesRequest, Request}
-use Rattle.http_connection.specs.Ready.{HasRequest, IsReady}
+use Rattle.http_connection.specs.Answers.{GivesMessage}
+use Rattle.http_connection.specs.Messages.{IsRequestThen, IsUnfinishedRequest, Request}
 use Rattle.http_connection.specs.State.{ConnState}
 use Rattle.http_connection.specs.declared.conn.ConnEnd.{ConnEnd}
-use Rattle.http_connection.specs.declared.conn.Message.{Message}
 use Rattle.http_connection.proofs.Fronts.{request_stays}
-use Rattle.http_connection.proofs.OneAnswer.{has_one_request, read_not_refused}
 use Rattle.http_grammar.specs.Requests.{is_kept}
 use Rattle.http_grammar.specs.declared.fault.HttpFault.{HttpFault}
 use Rattle.http_service.specs.Steps.{BringsOne}
@@ -32,20 +28,7 @@ use Rattle.exchange_http.proofs.Gathered.{known_none}
 use Rattle.exchange_http.proofs.RunsCalls.{runs_none}
 use Rattle.exchange_http.proofs.UnderWay.{Way, may_fail}
 
--- a source that has none left
-abbrev pub at_end : Tape
-at_end = record { taken = []; left = [] }
-
--- a message that was read of what was held is the one that the held bytes begin with
-pub held_one : (c c_now : ConnState) (m : Message) → c.failed ≡ false → AnswersMessage c c_now (Some at_end) (Some at_end) (Ok (Some m)) → (r : Request) × IsRequestThen c.limit c.held r c_now.held × Shows m r
-held_one c c_now m sound answers =
-    let told : GivesMessage c.limit (c.held ++ []) (Ok (Some m)) (c_now.held ++ []) = answers.told sound in (
-      told.0,
-      subst (λ (b : List ℕ). IsRequestThen c.limit b told.0 c_now.held) (append-nil c.held) (subst (λ (b : List ℕ). IsRequestThen c.limit (c.held ++ []) told.0 b) (append-nil c_now.held) told.1),
-      told.2,
-    )
-
--- whatever the source brings behind them
+-- a message that the held bytes begin with comes first, whatever the source brings behind them
 pub held_brings : (limit : ℕ) (ahead ahead_now : List ℕ) (r : Request) (tape : Option Tape) → IsRequestThen limit ahead r ahead_now → BringsOne limit ahead ahead_now tape tape r
 held_brings limit ahead ahead_now r None is = refl
 held_brings limit ahead ahead_now r (Some t) is = request_stays limit ahead t.left r ahead_now is
@@ -53,37 +36,6 @@ held_brings limit ahead ahead_now r (Some t) is = request_stays limit ahead t.le
 pub stands_still : (tape : Option Tape) → Advances tape tape
 stands_still None = refl
 stands_still (Some t) = ([], record { taken = sym (append-nil t.taken); left = refl })
-
--- bytes that begin with a message aren't at their end
-pub held_not_none : (c c_now : ConnState) → IsReady c → AnswersMessage c c_now (Some at_end) (Some at_end) (Ok None) → ⊥
-held_not_none c c_now ready answers =
-    let told : GivesMessage c.limit (c.held ++ []) (Ok None) (c_now.held ++ []) = answers.told ready.0 in
-    let none : c.held ≡ [] = sym (append-nil c.held) ∙ told.0 in
-    let same : ending ≡ request ready.1.0 ready.1.1 = has_one_request c.limit c.held ending (request ready.1.0 ready.1.1) none ready.1.2 in
-    cc
-
--- nor refused
-not_refused : (limit : ℕ) (bytes : List ℕ) (fault : HttpFault) → HasRequest limit bytes → RefusesRequest limit (bytes ++ []) fault → ⊥
-not_refused limit bytes fault has refuses = read_not_refused limit bytes has.0 has.1 fault has.2 (subst (λ (b : List ℕ). RefusesRequest limit b fault) (append-nil bytes) refuses)
-
-not_unfinished : (limit : ℕ) (bytes given : List ℕ) → HasRequest limit bytes → [] ≡ given ++ [] → IsUnfinishedRequest limit (bytes ++ given) → ⊥
-not_unfinished limit bytes [] has none (inl empty) =
-    let same : ending ≡ request has.0 has.1 = has_one_request limit bytes ending (request has.0 has.1) (sym (append-nil bytes) ∙ empty) has.2 in
-    cc
-not_unfinished limit bytes [] has none (inr refuses) = not_refused limit bytes HttpFault.Cut has refuses
-not_unfinished limit bytes (x ∷ given) has none either = cc
-
-pub held_no_fault : (c c_now : ConnState) (fault : HttpFault) → IsReady c → AnswersMessage c c_now (Some at_end) (Some at_end) (Err fault) → ⊥
-held_no_fault c c_now HttpFault.ReadFault ready answers =
-    let unread : (given : List ℕ) × ([] ≡ given ++ []) × IsUnfinishedRequest c.limit (c.held ++ given) = answers.unread refl in
-    not_unfinished c.limit c.held unread.0 ready.1 unread.1 unread.2
-held_no_fault c c_now HttpFault.BadHead ready answers = not_refused c.limit c.held HttpFault.BadHead ready.1 (answers.told ready.0)
-held_no_fault c c_now HttpFault.HeadTooLong ready answers = not_refused c.limit c.held HttpFault.HeadTooLong ready.1 (answers.told ready.0)
-held_no_fault c c_now HttpFault.LengthRequired ready answers = not_refused c.limit c.held HttpFault.LengthRequired ready.1 (answers.told ready.0)
-held_no_fault c c_now HttpFault.BodyTooLong ready answers = not_refused c.limit c.held HttpFault.BodyTooLong ready.1 (answers.told ready.0)
-held_no_fault c c_now HttpFault.BadChunk ready answers = not_refused c.limit c.held HttpFault.BadChunk ready.1 (answers.told ready.0)
-held_no_fault c c_now HttpFault.Cut ready answers = not_refused c.limit c.held HttpFault.Cut ready.1 (answers.told ready.0)
-held_no_fault c c_now HttpFault.Coding ready answers = not_refused c.limit c.held HttpFault.Coding ready.1 (answers.told ready.0)
 
 module _ {D L : Type 0} (faults : D → ℕ) (may_leave : D → List ℕ → Type 0) (moment : D → ℕ) (left_since : D → ℕ → List ℕ → Type 0) (Works : List ℕ → List ℕ → Lane L → Lane L → Outcome → Type 0) (IsMoment : ℕ → Type 0) (r : Roster) where
   module _ (start : OnDisk D) (lanes : List (Lane L)) (tape tape_old tape_now : Option Tape) (ahead ahead_now : List ℕ) (count : ℕ) (before : Option (List ℕ)) (old : OnDisk D) (lanes_old : List (Lane L)) (notices : List Arrival) (held : Option (List ℕ)) (least waiting : ℕ) where

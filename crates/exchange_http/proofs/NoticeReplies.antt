@@ -27,8 +27,9 @@ use Rattle.script_day.specs.OnDisk.{history_after}
 use Rattle.script_day.proofs.DeskRuns.{history_append}
 use Rattle.exchange_messages.specs.Courses.{AnswersOn, Course}
 use Rattle.exchange_messages.specs.Meanings.{MeansBy, ServedMeans, notifies}
+use Rattle.exchange_messages.specs.Outcomes.{outcome_reply}
 use Rattle.exchange_messages.specs.Paths.{is_served, path_named}
-use Rattle.exchange_http.specs.Running.{AreOutcomes, IsOutcome, StayTo, Waits, outcome_bytes, outcome_reply, outcomes_bytes, told_all, told_by}
+use Rattle.exchange_http.specs.Running.{AreOutcomes, IsOutcome, StayTo, Waits, outcome_bytes, outcomes_bytes, told_all, told_by}
 use Rattle.exchange_messages.specs.Turns.{AnswerReplies, CallReplies, terms_by}
 use Rattle.exchange_messages.specs.declared.path.Path.{Path}
 

@@ -19,12 +19,12 @@ use Rattle.rtb_request.specs.declared.bid_request.BidRequest.{BidRequest}
 use Rattle.script_day.specs.Meanings.{Told, turn_of}
 use Rattle.script_day.specs.OnDisk.{history_after}
 use Rattle.exchange_messages.specs.Courses.{AnswersOn, Course, begun}
-use Rattle.exchange_http.specs.Laws.{HasOneReply}
+use Rattle.exchange_http.specs.Laws.{AreOne, HasOneReply}
 use Rattle.exchange_messages.specs.Meanings.{Meaning, asks, notifies, refused, wants_books}
 use Rattle.exchange_messages.specs.Replies.{Reply}
 use Rattle.exchange_http.specs.Serving.{IsMomentOf}
 use Rattle.exchange_messages.specs.Turns.{AnswerReplies, AskReplies, AsksBehind, CallReplies, IsAnswered, IsAnsweredAs, IsAsked, RepliesBy, SoldReplies, sale_reply, terms_by}
-use Rattle.exchange_http.proofs.Meant.{AreOne, one_meaning}
+use Rattle.exchange_http.proofs.Meant.{one_meaning}
 use Rattle.exchange_messages.proofs.OneSale.{one_sale}
 
 -- what begins two equal lists

@@ -22,6 +22,7 @@ use Rattle.script_day.proofs.Books.{run_books}
 use Rattle.script_day.proofs.DeskRuns.{split_more}
 use Rattle.exchange_http.specs.Records.{IsLeftInDoubt, IsRecordOfRun, MayBeLeftBy, RunsOn, StandsInRunFrom, count_after}
 use Rattle.exchange_http.proofs.RunsCounts.{counted_some, same_count}
+use Rattle.exchange_http.proofs.RunsRecords.{if_any, record_along}
 
 -- no list has a place in an empty one
 pub no_place : {X : Type 0} (front : List X) (one : X) (back : List X) → [] ≡ front ++ one ∷ back → ⊥
@@ -30,12 +31,12 @@ no_place (a ∷ front) one back is = cc is
 
 -- a file that stands for the history, or for it and what is in doubt, stands within no call
 stands_still : (terms : DeskTerms) (start tail : List Entry) (file : List ℕ) → WithOrWithout terms start tail file → StandsInRunFrom terms start tail [] file
-stands_still terms start tail file stands = record { front = []; back = []; split = refl; more = tail; is = inr (inl refl); stands = stands }
+stands_still terms start tail file stands = record { front = []; back = []; split = refl; more = tail; is = inr (inl (refl, refl)); stands = stands }
 
 -- one that stands for it alone, with what was in doubt, or with a record of the run
-pub stands_first : (terms : DeskTerms) (start tail : List Entry) (told : List Told) (entries : List Entry) (file : List ℕ) → IsRecordOfRun terms.day start told entries → WithAtMostOne terms start tail entries file → StandsInRunFrom terms start tail told file
+pub stands_first : (terms : DeskTerms) (start tail : List Entry) (told : List Told) (entries : List Entry) (file : List ℕ) → IsRecordOfRun terms.day start told start entries → WithAtMostOne terms start tail entries file → StandsInRunFrom terms start tail told file
 stands_first terms start tail told entries file r (inl alone) = record { front = []; back = told; split = refl; more = []; is = inl refl; stands = inl alone }
-stands_first terms start tail told entries file r (inr (inl with_tail)) = record { front = []; back = told; split = refl; more = tail; is = inr (inl refl); stands = inr with_tail }
+stands_first terms start tail told entries file r (inr (inl with_tail)) = record { front = []; back = told; split = refl; more = tail; is = inr (inl (refl, refl)); stands = inr with_tail }
 stands_first terms start tail told entries file r (inr (inr with_new)) = record { front = []; back = told; split = refl; more = entries; is = inr (inr r); stands = inr with_new }
 
 -- the counts of one call
@@ -71,13 +72,14 @@ same_given_up : (terms : Terms) (start : List Entry) (t : Told) (f : Fault) → 
 same_given_up terms start t f is = ap (λ (x : Option Fault). with_entry start (if is_done (outcome_by x) then (reply terms start t.call).entry else None)) is
 
 -- the record of one call is one of its run
-pub record_of_one : (terms : Terms) (start : List Entry) (t : Told) → IsRecordOfRun terms start (t ∷ []) (record_of terms start t.call)
+pub record_of_one : (terms : Terms) (start : List Entry) (t : Told) → IsRecordOfRun terms start (t ∷ []) start (record_of terms start t.call)
 record_of_one terms start t = record {
   front = [];
   group = t ∷ [];
   back = [];
   split = refl;
   share = inl (t.call, refl);
+  at = refl;
   is = sym (append-nil (record_of terms start t.call));
 }
 
@@ -86,12 +88,20 @@ left_done : (terms : Terms) (start : List Entry) (t : Told) (tail next : List En
 left_done terms start t tail next None done is left = inr (inl (left, same_done terms start t done is))
 left_done terms start t tail next (Some e) done is left = inl left
 
-left_by : (terms : Terms) (start : List Entry) (t : Told) (tail next : List Entry) (fault : Option Fault) → t.fault ≡ fault → MayBeLeft fault (record_of terms start t.call) tail next → MayBeLeftBy terms start (t ∷ []) tail next
+-- the record of a call that the disk's fault gave up
+doubt_of_one : (terms : Terms) (start : List Entry) (t : Told) → t.fault ≡ Some Fault.Disk → IsLeftInDoubt terms start (t ∷ []) (record_of terms start t.call)
 unfolding record_of_one
+doubt_of_one terms start t is =
+    let now = after_turn terms start (turn_of t) in record {
+      record_is = record_along terms start (t ∷ []) start now (record_of terms start t.call) (same_given_up terms start t Fault.Disk is) (record_of_one terms start t);
+      by_disk = (if_any (t.fault ≡ Some Fault.Disk) (reply terms now t.call).entry is, tt);
+    }
+
+left_by : (terms : Terms) (start : List Entry) (t : Told) (tail next : List Entry) (fault : Option Fault) → t.fault ≡ fault → MayBeLeft fault (record_of terms start t.call) tail next → MayBeLeftBy terms start (t ∷ []) tail next
 left_by terms start t tail next None is left = left_done terms start t tail next (reply terms start t.call).entry is refl left
 left_by terms start t tail next (Some Fault.Disk) is (inl left) = inr (inl (left, same_given_up terms start t Fault.Disk is))
 left_by terms start t tail next (Some Fault.Disk) is (inr left) =
-    inr (inr (subst (IsLeftInDoubt terms start (t ∷ [])) (sym left) (record { record_is = record_of_one terms start t; last = same_given_up terms start t Fault.Disk is })))
+    inr (inr (subst (IsLeftInDoubt terms start (t ∷ [])) (sym left) (doubt_of_one terms start t is)))
 left_by terms start t tail next (Some (Fault.JournalFull size)) is left = inr (inl (left, same_given_up terms start t (Fault.JournalFull size) is))
 
 module _ {D : Type 0} (faults : D → ℕ) (may_leave : D → List ℕ → Type 0) (moment : D → ℕ) (left_since : D → ℕ → List ℕ → Type 0) where

@@ -1,5 +1,5 @@
 -- One run behind another is a run.
-use Rattle.std.proofs.Common.{◌≡◌, ◌⊎◌, ⊎_elim, inl, inr, ℕ, List, [], ◌∷◌, ◌++◌, length, map, refl, sym, ap, ◌∙◌, subst, append_assoc}
+use Rattle.std.proofs.Common.{◌≡◌, ◌⊎◌, ⊎_elim, inl, inr, ℕ, List, [], ◌∷◌, ◌++◌, length, refl, sym, ap, ◌∙◌, subst, append_assoc}
 use Rattle.std.proofs.lemmas.List.Elements.{All-append}
 use Rattle.adx_io.specs.Disks.{LeavesOnly}
 use Rattle.adx_desk.specs.Desks.{OnDisk}
@@ -12,7 +12,8 @@ use Rattle.day_rules.specs.Terms.{Terms}
 use Rattle.script_day.specs.Meanings.{Told, turns_of}
 use Rattle.script_day.specs.OnDisk.{FullEach, FullOnly, history_after}
 use Rattle.script_day.proofs.DeskRuns.{history_append, turns_append}
-use Rattle.exchange_http.specs.Records.{IsLeftInDoubt, IsRecordOfRun, MayBeLeftBy, RunsOn, StandsInRunFrom, entries_by}
+use Rattle.exchange_http.specs.Records.{AreGivenUp, IsLeftInDoubt, IsRecordOfRun, MayBeInDoubtAt, MayBeLeftBy, RunsOn, StandsInRunFrom}
+use Rattle.exchange_http.proofs.RunsRecords.{record_along}
 use Rattle.exchange_http.proofs.RunsCounts.{counts_join, among_later, raises_join, raises_none, rises_join}
 
 -- a place in two lists, one behind the other
@@ -30,38 +31,48 @@ split_join (x ∷ xs) ys (a ∷ front) one back is =
     (split_join xs ys front one back tail)
 
 -- the record of calls of a run is one of the run with more calls behind it,
-pub record_in_front : (terms : Terms) (start : List Entry) (told more : List Told) (tail : List Entry) → IsRecordOfRun terms start told tail → IsRecordOfRun terms start (told ++ more) tail
-record_in_front terms start told more tail r = record {
+pub record_in_front : (terms : Terms) (start : List Entry) (told more : List Told) (history tail : List Entry) → IsRecordOfRun terms start told history tail → IsRecordOfRun terms start (told ++ more) history tail
+record_in_front terms start told more history tail r = record {
   front = r.front;
   group = r.group;
   back = r.back ++ more;
   split = ap (λ (l : List Told). l ++ more) r.split ∙ (append_assoc r.front (r.group ++ r.back) more ∙ ap (λ (l : List Told). r.front ++ l) (append_assoc r.group r.back more));
   share = r.share;
+  at = r.at;
   is = r.is;
 }
 
 -- and with more before it
-pub record_in_rest : (terms : Terms) (start : List Entry) (told more : List Told) (tail : List Entry) → IsRecordOfRun terms (history_after terms start told) more tail → IsRecordOfRun terms start (told ++ more) tail
-record_in_rest terms start told more tail r = record {
+pub record_in_rest : (terms : Terms) (start : List Entry) (told more : List Told) (history tail : List Entry) → IsRecordOfRun terms (history_after terms start told) more history tail → IsRecordOfRun terms start (told ++ more) history tail
+record_in_rest terms start told more history tail r = record {
   front = told ++ r.front;
   group = r.group;
   back = r.back;
   split = ap (λ (l : List Told). told ++ l) r.split ∙ sym (append_assoc told r.front (r.group ++ r.back));
   share = r.share;
-  is = r.is ∙ ap (λ (h : List Entry). entries_by terms h (map (λ (t : Told). t.call) r.group)) (sym (history_append terms start told r.front));
+  at = r.at ∙ sym (history_append terms start told r.front);
+  is = r.is;
 }
 
 -- the same of one that is in doubt
 left_in_front : (terms : Terms) (start : List Entry) (told more : List Told) (tail : List Entry) → IsLeftInDoubt terms start told tail → history_after terms start (told ++ more) ≡ history_after terms start told → IsLeftInDoubt terms start (told ++ more) tail
 unfolding record_in_front
-left_in_front terms start told more tail d same = record { record_is = record_in_front terms start told more tail d.record_is; last = same ∙ d.last }
+left_in_front terms start told more tail d same =
+    let now = history_after terms start told in
+    let all = history_after terms start (told ++ more) in record {
+      record_is = record_along terms start (told ++ more) now all tail same (record_in_front terms start told more now tail d.record_is);
+      by_disk = subst (λ (h : List Entry). AreGivenUp terms h d.record_is.group) (sym same) d.by_disk;
+    }
 
 left_in_rest : (terms : Terms) (start : List Entry) (told more : List Told) (tail : List Entry) → IsLeftInDoubt terms (history_after terms start told) more tail → IsLeftInDoubt terms start (told ++ more) tail
 unfolding record_in_rest
-left_in_rest terms start told more tail d = record {
-  record_is = record_in_rest terms start told more tail d.record_is;
-  last = history_append terms start told more ∙ (d.last ∙ sym (history_append terms start told d.record_is.front));
-}
+left_in_rest terms start told more tail d =
+    let now = history_after terms (history_after terms start told) more in
+    let all = history_after terms start (told ++ more) in
+    let same = history_append terms start told more in record {
+      record_is = record_along terms start (told ++ more) now all tail same (record_in_rest terms start told more now tail d.record_is);
+      by_disk = subst (λ (h : List Entry). AreGivenUp terms h d.record_is.group) (sym same) d.by_disk;
+    }
 
 -- what may be in doubt behind both
 left_join : (terms : Terms) (start : List Entry) (told more : List Told) (tail mid next : List Entry) → MayBeLeftBy terms (history_after terms start told) more mid next → MayBeLeftBy terms start told tail mid → MayBeLeftBy terms start (told ++ more) tail next
@@ -75,10 +86,10 @@ left_join terms start told more tail mid next (inr (inl (same, stays))) (inr (in
     (inr (inr (left_in_front terms start told more mid d (history_append terms start told more ∙ stays))))
 
 -- a file that stands within the first run stands within both
-one_in_front : (terms : Terms) (start tail : List Entry) (told more : List Told) (es : List Entry) → (es ≡ []) ⊎ ((es ≡ tail) ⊎ IsRecordOfRun terms start told es) → (es ≡ []) ⊎ ((es ≡ tail) ⊎ IsRecordOfRun terms start (told ++ more) es)
-one_in_front terms start tail told more es (inl none) = inl none
-one_in_front terms start tail told more es (inr (inl is)) = inr (inl is)
-one_in_front terms start tail told more es (inr (inr r)) = inr (inr (record_in_front terms start told more es r))
+one_in_front : (terms : Terms) (start tail : List Entry) (told more : List Told) (history es : List Entry) → MayBeInDoubtAt terms start tail told history es → MayBeInDoubtAt terms start tail (told ++ more) history es
+one_in_front terms start tail told more history es (inl none) = inl none
+one_in_front terms start tail told more history es (inr (inl same)) = inr (inl same)
+one_in_front terms start tail told more history es (inr (inr r)) = inr (inr (record_in_front terms start told more history es r))
 
 pub stands_in_front : (terms : DeskTerms) (start tail : List Entry) (told more : List Told) (file : List ℕ) → StandsInRunFrom terms start tail told file → StandsInRunFrom terms start tail (told ++ more) file
 stands_in_front terms start tail told more file s = record {
@@ -86,29 +97,33 @@ stands_in_front terms start tail told more file s = record {
   back = s.back ++ more;
   split = ap (λ (l : List Told). l ++ more) s.split ∙ append_assoc s.front s.back more;
   more = s.more;
-  is = one_in_front terms.day start tail told more s.more s.is;
+  is = one_in_front terms.day start tail told more (history_after terms.day start s.front) s.more s.is;
   stands = s.stands;
 }
 
 -- and so does one that stands within the rest
-one_in_rest : (terms : Terms) (start tail mid : List Entry) (told more : List Told) (es : List Entry) → (es ≡ []) ⊎ ((es ≡ mid) ⊎ IsRecordOfRun terms (history_after terms start told) more es) → MayBeLeftBy terms start told tail mid
-    → (es ≡ []) ⊎ ((es ≡ tail) ⊎ IsRecordOfRun terms start (told ++ more) es)
-one_in_rest terms start tail mid told more es (inl none) left = inl none
-one_in_rest terms start tail mid told more es (inr (inr r)) left = inr (inr (record_in_rest terms start told more es r))
-one_in_rest terms start tail mid told more es (inr (inl is)) (inl none) = inl (is ∙ none)
-one_in_rest terms start tail mid told more es (inr (inl is)) (inr (inl same)) = inr (inl (is ∙ same.0))
-one_in_rest terms start tail mid told more es (inr (inl is)) (inr (inr d)) =
-    inr (inr (subst (IsRecordOfRun terms start (told ++ more)) (sym is) (record_in_front terms start told more mid d.record_is)))
+one_in_rest : (terms : Terms) (start tail mid : List Entry) (told more : List Told) (history es : List Entry) → MayBeInDoubtAt terms (history_after terms start told) mid more history es → MayBeLeftBy terms start told tail mid
+    → MayBeInDoubtAt terms start tail (told ++ more) history es
+one_in_rest terms start tail mid told more history es (inl none) left = inl none
+one_in_rest terms start tail mid told more history es (inr (inr r)) left = inr (inr (record_in_rest terms start told more history es r))
+one_in_rest terms start tail mid told more history es (inr (inl (is, at))) (inl none) = inl (is ∙ none)
+one_in_rest terms start tail mid told more history es (inr (inl (is, at))) (inr (inl (same, stays))) = inr (inl (is ∙ same, at ∙ stays))
+one_in_rest terms start tail mid told more history es (inr (inl (is, at))) (inr (inr d)) =
+    let now = history_after terms start told in
+    inr (inr (record_along terms start (told ++ more) now history es at
+    (subst (IsRecordOfRun terms start (told ++ more) now) (sym is) (record_in_front terms start told more now mid d.record_is))))
 
 stands_in_rest : (terms : DeskTerms) (start tail mid : List Entry) (told more : List Told) (file : List ℕ) → MayBeLeftBy terms.day start told tail mid → StandsInRunFrom terms (history_after terms.day start told) mid more file → StandsInRunFrom terms start tail (told ++ more) file
-stands_in_rest terms start tail mid told more file left s = record {
-  front = told ++ s.front;
-  back = s.back;
-  split = ap (λ (l : List Told). told ++ l) s.split ∙ sym (append_assoc told s.front s.back);
-  more = s.more;
-  is = one_in_rest terms.day start tail mid told more s.more s.is left;
-  stands = subst (λ (h : List Entry). WithOrWithout terms h s.more file) (sym (history_append terms.day start told s.front)) s.stands;
-}
+stands_in_rest terms start tail mid told more file left s =
+    let now = history_after terms.day (history_after terms.day start told) s.front in
+    let same = sym (history_append terms.day start told s.front) in record {
+      front = told ++ s.front;
+      back = s.back;
+      split = ap (λ (l : List Told). told ++ l) s.split ∙ sym (append_assoc told s.front s.back);
+      more = s.more;
+      is = subst (λ (h : List Entry). MayBeInDoubtAt terms.day start tail (told ++ more) h s.more) same (one_in_rest terms.day start tail mid told more now s.more s.is left);
+      stands = subst (λ (h : List Entry). WithOrWithout terms h s.more file) same s.stands;
+    }
 
 -- a call of both is told that the journal is full only where it may be
 full_join : (terms : DeskTerms) (start : List Entry) (told more : List Told) → FullEach terms start told → FullEach terms (history_after terms.day start told) more → FullEach terms start (told ++ more)

@@ -7,17 +7,19 @@ use Rattle.notice_batches.specs.declared.batch.TheConstants.{BATCH_LIMIT}
 use Rattle.day_rules.specs.declared.answer.Answer.{Answer}
 use Rattle.day_rules.specs.declared.entry.Entry.{Entry}
 use Rattle.day_rules.specs.Laws.{Arrival, after_arrival, after_arrivals, arrival_reply}
+use Rattle.day_rules.specs.Legal.{IsLegal}
 use Rattle.day_rules.specs.Replies.{reply}
 use Rattle.day_rules.specs.Runs.{AreTurns, IsCall, Turn}
 use Rattle.day_rules.specs.Terms.{Terms}
 use Rattle.deal_floor.specs.declared.roster.Roster.{Roster}
 use Rattle.script_day.specs.Meanings.{Told, turn_of, turns_of}
 use Rattle.script_day.specs.OnDisk.{FullEach, FullOnly, history_after}
-use Rattle.exchange_http.specs.Records.{CountsAmong, IsLeftInDoubt, IsRecordOfRun, MayShare, RaisesAmong, call_by, entries_by}
+use Rattle.exchange_http.specs.Records.{AreGivenUp, CountsAmong, IsLeftInDoubt, IsRecordOfRun, MayShare, RaisesAmong, call_by, entries_by}
 use Rattle.exchange_http.specs.Running.{AreOutcomes, IsOutcome, told_all, told_by}
 use Rattle.exchange_messages.specs.Turns.{terms_by}
 use Rattle.exchange_http.proofs.RunsCalls.{no_place}
 use Rattle.exchange_http.proofs.RunsCounts.{same_count}
+use Rattle.exchange_http.proofs.RunsRecords.{given_up_all, record_along}
 
 -- the answers in turn are the outcomes one after another
 pub outcomes_in_turn : (r : Roster) (history : List Entry) (calls : List Arrival) → AreOutcomes r history calls (map Some (answers_in_turn history calls))
@@ -115,7 +117,7 @@ raises_done n (x ∷ calls) (a ∷ answers) = (zero, raises_done n calls answers
 
 -- their record is one of the run,
 pub record_of_all : (terms : Terms) (start : List Entry) (calls : List Arrival) (outcomes : List (Option Answer)) → length calls ≤ BATCH_LIMIT → AreApart calls → length outcomes ≡ length calls
-    → IsRecordOfRun terms start (told_all calls outcomes) (entries_in_turn start calls)
+    → IsRecordOfRun terms start (told_all calls outcomes) start (entries_in_turn start calls)
 record_of_all terms start calls outcomes few apart long =
     let told = told_all calls outcomes in record {
       front = [];
@@ -123,11 +125,16 @@ record_of_all terms start calls outcomes few apart long =
       back = [];
       split = sym (append-nil told);
       share = subst MayShare (sym (calls_told calls outcomes long)) (inr (calls, refl, few, apart));
+      at = refl;
       is = sym (entries_told terms start calls) ∙ ap (entries_by terms start) (sym (calls_told calls outcomes long));
     }
 
 -- and may be in doubt where none was added
-pub doubt_of_all : (terms : Terms) (start : List Entry) (calls : List Arrival) (outcomes : List (Option Answer)) → length calls ≤ BATCH_LIMIT → AreApart calls → length outcomes ≡ length calls
+pub doubt_of_all : (terms : Terms) (start : List Entry) (calls : List Arrival) (outcomes : List (Option Answer)) → length calls ≤ BATCH_LIMIT → AreApart calls → length outcomes ≡ length calls → IsLegal terms start
     → history_after terms start (told_all calls outcomes) ≡ start → IsLeftInDoubt terms start (told_all calls outcomes) (entries_in_turn start calls)
 unfolding record_of_all
-doubt_of_all terms start calls outcomes few apart long stays = record { record_is = record_of_all terms start calls outcomes few apart long; last = stays }
+doubt_of_all terms start calls outcomes few apart long legal stays =
+    let told = told_all calls outcomes in record {
+      record_is = record_along terms start told start (history_after terms start told) (entries_in_turn start calls) stays (record_of_all terms start calls outcomes few apart long);
+      by_disk = subst (λ (h : List Entry). AreGivenUp terms h told) (sym stays) (given_up_all terms start calls outcomes legal apart stays);
+    }

@@ -17,10 +17,11 @@ use Rattle.day_rules.specs.Legal.{IsLegal}
 use Rattle.day_rules.specs.Terms.{Terms}
 use Rattle.script_day.specs.Meanings.{Told}
 use Rattle.script_day.specs.OnDisk.{history_after}
-use Rattle.exchange_http.specs.Records.{CountsAmong, IsLeftInDoubt, IsRecordOfRun, MayBeLeftBy, RaisesAmong, RunsOn, StandsInRunFrom}
+use Rattle.exchange_http.specs.Records.{CountsAmong, IsLeftInDoubt, IsRecordOfRun, MayBeInDoubtAt, MayBeLeftBy, RaisesAmong, RunsOn, StandsInRunFrom}
 use Rattle.exchange_http.specs.Running.{told_all}
 use Rattle.exchange_http.proofs.RunsCalls.{stands_first}
 use Rattle.exchange_http.proofs.RunsCounts.{among_later, counted_some, counts_from, raises_before, raises_none, rises_within, same_count}
+use Rattle.exchange_http.proofs.RunsRecords.{record_along}
 use Rattle.exchange_http.proofs.RunsOutcomes.{counts_done, doubt_of_all, full_all, history_in_turn, raises_done, record_of_all, taken_all}
 
 -- what may be in doubt behind notices that were done together: nothing where they added an entry, else what was
@@ -36,14 +37,14 @@ left_of_record terms start told tail entries next doubt (inr (inl (same, stays))
 left_of_record terms start told tail entries next doubt (inr (inr d)) = inr (inr d)
 
 -- and what a crash leaves then
-one_of_record : (terms : Terms) (start : List Entry) (told : List Told) (tail entries es : List Entry) → IsRecordOfRun terms start told entries → (es ≡ []) ⊎ ((es ≡ entries) ⊎ IsRecordOfRun terms start told es) → (es ≡ []) ⊎ ((es ≡ tail) ⊎ IsRecordOfRun terms start told es)
-one_of_record terms start told tail entries es r (inl none) = inl none
-one_of_record terms start told tail entries es r (inr (inl is)) = inr (inr (subst (IsRecordOfRun terms start told) (sym is) r))
-one_of_record terms start told tail entries es r (inr (inr other)) = inr (inr other)
+one_of_record : (terms : Terms) (start : List Entry) (told : List Told) (tail entries history es : List Entry) → IsRecordOfRun terms start told start entries → MayBeInDoubtAt terms start entries told history es → MayBeInDoubtAt terms start tail told history es
+one_of_record terms start told tail entries history es r (inl none) = inl none
+one_of_record terms start told tail entries history es r (inr (inl (is, at))) = inr (inr (record_along terms start told start history es at (subst (IsRecordOfRun terms start told start) (sym is) r)))
+one_of_record terms start told tail entries history es r (inr (inr other)) = inr (inr other)
 
-stands_of_record : (terms : DeskTerms) (start tail entries : List Entry) (told : List Told) (file : List ℕ) → IsRecordOfRun terms.day start told entries → StandsInRunFrom terms start entries told file → StandsInRunFrom terms start tail told file
+stands_of_record : (terms : DeskTerms) (start tail entries : List Entry) (told : List Told) (file : List ℕ) → IsRecordOfRun terms.day start told start entries → StandsInRunFrom terms start entries told file → StandsInRunFrom terms start tail told file
 stands_of_record terms start tail entries told file r s =
-    record { front = s.front; back = s.back; split = s.split; more = s.more; is = one_of_record terms.day start told tail entries s.more r s.is; stands = s.stands }
+    record { front = s.front; back = s.back; split = s.split; more = s.more; is = one_of_record terms.day start told tail entries (history_after terms.day start s.front) s.more r s.is; stands = s.stands }
 
 module _ {D : Type 0} (faults : D → ℕ) (may_leave : D → List ℕ → Type 0) (moment : D → ℕ) (left_since : D → ℕ → List ℕ → Type 0) where
   -- notices that the desk answered together, by the clauses of `Desk::batch`
@@ -121,7 +122,7 @@ module _ {D : Type 0} (faults : D → ℕ) (may_leave : D → List ℕ → Type 
           let left = runs.keeps (entries_in_turn old.desk.history calls) doubted in (
             left.0,
             left_of_record old.desk.terms.day old.desk.history (told_all calls outcomes) tail (entries_in_turn old.desk.history calls) left.0
-                (doubt_of_all old.desk.terms.day old.desk.history calls outcomes few apart long)
+                (doubt_of_all old.desk.terms.day old.desk.history calls outcomes few apart long (along (λ (x : DeskTerms) (h : List Entry). IsLegal x.day h) runs.legal))
                 (along (λ (x : DeskTerms) (h : List Entry). MayBeLeftBy x.day h (told_all calls outcomes) (entries_in_turn old.desk.history calls) left.0) left.1),
             left.2,
           )

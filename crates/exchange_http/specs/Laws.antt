@@ -1,4 +1,5 @@
--- What follows of the definitions: each message means one thing, and is replied in one way. This project's own.
+-- What follows of the definitions: each message has one meaning, and messages that made the same calls have the same
+-- replies. This project's own.
 use Rattle.std.specs.Prelude.{◌≡◌, ℕ, List, Option}
 use Rattle.day_rules.specs.declared.entry.Entry.{Entry}
 use Rattle.deal_floor.specs.declared.roster.Roster.{Roster}
@@ -7,12 +8,26 @@ use Rattle.fan_out.specs.Lanes.{Outcome}
 use Rattle.http_connection.specs.Messages.{Request}
 use Rattle.http_service.specs.Connections.{Replies}
 use Rattle.exchange_messages.specs.Courses.{AnswersOn, Course, begun}
-use Rattle.exchange_messages.specs.Meanings.{Meaning, Means}
+use Rattle.exchange_messages.specs.Meanings.{Meaning, Means, asks, notifies, refused, wants_books}
 use Rattle.exchange_http.specs.Serving.{IsMomentOf}
 
 -- there is no message without a meaning
 abbrev pub HasMeaning : Type 0
 HasMeaning = (request : Request) → ((m : Meaning) → Means request m → ⊥) → ⊥
+
+-- two meanings are one; of requests for bids it is their tree that is one
+abbrev pub AreOne : Meaning → Meaning → Type 0
+AreOne (asks t asked) (asks u other) = t ≡ u
+AreOne (asks t asked) (notifies kind auction award) = ⊥
+AreOne (asks t asked) wants_books = ⊥
+AreOne (asks t asked) (refused why) = ⊥
+AreOne (notifies kind auction award) y = y ≡ notifies kind auction award
+AreOne wants_books y = y ≡ wants_books
+AreOne (refused why) y = y ≡ refused why
+
+-- and none with two
+abbrev pub HasOneMeaning : Type 0
+HasOneMeaning = (request : Request) (x y : Meaning) → Means request x → Means request y → AreOne x y
 
 -- Messages that made the same calls from the same history were replied with the same bytes, whatever the lanes and the
 -- clocks.

@@ -1,5 +1,5 @@
 -- What the disk keeps of a run whose notices may be written together, at each moment and at the end. This project's own.
-use Rattle.std.specs.Prelude.{◌≡◌, ◌≢◌, ◌⊎◌, ℕ, zero, suc, ◌≤◌, List, [], ◌∷◌, ◌++◌, map, length, Option, Some, None}
+use Rattle.std.specs.Prelude.{◌≡◌, ◌≢◌, ◌⊎◌, ℕ, zero, suc, ◌≤◌, List, [], ◌∷◌, ◌++◌, map, length, Option, Some, None, IfSome}
 use Rattle.adx_io.specs.Disks.{LeavesOnly}
 use Rattle.adx_io.specs.Fakes.{counted}
 use Rattle.adx_io.specs.Streams.{Rises}
@@ -33,38 +33,53 @@ MayShare calls =
     ((one : Call) × (calls ≡ one ∷ []))
     ⊎ ((notices : List Arrival) × (calls ≡ map call_by notices) × (length notices ≤ BATCH_LIMIT) × AreApart notices)
 
--- the tail is the record of some calls of the run, one behind another
-pub record IsRecordOfRun (terms : Terms) (start : List Entry) (told : List Told) (tail : List Entry) : Type 0 where
+-- the tail is the record of some calls of the run, one behind another, at this history: that of the calls before them
+pub record IsRecordOfRun (terms : Terms) (start : List Entry) (told : List Told) (history tail : List Entry) : Type 0 where
   pub front : List Told
   pub group : List Told
   pub back : List Told
   pub split : told ≡ front ++ (group ++ back)
   pub share : MayShare (map (λ (t : Told). t.call) group)
-  pub is : tail ≡ entries_by terms (history_after terms start front) (map (λ (t : Told). t.call) group)
+  pub at : history ≡ history_after terms start front
+  pub is : tail ≡ entries_by terms history (map (λ (t : Told). t.call) group)
 
--- the same, and no entry was added since
+-- each of these calls that has an entry after a history, where those before it are done, was given up by a fault of the
+-- disk
+abbrev pub AreGivenUp : Terms → List Entry → List Told → Type 0
+AreGivenUp terms history [] = Unit {0}
+AreGivenUp terms history (t ∷ told) =
+    IfSome (reply terms history t.call).entry (λ e. t.fault ≡ Some Fault.Disk)
+    × AreGivenUp terms (with_entry history (reply terms history t.call).entry) told
+
+-- The tail is a record of the run at the history behind all of it, so no entry was added since. Each call with an entry
+-- in it was given up by a fault of the disk; one that was asked again, alone, in its last try.
 pub record IsLeftInDoubt (terms : Terms) (start : List Entry) (told : List Told) (tail : List Entry) : Type 0 where
-  pub record_is : IsRecordOfRun terms start told tail
-  pub last : history_after terms start told ≡ history_after terms start record_is.front
+  pub record_is : IsRecordOfRun terms start told (history_after terms start told) tail
+  pub by_disk : AreGivenUp terms (history_after terms start told) record_is.group
 
--- What may be in doubt behind a run, of what was in doubt before it: nothing; the same, where no entry was added; or a
--- record of the run.
+-- What may be in doubt behind a run, of what was in doubt before it: nothing; the same, where no entry was added; or such
+-- a record of the run.
 abbrev pub MayBeLeftBy : Terms → List Entry → List Told → List Entry → List Entry → Type 0
 MayBeLeftBy terms start told tail next =
     (next ≡ []) ⊎ (((next ≡ tail) × (history_after terms start told ≡ start)) ⊎ IsLeftInDoubt terms start told next)
 
--- the file stands for the history behind some first ones of these calls; or for that and the record that was in doubt
--- before, or one of the run
+-- What may be in doubt at a moment of a run, at the history where the file stands: nothing; what was in doubt before the
+-- run, where no entry was added yet; or a record of the run at just that history.
+abbrev pub MayBeInDoubtAt : Terms → List Entry → List Entry → List Told → List Entry → List Entry → Type 0
+MayBeInDoubtAt terms start tail told history more =
+    (more ≡ []) ⊎ (((more ≡ tail) × (history ≡ start)) ⊎ IsRecordOfRun terms start told history more)
+
+-- the file stands for the history behind some first ones of these calls, or for that and what may be in doubt there
 pub record StandsInRunFrom (terms : DeskTerms) (start tail : List Entry) (told : List Told) (file : List ℕ) : Type 0 where
   pub front : List Told
   pub back : List Told
   pub split : told ≡ front ++ back
   pub more : List Entry
-  pub is : (more ≡ []) ⊎ ((more ≡ tail) ⊎ IsRecordOfRun terms.day start told more)
+  pub is : MayBeInDoubtAt terms.day start tail told (history_after terms.day start front) more
   pub stands : WithOrWithout terms (history_after terms.day start front) more file
 
--- The disk's counts from call to call: it rose in each call that its fault gave up. Between calls it may rise too, by the
--- fault of a record of several notices, which are then asked one by one.
+-- The disk's counts from call to call: it rose in each call that its fault gave up. Before a call and behind the last it
+-- may rise too, by the fault of a record of notices that waited together, one or more, which are then asked one by one.
 abbrev pub CountsAmong : ℕ → List Told → ℕ → Type 0
 CountsAmong before [] now = before ≤ now
 CountsAmong before (t ∷ told) now =
@@ -81,8 +96,8 @@ abbrev pub raised : ℕ → ℕ → ℕ
 raised zero n = n
 raised (suc times) n = raised times (counted n)
 
--- The desk's own counts from call to call: the disk's fault raised it in each call that it gave up, and, between calls, for
--- each record of several notices, which are then asked one by one.
+-- The desk's own counts from call to call: the disk's fault raised it in each call that it gave up, and, before a call and
+-- behind the last, for each record of notices that waited together, one or more, which are then asked one by one.
 abbrev pub RaisesAmong : ℕ → List Told → ℕ → Type 0
 RaisesAmong before [] now = (times : ℕ) × (now ≡ raised times before)
 RaisesAmong before (t ∷ told) now = (times : ℕ) × RaisesAmong (count_after t.fault (raised times before)) told now

@@ -7,7 +7,6 @@ use Rattle.adx_io.specs.declared.failed.Failed.{Failed}
 use Rattle.http_service.specs.Steps.{WritesRefusal}
 use Rattle.adx_desk.specs.Desks.{OnDisk}
 use Rattle.adx_desk.specs.Rosters.{desk_terms}
-use Rattle.answer_lines.specs.Answers.{answer_line, conflict_line}
 use Rattle.answer_lines.specs.declared.faults.Fault.{Fault}
 use Rattle.day_rules.specs.Laws.{Arrival}
 use Rattle.day_rules.specs.Legal.{IsLegal}
@@ -30,7 +29,8 @@ use Rattle.exchange_messages.specs.Courses.{AnswersOn, GivesUpOn, begun}
 use Rattle.exchange_http.specs.Gathered.{Moves, Replied, count_of}
 use Rattle.exchange_messages.specs.Meanings.{Means, notifies}
 use Rattle.exchange_http.specs.Records.{RunsOn, call_by}
-use Rattle.exchange_messages.specs.Replies.{Reply, fault_reply, no_content, with_status}
+use Rattle.exchange_messages.specs.Outcomes.{outcome_reply}
+use Rattle.exchange_messages.specs.Replies.{Reply}
 use Rattle.exchange_http.specs.Serving.{AreLanes, EndsWith}
 use Rattle.exchange_messages.specs.Turns.{IsAnswered, LeavesUnmade, terms_by}
 use Rattle.exchange_http.specs.declared.over.Over.{Over}
@@ -64,20 +64,7 @@ AreOutcomes r history (x ∷ notices) [] = ⊥
 AreOutcomes r history (x ∷ notices) (o ∷ outcomes) =
     IsOutcome r history x o × AreOutcomes r (history_after (terms_by r) history (told_by x o ∷ [])) notices outcomes
 
--- the reply to a notice by its outcome
-abbrev pub outcome_reply : Option Answer → Reply
-outcome_reply None = fault_reply Fault.Disk
-outcome_reply (Some (Answer.Awarded place)) = no_content
-outcome_reply (Some (Answer.NoSale place)) = no_content
-outcome_reply (Some Answer.Counted) = no_content
-outcome_reply (Some (Answer.Repeat place)) = no_content
-outcome_reply (Some (Answer.Conflict kept)) = with_status 409 (conflict_line kept)
-outcome_reply (Some Answer.Unknown) = with_status 404 (answer_line [] Answer.Unknown None)
-outcome_reply (Some (Answer.Ticked ended)) = no_content
-outcome_reply (Some (Answer.Reused kept given)) = no_content
-outcome_reply (Some (Answer.DayFull which count)) = no_content
-
--- its bytes
+-- the bytes of the reply to a notice by its outcome
 abbrev pub outcome_bytes : Bool → Option Answer → List ℕ
 outcome_bytes close o = answer_bytes close false (outcome_reply o).answer (outcome_reply o).body
 

@@ -90,10 +90,7 @@ pub(crate) fn finish<D: Disk, L: Link, C: Clock, O: Outlet>(
     ensures lasts { D.lasts floor.old.desk.now.disk floor.new.desk.now.disk }
 {
     match put_all_out(floor, keeping) {
-        Ok(()) => match end_so(&mut keeping.outlet, over) {
-            Ok(end) => Ok(end),
-            Err(failed) => Err(failed),
-        },
+        Ok(()) => end_so(&mut keeping.outlet, over),
         Err(failed) => Err(failed),
     }
 }

@@ -47,10 +47,7 @@ pub(crate) fn put_all_out<D: Disk, L: Link, C: Clock, O: Outlet>(
         .waiting
         .flush(floor.desk, &mut keeping.outlet, false)
     {
-        Ok(()) => match keeping.outlet.put_out() {
-            Ok(()) => Ok(()),
-            Err(failed) => Err(failed),
-        },
+        Ok(()) => keeping.outlet.put_out(),
         Err(failed) => Err(failed),
     }
 }

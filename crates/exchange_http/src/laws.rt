@@ -1,12 +1,14 @@
 //! Laws of the definition of what messages are answered: each is a function without a body, whose contract is the law.
 ghost use Rattle.fan_out.specs.Lanes.{IsWorked};
-ghost use Rattle.exchange_http.specs.Laws.{HasMeaning, HasOneReply};
+ghost use Rattle.exchange_http.specs.Laws.{HasMeaning, HasOneMeaning, HasOneReply};
 
 use adx_links::Link;
 
-/// There is no message without a meaning: each is a request for bids, a notice, a look at the books, or refused.
+/// There is no message without a meaning, and none with two: each is a request for bids, a notice, a look at the books, or
+/// refused. A request for bids is one by the tree of its body.
 pub fn has_meaning()
-    ensures { HasMeaning }
+    ensures some { HasMeaning }
+    ensures one { HasOneMeaning }
 {}
 
 /// Messages that made the same calls from the same history have the same replies, whatever their lanes and clocks were.

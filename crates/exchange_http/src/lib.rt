@@ -3,12 +3,12 @@
 //! `serve_connection` reads messages from a source, asks bidders over links, keeps the day on a desk, and puts the reply to
 //! each message into a sink, in their order. Its contract names the messages, the calls that they made, what they were
 //! replied, what the disk keeps of it, and why no more were read. `make_ask` is the ask of a request and its answers.
-//! Stands on `adx_desk`, `fan_out`, `http_service`, `rtb_response` and `notice_macros`.
+//! Stands on `adx_desk` and `notice_batches` for the day, on `exchange_messages` for what a message means and is replied, on
+//! `ask_making` for asks, on `fan_out` for bidders, on `http_service` for replies and on `script_day` for the books.
 #![tactic(auto)]
 
 mod asking;
 mod asks;
-mod at_end;
 mod clock;
 mod ending;
 #[cfg(test)]

@@ -7,13 +7,11 @@ ghost use Rattle.fan_out.specs.declared.lane.Lane.{Lane as LaneOf};
 ghost use Rattle.http_bodies.specs.Steps.{Advances};
 ghost use Rattle.http_connection.specs.Answers.{Shows};
 ghost use Rattle.http_connection.specs.Messages.{Request};
-ghost use Rattle.http_connection.specs.Ready.{IsReady};
 ghost use Rattle.http_service.specs.Steps.{BringsOne};
 ghost use Rattle.http_service.specs.declared.limits.TheConstants.{MESSAGE_LIMIT as message_limit, REQUEST_LIMIT as request_limit};
 ghost use Rattle.exchange_http.specs.Running.{Coming, EndsHere, IsFloor, IsSettled, IsUnderWay, OverCauses, StepCauses, StepGives, StopCauses, before_one, end_of, ended, fault_over, more};
 ghost use Rattle.exchange_http.specs.Serving.{IsMomentOf};
 
-use crate::at_end::AtEnd;
 use crate::clock::Clock;
 use crate::floor::Floor;
 use crate::keeping::{Keeping, put_all_out};
@@ -113,34 +111,6 @@ fn over_by(fault: HttpFault) -> Result<Option<Over>, Stop>
     }
 }
 
-/// Takes the next message, which stands whole in what was taken; the source isn't asked. None where more may come.
-fn take_ready<D: Disk, L: Link, C: Clock, O: Outlet>(
-    alloc: Global,
-    floor: &mut Floor<'_, D, L, C>,
-    keeping: &mut Keeping<O>,
-    conn: &mut Conn,
-) -> Result<Option<Over>, Stop>
-    requires floor { IsFloor floor.old.roster.now floor.old.desk.now floor.old.lanes.now.items }
-    requires ready { IsReady conn.old }
-    requires limit { conn.old.limit ≡ request_limit }
-    ensures gives { (start : OnDisk D) (lanes : List (LaneOf L)) (tape tape_now : Option Tape) (count : ℕ) (before : Option (List ℕ)) → count < message_limit
-        → IsUnderWay D.faults D.may_leave D.moment D.left_since (IsWorked L.exchanges L.course L.faults L.place) (IsMomentOf (C.moment floor.old.clock.now)) floor.old.roster.now start lanes tape tape_now (more conn.old.held count) before floor.old.desk.now floor.old.lanes.now.items keeping.old.waiting.batch.calls false (O.held keeping.old.outlet) (O.least keeping.old.outlet) (O.waiting keeping.old.outlet)
-        → StepGives D.faults D.may_leave D.moment D.left_since (IsWorked L.exchanges L.course L.faults L.place) (IsMomentOf (C.moment floor.old.clock.now)) floor.old.roster.now start lanes tape tape_now conn.new.held (suc count) before floor.new.desk.now floor.new.lanes.now.items keeping.new.waiting.batch.calls (O.held keeping.new.outlet) (O.sunk keeping.new.outlet) (O.least keeping.new.outlet) (O.waiting keeping.new.outlet) result }
-    ensures floor { IsFloor floor.new.roster.now floor.new.desk.now floor.new.lanes.now.items }
-    ensures rest { (floor.new.roster ≡ floor.old.roster) × (floor.new.clock ≡ floor.old.clock) × (floor.new.desk.ghost_name ≡ floor.old.desk.ghost_name) × (floor.new.lanes.ghost_name ≡ floor.old.lanes.ghost_name) }
-    ensures causes { (faults : ℕ) → StepCauses faults faults (O.faults keeping.old.outlet) (O.faults keeping.new.outlet) result }
-    ensures sound { conn.new.failed ≡ false }
-    ensures limit { conn.new.limit ≡ conn.old.limit }
-    ensures place { O.place keeping.new.outlet ≡ O.place keeping.old.outlet }
-    ensures lasts { D.lasts floor.old.desk.now.disk floor.new.desk.now.disk }
-{
-    match conn.next_message(&mut AtEnd) {
-        Ok(Some(message)) => take_read(alloc, floor, keeping, &message),
-        Ok(None) => unreachable!(),
-        Err(_) => unreachable!(),
-    }
-}
-
 /// Reads the next message and takes it, with no notice that waits and with all replies put. None where more may come.
 fn read_next<D: Disk, L: Link, C: Clock, S: Source, O: Outlet>(
     alloc: Global,
@@ -197,12 +167,12 @@ fn serve_next<D: Disk, L: Link, C: Clock, S: Source, O: Outlet>(
     ensures place { O.place keeping.new.outlet ≡ O.place keeping.old.outlet }
     ensures lasts { D.lasts floor.old.desk.now.disk floor.new.desk.now.disk }
 {
-    if conn.ready() {
-        return take_ready(alloc, floor, keeping, conn);
-    }
-    match put_all_out(floor, keeping) {
-        Ok(()) => read_next(alloc, floor, keeping, conn, source),
-        Err(_) => Err(Stop::WriteFault),
+    match conn.held_message() {
+        Some(message) => take_read(alloc, floor, keeping, &message),
+        None => match put_all_out(floor, keeping) {
+            Ok(()) => read_next(alloc, floor, keeping, conn, source),
+            Err(_) => Err(Stop::WriteFault),
+        },
     }
 }
 

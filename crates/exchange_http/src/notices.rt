@@ -75,12 +75,10 @@ fn close_behind<D: Disk, L: Link, C: Clock, O: Outlet>(
     ensures place { O.place keeping.new.outlet ≡ O.place keeping.old.outlet }
     ensures lasts { D.lasts floor.old.desk.now.disk floor.new.desk.now.disk }
 {
-    if !close {
-        return Ok(());
-    }
-    match keeping.waiting.flush(floor.desk, &mut keeping.outlet, true) {
-        Ok(()) => Ok(()),
-        Err(failed) => Err(failed),
+    if close {
+        keeping.waiting.flush(floor.desk, &mut keeping.outlet, true)
+    } else {
+        Ok(())
     }
 }
 

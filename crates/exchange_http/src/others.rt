@@ -51,11 +51,7 @@ fn gather_reply<O: Outlet>(
     ensures same { (O.waiting outlet.new ≡ O.waiting outlet.old) × (O.least outlet.new ≡ O.least outlet.old) }
     ensures place { O.place outlet.new ≡ O.place outlet.old }
 {
-    let head = asks_no_body(message.verb);
-    match outlet.answer(answer, body, !message.keep, head) {
-        Ok(()) => Ok(()),
-        Err(fault) => Err(fault),
-    }
+    outlet.answer(answer, body, !message.keep, asks_no_body(message.verb))
 }
 
 /// Takes a message that is no notice, with no notice that waits and with all replies put.

@@ -90,8 +90,8 @@ fn serve_over<D: Disk, L: Link, C: Clock, S: Source, O: Outlet>(
 /// order. A request for bids at `/openrtb` is looked up; where it is new every lane's bidder is asked; then the clock is
 /// read, the desk ticks and takes the ask at that moment. Notices that stand whole in what was taken are taken together,
 /// up to 32 of them in one record of the journal, and one by one where the disk failed at that. What was written is put
-/// before more is taken from the source and before bidders are asked, and no more than 32 messages have been taken whose
-/// replies the sink hasn't.
+/// before more is taken from the source and before bidders are asked, and the sink has the replies to all
+/// messages whose calls were made but at most the last 32.
 ///
 /// Ends with the source between two messages, or behind a reply that says `close` (`Closed`); within a message (`Cut`); at
 /// a message that is refused, its reply written (`Refused`); at a fault of the source or of the sink, whose count rose

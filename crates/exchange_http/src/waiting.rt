@@ -1,13 +1,12 @@
 //! Notices that wait, and are answered together.
 ghost use Rattle.std.proofs.Props.{props};
 ghost use Rattle.std.specs.Prelude.{◌≡◌, ◌≤◌, ◌==◌, ◌&&◌, ◌∷◌, [], map, length, None, Some, IfOk, IfSome, OnOk, OnErr, MatchBool, vec_capacity};
-ghost use Rattle.notice_batches.specs.Batches.{AreApart, joined};
+ghost use Rattle.notice_batches.specs.Batches.{AreApart, MayJoin, joined};
 ghost use Rattle.notice_batches.specs.declared.batch.TheConstants.{BATCH_LIMIT as batch_limit};
 ghost use Rattle.adx_http.specs.Written.{Writes, WritesBy};
 ghost use Rattle.adx_io.specs.Streams.{HasCause};
-ghost use Rattle.answer_lines.specs.Answers.{conflict_line};
 ghost use Rattle.day_rules.specs.Legal.{IsLegal};
-ghost use Rattle.exchange_http.specs.Running.{FlushFails, Flushes, TakesNotices, outcome_bytes, outcome_reply, outcomes_bytes};
+ghost use Rattle.exchange_http.specs.Running.{FlushFails, Flushes, TakesNotices, outcome_bytes, outcomes_bytes};
 
 use crate::outlet::Outlet;
 use adx_desk::Desk;
@@ -15,9 +14,9 @@ use adx_http::WriteFault;
 use adx_io::{Disk, Failed};
 use adx_units::OutOfMemory;
 use day_rules::Answer;
-use http_service::{Answer as HttpAnswer, plain};
+use exchange_messages::notice_reply;
 use notice_batches::{BATCH_LIMIT, Batch};
-use notice_book::{End, NoticeKind};
+use notice_book::NoticeKind;
 use std::alloc::Global;
 
 /// Notices that wait. Their outcomes have room of their own: the day's answer, or None where the disk's fault gave the
@@ -42,11 +41,12 @@ impl Waiting {
         Ok(Waiting { batch, outcomes })
     }
 
-    /// Lets a notice wait behind the others. False where it can't, and then nothing is changed.
+    /// Lets a notice wait behind the others. False, and nothing is changed, exactly where 32 wait, or one of that award,
+    /// or the auction's id isn't of 1 to 128 bytes.
     pub(crate) fn add(&mut self, kind: NoticeKind, auction: &str, award: u32) -> bool
         ensures { MatchBool result
-            (self.new.batch ≡ joined self.old.batch (record { kind = kind; auction = auction.now; award = award }))
-            (self.new.batch ≡ self.old.batch) }
+            (MayJoin self.old.batch (record { kind = kind; auction = auction.now; award = award }) × (self.new.batch ≡ joined self.old.batch (record { kind = kind; auction = auction.now; award = award })))
+            ((MayJoin self.old.batch (record { kind = kind; auction = auction.now; award = award }) → ⊥) × (self.new.batch ≡ self.old.batch)) }
     {
         self.batch.add(kind, auction, award)
     }
@@ -207,31 +207,6 @@ pub(crate) fn write_outcome<O: Outlet>(
     ensures same { (O.waiting outlet.new ≡ O.waiting outlet.old) × (O.least outlet.new ≡ O.least outlet.old) }
     ensures place { O.place outlet.new ≡ O.place outlet.old }
 {
-    let (answer, body) = said(outcome);
-    outlet.answer(answer, body, close, false)
-}
-
-/// The reply to a notice.
-fn said(outcome: &Option<Answer>) -> (HttpAnswer, &'static [u8])
-    ensures { record { answer = result.0; body = result.1.now } ≡ outcome_reply outcome.now }
-{
-    match outcome {
-        None => (plain(500), b"{\"answer\":\"diskfault\"}"),
-        Some(answer) => match answer {
-            Answer::Conflict { kept } => (plain(409), conflict(*kept)),
-            Answer::Unknown => (plain(404), b"{\"answer\":\"unknown\"}"),
-            _ => (plain(204), b""),
-        },
-    }
-}
-
-/// The line of a notice that comes too late.
-fn conflict(kept: End) -> &'static [u8]
-    ensures { result.now ≡ conflict_line kept }
-{
-    match kept {
-        End::Billed => b"{\"answer\":\"conflict\",\"kept\":\"billed\"}",
-        End::Lost => b"{\"answer\":\"conflict\",\"kept\":\"lost\"}",
-        End::Expired => b"{\"answer\":\"conflict\",\"kept\":\"expired\"}",
-    }
+    let (answer, body) = notice_reply(outcome);
+    outlet.answer(answer, body.as_bytes(), close, false)
 }

@@ -1,5 +1,5 @@
--- The numbers of an ask's awards are below 2^32.
-use Rattle.std.proofs.Common.{◌≡◌, ◌≤◌, ℕ, zero, suc, ◌+◌, ◌^◌, List, [], ◌∷◌, ◌++◌, map, filter, length, length-append, Bool, true, false, cond, ◌==◌, ◌&&◌, Option, Some, None, option_map, option_and_then, IfSome, Bor, refl, sym, ap, ap₂, ◌∙◌, lit≤, arith}
+-- The numbers of an ask's awards are not past the last one.
+use Rattle.std.proofs.Common.{◌≡◌, ◌≤◌, ℕ, zero, suc, ◌+◌, List, [], ◌∷◌, ◌++◌, map, filter, length, length-append, Bool, true, false, cond, ◌==◌, ◌&&◌, Option, Some, None, option_map, option_and_then, IfSome, Bor, refl, sym, ap, ap₂, ◌∙◌, lit≤, arith}
 use Rattle.std.specs.List.{enumerate_from, flat_map, range_with_len}
 use Rattle.std.proofs.lemmas.List.{length-map}
 use Rattle.adx_units.specs.declared.offer.Offer.{Offer}
@@ -14,6 +14,7 @@ use Rattle.day_rules.specs.declared.answer.Answer.{Answer}
 use Rattle.day_rules.specs.declared.ask.Ask.{Ask}
 use Rattle.day_rules.specs.declared.entry.Entry.{Entry}
 use Rattle.day_rules.specs.declared.limits.TheConstants.{MAX_BIDS}
+use Rattle.script_lines.specs.declared.limits.TheConstants.{LAST_AWARD}
 use Rattle.exchange_messages.specs.Sales.{is_award_for, sold_bids}
 use Rattle.exchange_messages.specs.Selling.{MayBeTold}
 
@@ -59,7 +60,7 @@ may_be_told terms history place a are legal at =
     record {
       imps = follows.well_formed.few_imps;
       offers = follows.well_formed.few_offers;
-      numbers = fits a.first (length (made s.0)) (length (awards_of s.0)) (bid_count s.0) (length a.offers) (length (sold_bids a)) (length (sales_of a)) terms.limits.bids MAX_BIDS (2 ^ 32)
+      numbers = fits a.first (length (made s.0)) (length (awards_of s.0)) (bid_count s.0) (length a.offers) (length (sold_bids a)) (length (sales_of a)) terms.limits.bids MAX_BIDS (LAST_AWARD + 1)
           first (awards_length s.0) (few_awards s.0) follows.bids are.bids (sold_long a) (sales_few a) (lit≤ tt);
     }
 

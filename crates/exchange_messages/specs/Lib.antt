@@ -2,6 +2,7 @@ pub mod Paths
 pub mod Meanings
 pub mod Wants
 pub mod Replies
+pub mod Outcomes
 pub mod Sales
 pub mod Selling
 pub mod Turns

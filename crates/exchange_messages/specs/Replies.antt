@@ -1,10 +1,12 @@
 -- The replies of an exchange (RFC 9110, section 15). This project's own: which outcome has which status, and the bodies,
 -- which are JSON (RFC 8259) in its one compact spelling.
-use Rattle.std.specs.Prelude.{ℕ, List, [], codes}
+use Rattle.std.specs.Prelude.{◌≢◌, ℕ, List, [], codes}
+use Rattle.adx_json.specs.declared.fault.JsonFault.{JsonFault}
 use Rattle.answer_lines.specs.Answers.{fault_line}
 use Rattle.answer_lines.specs.declared.faults.Fault.{Fault}
 use Rattle.http_service.specs.Bodies.{disallowed, plain, refused_body}
 use Rattle.http_service.specs.declared.answer.Answer.{Answer}
+use Rattle.rtb_request.specs.declared.fault.RequestFault.{RequestFault}
 use Rattle.script_lines.specs.Whys.{json_why, request_why}
 use Rattle.exchange_messages.specs.Paths.{methods_of}
 use Rattle.exchange_messages.specs.declared.refusal.Refusal.{Refusal}
@@ -32,6 +34,14 @@ refusal_reply (Refusal.Method path) = record {
 refusal_reply Refusal.Call = with_status 400 (refused_body (codes "call"))
 refusal_reply (Refusal.Json fault) = with_status 400 (refused_body (json_why fault))
 refusal_reply (Refusal.Request fault) = with_status 400 (refused_body (request_why fault))
+
+-- a message may be told the refusal: it isn't want of memory
+abbrev pub IsTold : Refusal → Type 0
+IsTold Refusal.Path = Unit {0}
+IsTold (Refusal.Method path) = Unit {0}
+IsTold Refusal.Call = Unit {0}
+IsTold (Refusal.Json fault) = fault ≢ JsonFault.OutOfMemory
+IsTold (Refusal.Request fault) = fault ≢ RequestFault.OutOfMemory
 
 -- the reply to a call that was given up
 abbrev pub fault_reply : Fault → Reply

@@ -7,6 +7,7 @@
 //! message is no call. Stands on `adx_desk`, `fan_out`, `http_service`, `rtb_response` and `notice_macros`.
 #![tactic(auto)]
 
+mod outcomes;
 mod path;
 mod refusal;
 mod replies;
@@ -15,6 +16,7 @@ mod sales;
 mod tests;
 mod wanted;
 
+pub use outcomes::notice_reply;
 pub use path::Path;
 pub use refusal::Refusal;
 pub use replies::{answer_done, answer_fault, answer_tick_fault, refuse};

@@ -18,7 +18,7 @@ pub enum Path {
 }
 
 /// The path with this spelling; None where none is served.
-pub fn path_named(text: &[u8]) -> Option<Path>
+pub(crate) fn path_named(text: &[u8]) -> Option<Path>
     ensures { result ≡ path_by text.now }
 {
     if text == b"/openrtb".as_slice() {
@@ -37,7 +37,7 @@ pub fn path_named(text: &[u8]) -> Option<Path>
 }
 
 /// Whether the path is served by a method of that kind.
-pub fn is_served(path: Path, verb: Verb) -> bool
+pub(crate) fn is_served(path: Path, verb: Verb) -> bool
     ensures { result ≡ served_by path verb }
 {
     match path {
@@ -57,7 +57,7 @@ pub fn is_served(path: Path, verb: Verb) -> bool
 }
 
 /// The methods that serve a path.
-pub fn methods_of(path: Path) -> Methods
+pub(crate) fn methods_of(path: Path) -> Methods
     ensures { result ≡ methods_by path }
 {
     match path {

@@ -12,8 +12,8 @@ pub enum Refusal {
     Method(Path),
     /// The notice names no auction, or no number of an award.
     Call,
-    /// The body is no JSON text. The fault isn't want of memory.
+    /// The body is no JSON text, or memory for its tree was refused, which `refuse` answers by an error.
     Json(JsonFault),
-    /// The request for bids is none. The fault isn't want of memory.
+    /// The request for bids is none, or memory for it was refused, which `refuse` answers by an error.
     Request(RequestFault),
 }

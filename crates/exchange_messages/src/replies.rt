@@ -3,20 +3,23 @@ ghost use Rattle.std.specs.Prelude.{◌≡◌, ◌++◌, [], IfOk, IfSome, OnOk,
 ghost use Rattle.day_rules.specs.Replies.{is_awarded as is_awarded_by};
 ghost use Rattle.http_service.specs.Bodies.{plain as plain_of, refused_body};
 ghost use Rattle.script_lines.specs.Whys.{why_of};
-ghost use Rattle.exchange_messages.specs.Replies.{fault_reply, refusal_reply, tick_fault_reply};
+ghost use Rattle.exchange_messages.specs.Replies.{IsTold, fault_reply, refusal_reply, tick_fault_reply};
 ghost use Rattle.exchange_messages.specs.Courses.{reply_of};
 ghost use Rattle.exchange_messages.specs.Selling.{MayBeTold};
 ghost use Rattle.exchange_messages.specs.Turns.{AnswerReplies, AskReplies};
 
+use crate::outcomes::notice_reply;
 use crate::path::methods_of;
 use crate::refusal::Refusal;
 use crate::sales::push_sale;
+use adx_json::JsonFault;
 use adx_units::OutOfMemory;
 use allocator_core::AWARDED;
 use answer_lines::{Fault, push_answer, push_fault};
 use day_rules::{Answer, Ask};
 use deal_floor::Roster;
 use http_service::{Answer as HttpAnswer, Methods, disallowed, plain, push_body, push_refused};
+use rtb_request::RequestFault;
 use script_lines::{Refusal as LineRefusal, push_why};
 use std::alloc::Global;
 
@@ -29,10 +32,12 @@ fn push_body_refused(alloc: Global, out: &mut String, why: &LineRefusal) -> Resu
     push_refused(out, text.as_str())
 }
 
-/// The reply to a message that is no call of the day, with its body in `out`.
+/// The reply to a message that is no call of the day, with its body in `out`. An error says that memory was refused, here
+/// or before, as the refusal tells.
 pub fn refuse(alloc: Global, out: &mut String, why: Refusal) -> Result<HttpAnswer, OutOfMemory>
     requires { string_bytes out.old ≡ [] }
-    ensures { IfOk result (λ a. reply_of a (string_bytes out.new) ≡ refusal_reply why) }
+    ensures replied { IfOk result (λ a. reply_of a (string_bytes out.new) ≡ refusal_reply why) }
+    ensures told { IfOk result (λ a. IsTold why) }
 {
     match why {
         Refusal::Path => {
@@ -47,10 +52,12 @@ pub fn refuse(alloc: Global, out: &mut String, why: Refusal) -> Result<HttpAnswe
             push_refused(out, "call")?;
             Ok(plain(400))
         }
+        Refusal::Json(JsonFault::OutOfMemory) => Err(OutOfMemory),
         Refusal::Json(fault) => {
             push_body_refused(alloc, out, &LineRefusal::Json { fault })?;
             Ok(plain(400))
         }
+        Refusal::Request(RequestFault::OutOfMemory) => Err(OutOfMemory),
         Refusal::Request(fault) => {
             push_body_refused(alloc, out, &LineRefusal::Request { fault })?;
             Ok(plain(400))
@@ -109,14 +116,14 @@ pub fn answer_done(
         Answer::Awarded { .. } | Answer::NoSale { .. } | Answer::Repeat { .. } => {
             answer_sold(alloc, roster, ask, out)
         }
-        Answer::Counted | Answer::Ticked { .. } => Ok(plain(204)),
-        Answer::Conflict { .. } | Answer::Reused { .. } => {
+        Answer::Counted | Answer::Ticked { .. } | Answer::Conflict { .. } | Answer::Unknown => {
+            let (given, body) = notice_reply(&Some(*answer));
+            push_body(out, body)?;
+            Ok(given)
+        }
+        Answer::Reused { .. } => {
             push_answer(out, roster.campaigns.as_slice(), answer, None)?;
             Ok(plain(409))
-        }
-        Answer::Unknown => {
-            push_answer(out, roster.campaigns.as_slice(), answer, None)?;
-            Ok(plain(404))
         }
         Answer::DayFull { .. } => {
             push_answer(out, roster.campaigns.as_slice(), answer, None)?;

@@ -1,11 +1,12 @@
 //! The exchange's answer to a request for bids that was awarded.
-ghost use Rattle.std.specs.Prelude.{◌≡◌, ◌<◌, ◌≤◌, ◌+◌, ◌^◌, ◌∷◌, ◌++◌, [], ℕ, List, filter, find, length, option_map, IfOk, OnOk, string_bytes, ◌==◌};
+ghost use Rattle.std.specs.Prelude.{◌≡◌, ◌<◌, ◌≤◌, ◌+◌, ◌∷◌, ◌++◌, [], ℕ, List, filter, find, length, option_map, IfOk, OnOk, string_bytes, ◌==◌};
 ghost use Rattle.std.specs.List.{enumerate_from};
 ghost use Rattle.adx_json.specs.Tree.{Tree};
 ghost use Rattle.adx_json.specs.View.{tree_of};
 ghost use Rattle.adx_units.specs.declared.offer.Offer.{Offer as Bid};
 ghost use Rattle.answer_lines.specs.Answers.{campaign_text};
 ghost use Rattle.day_rules.specs.declared.limits.TheConstants.{MAX_OFFERS};
+ghost use Rattle.script_lines.specs.declared.limits.TheConstants.{LAST_AWARD};
 ghost use Rattle.exchange_messages.specs.Sales.{HasTree, IsSale, IsSold, expanded, imp_sold, is_award_for, markup_values, sold_bids, texts_at};
 ghost use Rattle.exchange_messages.specs.Selling.{AreSold, MayBeTold};
 
@@ -155,7 +156,7 @@ fn add_if_sold(
     sold: &mut Vec<Sold>,
 ) -> Result<(), OutOfMemory>
     requires within { imp < length ask.now.imps }
-    requires few { ask.now.first + length sold.old.items + length (filter (is_award_for imp) ((place, offer.now) ∷ [])) ≤ 2 ^ 32 }
+    requires few { ask.now.first + length sold.old.items + length (filter (is_award_for imp) ((place, offer.now) ∷ [])) ≤ LAST_AWARD + 1 }
     ensures counted { OnOk result (length sold.new.items ≡ length sold.old.items + length (filter (is_award_for imp) ((place, offer.entry.now) ∷ []))) }
     ensures added { OnOk result ((done : List (ℕ × Bid)) → AreSold roster.entry.now.campaigns ask.entry.now done sold.old.items
         → AreSold roster.entry.now.campaigns ask.entry.now (done ++ filter (is_award_for imp) ((place, offer.entry.now) ∷ [])) sold.new.items) }
@@ -177,7 +178,7 @@ fn add_sold(
 ) -> Result<(), OutOfMemory>
     requires within { imp < length ask.now.imps }
     requires places { length ask.now.offers ≤ MAX_OFFERS }
-    requires few { ask.now.first + length sold.old.items + length (filter (is_award_for imp) (enumerate_from 0 ask.now.offers)) ≤ 2 ^ 32 }
+    requires few { ask.now.first + length sold.old.items + length (filter (is_award_for imp) (enumerate_from 0 ask.now.offers)) ≤ LAST_AWARD + 1 }
     ensures counted { OnOk result (length sold.new.items ≡ length sold.old.items + length (filter (is_award_for imp) (enumerate_from 0 ask.entry.now.offers))) }
     ensures added { OnOk result ((done : List (ℕ × Bid)) → AreSold roster.entry.now.campaigns ask.entry.now done sold.old.items
         → AreSold roster.entry.now.campaigns ask.entry.now (done ++ filter (is_award_for imp) (enumerate_from 0 ask.entry.now.offers)) sold.new.items) }
@@ -201,7 +202,7 @@ fn all_sold(alloc: Global, roster: &Roster, ask: &Ask) -> Result<Vec<Sold>, OutO
 }
 
 /// Writes the exchange's answer to an ask that was awarded (OpenRTB 2.6, section 4.2.1), into an empty text.
-pub fn push_sale(
+pub(crate) fn push_sale(
     alloc: Global,
     roster: &Roster,
     ask: &Ask,

@@ -1,6 +1,7 @@
 //! What a message wants by its head, why it is refused, and what calls are answered that are about no ask.
 use crate::{
-    Other, Path, Refusal, Wanted, answer_done, answer_fault, answer_tick_fault, refuse, wanted_by,
+    Other, Path, Refusal, Wanted, answer_done, answer_fault, answer_tick_fault, notice_reply,
+    refuse, wanted_by,
 };
 use adx_http::{Message, Verb};
 use adx_json::{JsonFault, push_number};
@@ -240,6 +241,28 @@ fn bodies_that_are_no_request_are_refused(rt: HostRuntime) {
     }
 }
 
+#[test]
+fn want_of_memory_is_no_refusal(rt: HostRuntime) {
+    assert_eq!(rt;
+        is_refused(
+            rt.alloc(),
+            Refusal::Json(JsonFault::OutOfMemory),
+            plain(400),
+            ""
+        ),
+        Err(OutOfMemory)
+    );
+    assert_eq!(rt;
+        is_refused(
+            rt.alloc(),
+            Refusal::Request(RequestFault::OutOfMemory),
+            plain(400),
+            ""
+        ),
+        Err(OutOfMemory)
+    );
+}
+
 /// The roster of a day with one bidder and one campaign.
 const ROSTER: &str =
     r#"{"day":"2025-03-01","bidders":[{"name":"b1","host":"localhost","port":1,"path":"/"}],"campaigns":[{"bidder":"b1","seat":"s1","cid":"c1","budget":0.01}]}"#;
@@ -304,6 +327,33 @@ fn answers_are_replied(rt: HostRuntime) {
             Ok(true),
             "{body}"
         );
+    }
+}
+
+#[test]
+fn notices_are_replied(rt: HostRuntime) {
+    for (outcome, status, body) in [
+        (None, 500, r#"{"answer":"diskfault"}"#),
+        (Some(Answer::Counted), 204, ""),
+        (Some(Answer::Repeat { entry: 3 }), 204, ""),
+        (
+            Some(Answer::Conflict { kept: End::Billed }),
+            409,
+            r#"{"answer":"conflict","kept":"billed"}"#,
+        ),
+        (
+            Some(Answer::Conflict { kept: End::Lost }),
+            409,
+            r#"{"answer":"conflict","kept":"lost"}"#,
+        ),
+        (
+            Some(Answer::Conflict { kept: End::Expired }),
+            409,
+            r#"{"answer":"conflict","kept":"expired"}"#,
+        ),
+        (Some(Answer::Unknown), 404, r#"{"answer":"unknown"}"#),
+    ] {
+        assert_eq!(rt; notice_reply(&outcome), (plain(status), body), "{body}");
     }
 }
 

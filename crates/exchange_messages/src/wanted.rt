@@ -7,7 +7,7 @@ ghost use Rattle.exchange_messages.specs.Wants.{MeansSo, Wants, meaning_of};
 
 use crate::path::{Path, is_served, path_named};
 use crate::refusal::Refusal;
-use adx_http::{Message, query_value, read_target};
+use adx_http::{Message, query_values, read_target};
 use adx_units::{OutOfMemory, whole_up_to};
 use notice_book::NoticeKind;
 use script_lines::LAST_AWARD;
@@ -42,10 +42,11 @@ fn notice_in<'a>(
 ) -> Result<Wanted<'a>, OutOfMemory>
     ensures { IfOk result (λ w. meaning_of w ≡ Some (query_meaning kind query.now)) }
 {
-    let Some(auction) = query_value(alloc, query, "auction")? else {
+    let (auction, bid) = query_values(alloc, query, "auction", "bid")?;
+    let Some(auction) = auction else {
         return Ok(Wanted::Other(Other::Nothing(Refusal::Call)));
     };
-    let Some(bid) = query_value(alloc, query, "bid")? else {
+    let Some(bid) = bid else {
         return Ok(Wanted::Other(Other::Nothing(Refusal::Call)));
     };
     match whole_up_to(bid.as_str().as_bytes(), LAST_AWARD) {

@@ -2,46 +2,44 @@
 use Rattle.std.proofs.Common.{[], false}
 use Rattle.fan_out.specs.Lanes.{IsWorked}
 use Rattle.exchange_http.specs.Serving.{IsMomentOf}
+use Rattle.exchange_http.proofs.Along.{on_ok}
 use Rattle.exchange_http.proofs.Causes.{cause_after}
-use Rattle.exchange_http.proofs.Flushing.{floor_failed, floor_flushed, settled_now}
+use Rattle.exchange_http.proofs.Flushing.{floor_failed, floor_flushed, on_fault, settled_now}
 use Rattle.exchange_http.proofs.UnderWay.{all_put, flush_failed, flushed, put_failed}
 use Rattle.exchange_http.proofs.keeping.put_all_out.Goals as goal
 
-pub returns-in-Ok-put_out-clause-goes_on : goal.returns-in-Ok-put_out-clause-goes_on
-returns-in-Ok-put_out-clause-goes_on g c =
-    λ start lanes tape tape_now coming before w.
-    let all = c.in-Ok-put_out.ensures.all in
+pub returns-in-Ok-clause-goes_on : goal.returns-in-Ok-clause-goes_on
+returns-in-Ok-clause-goes_on g c =
+    on_ok c.put_out.result c.put_out.ensures.all
+    (λ all start lanes tape tape_now coming before w.
     all_put g.D.Disk.faults g.D.Disk.may_leave g.D.Disk.moment g.D.Disk.left_since (IsWorked g.L.Link.exchanges g.L.Link.course g.L.Link.faults g.L.Link.place) (IsMomentOf (g.C.Clock.moment c.args.floor.now.clock.now)) c.args.floor.now.roster.now start lanes tape tape_now coming before c.flush.new.desk c.args.floor.now.lanes.now.items (g.O.Outlet.held c.flush.new.outlet) (g.O.Outlet.held c.put_out.new.self) (g.O.Outlet.sunk c.put_out.new.self) (g.O.Outlet.left c.put_out.new.self) (g.O.Outlet.least c.flush.new.outlet) (g.O.Outlet.waiting c.flush.new.outlet) (g.O.Outlet.least c.put_out.new.self) (g.O.Outlet.waiting c.put_out.new.self)
     (flushed g.D.Disk.faults g.D.Disk.may_leave g.D.Disk.moment g.D.Disk.left_since (IsWorked g.L.Link.exchanges g.L.Link.course g.L.Link.faults g.L.Link.place) (IsMomentOf (g.C.Clock.moment c.args.floor.now.clock.now)) c.args.floor.now.roster.now start lanes tape tape_now coming before
     c.args.floor.now.desk.now c.flush.new.desk c.args.floor.now.lanes.now.items c.args.keeping.now.waiting.batch.calls false (g.O.Outlet.held c.args.keeping.now.outlet) (g.O.Outlet.held c.flush.new.outlet) (g.O.Outlet.least c.args.keeping.now.outlet) (g.O.Outlet.waiting c.args.keeping.now.outlet) (g.O.Outlet.least c.flush.new.outlet) (g.O.Outlet.waiting c.flush.new.outlet) c.requires.floor.terms w c.in-Ok.ensures.flushes)
-    c.put_out.ensures.held (g.met.O.Outlet.is_held c.put_out.new.self) all.0 all.2 all.1
+    c.put_out.ensures.held (g.met.O.Outlet.is_held c.put_out.new.self) all.0 all.2 all.1)
 
-pub returns-in-Ok-put_out-clause-settled : goal.returns-in-Ok-put_out-clause-settled
-returns-in-Ok-put_out-clause-settled g c =
-    let all = c.in-Ok-put_out.ensures.all in
-    settled_now (g.O.Outlet.held c.put_out.new.self) (g.O.Outlet.sunk c.put_out.new.self) (g.O.Outlet.left c.put_out.new.self) (g.O.Outlet.least c.put_out.new.self) (g.met.O.Outlet.is_held c.put_out.new.self) all.0 all.2
+pub returns-in-Ok-clause-empty : goal.returns-in-Ok-clause-empty
+returns-in-Ok-clause-empty g c = on_ok c.put_out.result c.put_out.ensures.all (λ all. c.in-Ok.ensures.empty)
 
-pub returns-in-Ok-put_out-clause-floor : goal.returns-in-Ok-put_out-clause-floor
-returns-in-Ok-put_out-clause-floor g c = floor_flushed g.D.Disk.faults g.D.Disk.may_leave g.D.Disk.moment g.D.Disk.left_since c.args.floor.now.roster.now c.args.floor.now.desk.now c.flush.new.desk c.args.floor.now.lanes.now.items false c.args.keeping.now.waiting.batch.calls (g.O.Outlet.held c.args.keeping.now.outlet) (g.O.Outlet.held c.flush.new.outlet) (g.O.Outlet.least c.args.keeping.now.outlet) (g.O.Outlet.waiting c.args.keeping.now.outlet) (g.O.Outlet.least c.flush.new.outlet) (g.O.Outlet.waiting c.flush.new.outlet) c.requires.floor c.in-Ok.ensures.flushes
+pub returns-in-Ok-clause-settled : goal.returns-in-Ok-clause-settled
+returns-in-Ok-clause-settled g c =
+    on_ok c.put_out.result c.put_out.ensures.all
+    (λ all. settled_now (g.O.Outlet.held c.put_out.new.self) (g.O.Outlet.sunk c.put_out.new.self) (g.O.Outlet.left c.put_out.new.self) (g.O.Outlet.least c.put_out.new.self) (g.met.O.Outlet.is_held c.put_out.new.self) all.0 all.2)
 
-pub returns-in-Ok-put_out-clause-cause : goal.returns-in-Ok-put_out-clause-cause
-returns-in-Ok-put_out-clause-cause g c = cause_after (g.O.Outlet.faults c.args.keeping.now.outlet) (g.O.Outlet.faults c.flush.new.outlet) (g.O.Outlet.faults c.put_out.new.self) _ c.in-Ok.ensures.cause.passed c.in-Ok-put_out.ensures.cause
+pub returns-in-Ok-clause-floor : goal.returns-in-Ok-clause-floor
+returns-in-Ok-clause-floor g c = floor_flushed g.D.Disk.faults g.D.Disk.may_leave g.D.Disk.moment g.D.Disk.left_since c.args.floor.now.roster.now c.args.floor.now.desk.now c.flush.new.desk c.args.floor.now.lanes.now.items false c.args.keeping.now.waiting.batch.calls (g.O.Outlet.held c.args.keeping.now.outlet) (g.O.Outlet.held c.flush.new.outlet) (g.O.Outlet.least c.args.keeping.now.outlet) (g.O.Outlet.waiting c.args.keeping.now.outlet) (g.O.Outlet.least c.flush.new.outlet) (g.O.Outlet.waiting c.flush.new.outlet) c.requires.floor c.in-Ok.ensures.flushes
 
-pub returns-in-Err-put_out-clause-fails : goal.returns-in-Err-put_out-clause-fails
-returns-in-Err-put_out-clause-fails g c =
-    λ start lanes tape tape_now coming before w.
-    let failed = c.in-Err-put_out.ensures.failed in
+pub returns-in-Ok-clause-cause : goal.returns-in-Ok-clause-cause
+returns-in-Ok-clause-cause g c = cause_after (g.O.Outlet.faults c.args.keeping.now.outlet) (g.O.Outlet.faults c.flush.new.outlet) (g.O.Outlet.faults c.put_out.new.self) c.put_out.result c.in-Ok.ensures.cause.passed c.put_out.ensures.cause
+
+pub returns-in-Ok-clause-fails : goal.returns-in-Ok-clause-fails
+returns-in-Ok-clause-fails g c =
+    on_fault c.put_out.result c.put_out.ensures.failed
+    (λ failed start lanes tape tape_now coming before w.
     put_failed g.D.Disk.faults g.D.Disk.may_leave g.D.Disk.moment g.D.Disk.left_since (IsWorked g.L.Link.exchanges g.L.Link.course g.L.Link.faults g.L.Link.place) (IsMomentOf (g.C.Clock.moment c.args.floor.now.clock.now)) c.args.floor.now.roster.now start lanes tape tape_now coming before
     c.flush.new.desk c.args.floor.now.lanes.now.items [] false (g.O.Outlet.held c.flush.new.outlet) (g.O.Outlet.held c.put_out.new.self) (g.O.Outlet.sunk c.put_out.new.self) (g.O.Outlet.left c.put_out.new.self) (g.O.Outlet.least c.flush.new.outlet) (g.O.Outlet.waiting c.flush.new.outlet) (g.O.Outlet.least c.put_out.new.self) (g.O.Outlet.waiting c.put_out.new.self)
     (flushed g.D.Disk.faults g.D.Disk.may_leave g.D.Disk.moment g.D.Disk.left_since (IsWorked g.L.Link.exchanges g.L.Link.course g.L.Link.faults g.L.Link.place) (IsMomentOf (g.C.Clock.moment c.args.floor.now.clock.now)) c.args.floor.now.roster.now start lanes tape tape_now coming before
     c.args.floor.now.desk.now c.flush.new.desk c.args.floor.now.lanes.now.items c.args.keeping.now.waiting.batch.calls false (g.O.Outlet.held c.args.keeping.now.outlet) (g.O.Outlet.held c.flush.new.outlet) (g.O.Outlet.least c.args.keeping.now.outlet) (g.O.Outlet.waiting c.args.keeping.now.outlet) (g.O.Outlet.least c.flush.new.outlet) (g.O.Outlet.waiting c.flush.new.outlet) c.requires.floor.terms w c.in-Ok.ensures.flushes)
-    c.put_out.ensures.held failed.1 failed.0 (g.met.O.Outlet.is_held c.put_out.new.self) (g.met.O.Outlet.is_least c.put_out.new.self) (g.met.O.Outlet.is_few c.put_out.new.self)
-
-pub returns-in-Err-put_out-clause-floor : goal.returns-in-Err-put_out-clause-floor
-returns-in-Err-put_out-clause-floor g c = floor_flushed g.D.Disk.faults g.D.Disk.may_leave g.D.Disk.moment g.D.Disk.left_since c.args.floor.now.roster.now c.args.floor.now.desk.now c.flush.new.desk c.args.floor.now.lanes.now.items false c.args.keeping.now.waiting.batch.calls (g.O.Outlet.held c.args.keeping.now.outlet) (g.O.Outlet.held c.flush.new.outlet) (g.O.Outlet.least c.args.keeping.now.outlet) (g.O.Outlet.waiting c.args.keeping.now.outlet) (g.O.Outlet.least c.flush.new.outlet) (g.O.Outlet.waiting c.flush.new.outlet) c.requires.floor c.in-Ok.ensures.flushes
-
-pub returns-in-Err-put_out-clause-cause : goal.returns-in-Err-put_out-clause-cause
-returns-in-Err-put_out-clause-cause g c = cause_after (g.O.Outlet.faults c.args.keeping.now.outlet) (g.O.Outlet.faults c.flush.new.outlet) (g.O.Outlet.faults c.put_out.new.self) _ c.in-Ok.ensures.cause.passed c.in-Err-put_out.ensures.cause
+    c.put_out.ensures.held failed.1 failed.0 (g.met.O.Outlet.is_held c.put_out.new.self) (g.met.O.Outlet.is_least c.put_out.new.self) (g.met.O.Outlet.is_few c.put_out.new.self))
 
 pub returns-in-Err-clause-fails : goal.returns-in-Err-clause-fails
 returns-in-Err-clause-fails g c =

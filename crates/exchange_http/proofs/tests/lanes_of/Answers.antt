@@ -1,6 +1,6 @@
 -- One lane more.
-use Rattle.std.proofs.Common.{◌≡◌, ◌<◌, ℕ, zero, suc, ◌+◌, List, [], ◌∷◌, ◌++◌, All, map, take, length, get_or, refl, sym, ap, ◌∙◌, subst, arith, add-one}
-use Rattle.std.proofs.lemmas.List.{map-append, take_all}
+use Rattle.std.proofs.Common.{◌≡◌, ◌<◌, ℕ, zero, suc, ◌+◌, List, [], ◌∷◌, ◌++◌, All, map, take, length, get_or, sym, ap, ◌∙◌, subst, arith, add-one}
+use Rattle.std.proofs.lemmas.List.{map-append}
 use Rattle.std.proofs.lemmas.List.Elements.{All-append, All-cons, All-nil}
 use Rattle.adx_links.specs.MemoryLinks.{MemoryLinkState}
 use Rattle.deal_floor.specs.declared.place.Place.{Place}

@@ -49,7 +49,7 @@ returns-in-Nothing-clause-answered g c =
     (λ (a : Answer). (m : Request) → m.body ≡ c.args.body.now → WantsOther m c.args.other → AnswersHere g.D.Disk.faults g.D.Disk.may_leave g.D.Disk.moment g.D.Disk.left_since (IsWorked g.L.Link.exchanges g.L.Link.course g.L.Link.faults g.L.Link.place) (IsMomentOf (g.C.Clock.moment c.args.self.now.clock.now)) c.args.self.now.roster.now c.args.self.now.desk.now c.args.self.now.desk.now c.args.self.now.lanes.now.items c.args.self.now.lanes.now.items m (reply_of a (string_bytes c.refuse.new.out)))
     (λ a replied m same wants. refused_answered g.D.Disk.faults g.D.Disk.may_leave g.D.Disk.moment g.D.Disk.left_since (IsWorked g.L.Link.exchanges g.L.Link.course g.L.Link.faults g.L.Link.place) (IsMomentOf (g.C.Clock.moment c.args.self.now.clock.now)) c.args.self.now.roster.now c.args.self.now.desk.now c.args.self.now.lanes.now.items m c.in-Nothing.why (reply_of a (string_bytes c.refuse.new.out)) c.requires.floor (g.met.D.Disk.only_now c.args.self.now.desk.now.disk)
     (subst (WantsOther m) c.in-Nothing.is wants) replied)
-    c.refuse.ensures
+    c.refuse.ensures.replied
 
 pub returns-in-Nothing-clause-gave_up : goal.returns-in-Nothing-clause-gave_up
 returns-in-Nothing-clause-gave_up g c = on_err c.refuse.result _ (λ m same wants. nothing_done g.D.Disk.faults g.D.Disk.may_leave g.D.Disk.moment g.D.Disk.left_since (IsWorked g.L.Link.exchanges g.L.Link.course g.L.Link.faults g.L.Link.place) (IsMomentOf (g.C.Clock.moment c.args.self.now.clock.now)) c.args.self.now.roster.now c.args.self.now.desk.now c.args.self.now.lanes.now.items m c.requires.floor (g.met.D.Disk.only_now c.args.self.now.desk.now.disk))

@@ -38,7 +38,7 @@ returns-in-Err-clause-answered g c =
     (λ (a : Answer). (m : Request) → ((meaning : Meaning) → TreeMeans (tree_of c.args.tree.now) meaning → Means m meaning) → AnswersHere g.D.Disk.faults g.D.Disk.may_leave g.D.Disk.moment g.D.Disk.left_since (IsWorked g.L.Link.exchanges g.L.Link.course g.L.Link.faults g.L.Link.place) (IsMomentOf (g.C.Clock.moment c.args.self.now.clock.now)) c.args.self.now.roster.now c.args.self.now.desk.now c.args.self.now.desk.now c.args.self.now.lanes.now.items c.args.self.now.lanes.now.items m (reply_of a (string_bytes c.refuse.new.out)))
     (λ a replied m means. refused_answered g.D.Disk.faults g.D.Disk.may_leave g.D.Disk.moment g.D.Disk.left_since (IsWorked g.L.Link.exchanges g.L.Link.course g.L.Link.faults g.L.Link.place) (IsMomentOf (g.C.Clock.moment c.args.self.now.clock.now)) c.args.self.now.roster.now c.args.self.now.desk.now c.args.self.now.lanes.now.items m (Refusal.Request c.in-Err.fault) (reply_of a (string_bytes c.refuse.new.out)) c.requires.floor (g.met.D.Disk.only_now c.args.self.now.desk.now.disk)
     (means (refused (Refusal.Request c.in-Err.fault)) (inr (c.in-Err.fault, fault, refl))) replied)
-    c.refuse.ensures
+    c.refuse.ensures.replied
 
 pub returns-in-Err-clause-gave_up : goal.returns-in-Err-clause-gave_up
 returns-in-Err-clause-gave_up g c = on_err c.refuse.result _ (λ m means. nothing_done g.D.Disk.faults g.D.Disk.may_leave g.D.Disk.moment g.D.Disk.left_since (IsWorked g.L.Link.exchanges g.L.Link.course g.L.Link.faults g.L.Link.place) (IsMomentOf (g.C.Clock.moment c.args.self.now.clock.now)) c.args.self.now.roster.now c.args.self.now.desk.now c.args.self.now.lanes.now.items m c.requires.floor (g.met.D.Disk.only_now c.args.self.now.desk.now.disk))
