@@ -65,21 +65,28 @@ fn serves_a_connection_and_keeps_its_day(rt: HostRuntime) {
     }
 }
 
-/// More calls than a disk gets while the day is opened, and some more.
-const CALLS: u64 = 12;
-
 /// The status of the messages on a disk of which this call fails, and whether it replies as if none did.
 fn served_at(alloc: Global, call: u64) -> Result<(u8, bool), OutOfMemory> {
     let mut disk = MemoryDisk::new(alloc, b"", &[call], None)?;
     serves(alloc, MESSAGES, 0, &mut disk, REPLIES)
 }
 
+/// What is wanted where this call of the disk fails. Opening the day makes 14 calls, the ask's record 4, and that of the
+/// bill 4: where it fails the bill is taken again alone, and the replies are the same.
+fn wanted_at(call: u64) -> (u8, bool) {
+    match call {
+        0..=17 => (6, false),
+        18..=21 => (6, true),
+        _ => (0, true),
+    }
+}
+
 #[test]
 fn tells_a_fault_of_the_disk_by_its_status(rt: HostRuntime) {
-    for call in 0..CALLS {
+    for call in 0..23 {
         assert_eq!(rt;
             served_at(rt.alloc(), call),
-            Ok((6, false)),
+            Ok(wanted_at(call)),
             "call {call} fails"
         );
     }

@@ -28,8 +28,8 @@ const TABLE: &str =
 {"asks":250,"awards":250,"entries":443}
 "#;
 
-/// More calls than a disk gets while a day is opened, and some more.
-const CALLS: u64 = 12;
+/// How many calls a disk gets while the day is opened, and in the records of the first asks.
+const CALLS: u64 = 22;
 
 /// The words of a line.
 pub(crate) fn words_of(alloc: Global, line: &str) -> Result<Vec<Text>, OutOfMemory> {

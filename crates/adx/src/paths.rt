@@ -24,7 +24,11 @@ fn journal_of(read: Option<Command>) -> Option<Text>
         Some(Command::Day { journal }) => journal,
         Some(Command::Connection { journal }) => journal,
         Some(Command::Notices { journal }) => Some(journal),
-        _ => None,
+        Some(Command::Bidder)
+        | Some(Command::Generate { .. })
+        | Some(Command::Help(_))
+        | Some(Command::Version) => None,
+        None => None,
     }
 }
 

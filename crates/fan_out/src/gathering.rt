@@ -27,7 +27,8 @@ fn put_behind(
                 Ok(_) => Ok(answers),
                 Err(_) => Err(OutOfMemory),
             },
-            _ => Err(OutOfMemory),
+            Some(Err(wanting)) => Err(wanting),
+            None => Err(OutOfMemory),
         },
         Err(wanting) => Err(wanting),
     }
