@@ -132,18 +132,18 @@ fn run_words<S: Source, K: Sink, D: Disk>(
 /// Words in plain spelling are taken: the command's word comes first, and behind it each of its options stands once, as
 /// two words, in any order, its value not beginning with `-`. Other spellings do what `clap` reads of them.
 ///
-/// The status is 0 where the source was read to its end, for `conn` and `bidder` to that of the connection, and the disk
-/// met no fault; 2 where the words aren't a command, and then the sink takes a usage line; 3 where the first line isn't a
-/// roster, for `bidder` a price line, or where the input of `day` or `notices` passes 2^36 bytes, of which one more is
-/// taken; 4 where the source failed, and then the sink took the answers to all whole lines, or the replies to all whole
-/// messages, that the source gave; 5 where the sink failed, and 12 where memory was refused, and then the sink took a
-/// front of the output; 6 where the disk failed while the day was opened, and then the sink took nothing, or where the
-/// source was read to its end and the disk met a fault in a call that was given up by it, or, for `conn`, in the record of
-/// notices that waited, which were then taken one by one; 7 where the disk's file stands for no history of the roster,
-/// and then the sink took a line that says why. The count of faults of the source rises exactly at 4 and that of the
-/// sink exactly at 5, but where a count stands at its last value; that of the disk rises in just the calls that are
-/// answered so, and for `conn` in such records. Each input has one output for each history at the start and each choice
-/// of calls that are given up.
+/// The status is 0 where the command came to its end, and the disk met no fault: `day`, `notices`, `conn` and `bidder` read
+/// the source to its end, the latter two to that of the connection; 2 where the words aren't a command, and then the sink
+/// takes a usage line; 3 where the first line isn't a roster, for `bidder` a price line, or where the input of `day` or
+/// `notices` passes 2^36 bytes, of which one more is taken; 4 where the source failed, and then the sink took the answers
+/// to all whole lines, or the replies to all whole messages, that the source gave, where it gave the first line; 5 where
+/// the sink failed, and 12 where memory was refused, and then the sink took a front of the output; 6 where the disk failed
+/// while the day was opened or, for `gen`, at any time, and then the sink took nothing, or where the source was read to its
+/// end and the disk met a fault in a call that was given up by it, or, for `conn`, in the record of notices that waited,
+/// which were then taken one by one; 7 where the disk's file stands for no history of the roster, and then the sink took a
+/// line that says why. The count of faults of the source rises exactly at 4 and that of the sink exactly at 5, but where a
+/// count stands at its last value; that of the disk rises in just the calls that are answered so, and for `conn` in such
+/// records. Each input has one output for each history at the start and each choice of calls that are given up.
 pub fn adx<S: Source, K: Sink, D: Disk>(
     alloc: Global,
     words: &[Text],

@@ -171,8 +171,7 @@ fn serve<S: Source, K: Sink, D: Disk>(
 /// end. The roster's bidders answer by its `replies`, and its `now` is the moment of every request. An entry is in the
 /// journal before its reply is put, and what was replied is put before more is asked of the source.
 ///
-/// `Ok`: the connection was read to the end that a `ConnEnd` names, all replies were put, and no fault of the disk gave up
-/// a call. `Refused`: the first line isn't a roster's, and the sink took the line that says why. `DiskFault`: the disk
+/// `Ok`: the connection was read to the end that a `ConnEnd` names, all replies were put, and the disk met no fault. `Refused`: the first line isn't a roster's, and the sink took the line that says why. `DiskFault`: the disk
 /// failed, while the day was opened, and then the sink took nothing, or in a call or a record of notices that waited
 /// together, one or more, and then the connection was read to its end and all replies were put. `NoHistory`: the disk's
 /// file stands for no history of the roster, and the sink took a line that says why. `Stopped`: the source or the sink

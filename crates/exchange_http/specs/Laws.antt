@@ -15,7 +15,7 @@ use Rattle.exchange_http.specs.Serving.{IsMomentOf}
 abbrev pub HasMeaning : Type 0
 HasMeaning = (request : Request) → ((m : Meaning) → Means request m → ⊥) → ⊥
 
--- two meanings are one; of requests for bids it is their tree that is one
+-- two meanings are the same; of two requests for bids their trees are
 abbrev pub AreOne : Meaning → Meaning → Type 0
 AreOne (asks t asked) (asks u other) = t ≡ u
 AreOne (asks t asked) (notifies kind auction award) = ⊥
@@ -25,7 +25,7 @@ AreOne (notifies kind auction award) y = y ≡ notifies kind auction award
 AreOne wants_books y = y ≡ wants_books
 AreOne (refused why) y = y ≡ refused why
 
--- and none with two
+-- no message has two meanings
 abbrev pub HasOneMeaning : Type 0
 HasOneMeaning = (request : Request) (x y : Meaning) → Means request x → Means request y → AreOne x y
 

@@ -52,7 +52,7 @@ AreGivenUp terms history (t ∷ told) =
     × AreGivenUp terms (with_entry history (reply terms history t.call).entry) told
 
 -- The tail is a record of the run at the history behind all of it, so no entry was added since. Each call with an entry
--- in it was given up by a fault of the disk; one that was asked again, alone, in its last try.
+-- in it was given up by a fault of the disk; of a call that was asked again alone the last try counts.
 pub record IsLeftInDoubt (terms : Terms) (start : List Entry) (told : List Told) (tail : List Entry) : Type 0 where
   pub record_is : IsRecordOfRun terms start told (history_after terms start told) tail
   pub by_disk : AreGivenUp terms (history_after terms start told) record_is.group

@@ -5,7 +5,7 @@ ghost use Rattle.exchange_http.specs.Laws.{HasMeaning, HasOneMeaning, HasOneRepl
 use adx_links::Link;
 
 /// There is no message without a meaning, and none with two: each is a request for bids, a notice, a look at the books, or
-/// refused. A request for bids is one by the tree of its body.
+/// refused. Two requests for bids are one meaning where the trees of their bodies are equal.
 pub fn has_meaning()
     ensures some { HasMeaning }
     ensures one { HasOneMeaning }
