@@ -1,29 +1,9 @@
 -- Bytes that were added to what was there, one piece after another.
-use Rattle.std.proofs.Common.{◌≡◌, ℕ, ◌+◌, ◌-◌, ◌≤◌, List, [], ◌++◌, length, take, drop, Option, Some, None, Ok, refl, sym, ap, ◌∙◌, append_assoc, append-nil, arith, length-append, length-take, length-drop}
+use Rattle.std.proofs.Common.{◌≡◌, ℕ, ◌+◌, ◌-◌, ◌≤◌, List, ◌++◌, length, take, drop, Option, Some, None, Ok, ap, ◌∙◌, arith, length-append, length-take, length-drop}
 use Rattle.adx_io.specs.Lines.{Fills}
-use Rattle.adx_io.specs.Rest.{Adds, AddsSome, Within}
+use Rattle.adx_io.specs.Rest.{AddsSome, Within}
 use Rattle.adx_io.specs.Streams.{Tape, WhereTold}
 use Rattle.adx_io.proofs.Moved.{take-add}
-
--- nothing was added
-pub adds_none : (before : List ℕ) (t : Tape) → Adds before before t t
-adds_none before t = ([], sym (append-nil before), refl, sym (append-nil t.taken))
-
--- two pieces one after the other
-pub adds_both : (before mid now : List ℕ) (x y z : Tape) → Adds before mid x y → Adds mid now y z → Adds before now x z
-adds_both before mid now x y z a b = (
-  a.0 ++ b.0,
-  b.1 ∙ ap (λ p. p ++ b.0) a.1 ∙ append_assoc before a.0 b.0,
-  a.2 ∙ ap (λ p. a.0 ++ p) b.2 ∙ sym (append_assoc a.0 b.0 z.left),
-  b.3 ∙ ap (λ p. p ++ b.0) a.3 ∙ append_assoc x.taken a.0 b.0,
-)
-
-pub within_both : (m n limit : ℕ) (before mid now : List ℕ) → m + n ≤ limit → Within m before mid → Within n mid now → Within limit before now
-within_both m n limit before mid now h a b = (
-  a.0 ++ b.0,
-  b.1 ∙ ap (λ p. p ++ b.0) a.1 ∙ append_assoc before a.0 b.0,
-  omega (arith, h, a.2, b.2, length-append a.0 b.0),
-)
 
 -- what was taken behind the first bytes stands behind them
 pub taken_behind : (start n : ℕ) (before whole now : List ℕ) → start ≤ length whole → take start whole ≡ before → now ≡ take (start + n) whole → now ≡ before ++ take n (drop start whole)

@@ -15,9 +15,10 @@ body payload = to_le_bytes w32 (length payload) ++ payload
 abbrev pub record_of : List ℕ → List ℕ
 record_of payload = body payload ++ 0 ∷ []
 
--- a payload, and for how many bytes more the frame has room without memory
+-- a payload, the front of it that was marked, and for how many bytes more the frame has room without memory
 pub record FrameState : Type 0 where
   pub payload : List ℕ
+  pub marked : List ℕ
   pub spare : ℕ
 
 -- the bytes between the length and the gate

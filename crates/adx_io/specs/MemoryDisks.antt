@@ -1,5 +1,5 @@
 -- A disk in memory, as the changes since it was made. This project's own.
-use Rattle.std.specs.Prelude.{◌≡◌, ◌⊎◌, ℕ, ◌+◌, ◌≤◌, List, [], ◌∷◌, ◌++◌, length, get_or, take, replicate, Contains, Bool, false, Option, Some, None, Result, Ok, Err, if◌then◌else◌}
+use Rattle.std.specs.Prelude.{◌≡◌, ◌⊎◌, ℕ, ◌+◌, ◌≤◌, List, [], ◌∷◌, length, get_or, take, replicate, Contains, Bool, false, Option, Some, None, Result, Ok, Err, if◌then◌else◌}
 use Rattle.adx_io.specs.declared.failed.Failed.{Failed}
 use Rattle.adx_io.specs.declared.memory_disk.Change.{Change}
 use Rattle.adx_io.specs.Fakes.{counted}
@@ -63,10 +63,6 @@ FailsNext h = Contains h.fails h.calls ⊎ HasCome h.stop h.calls
 abbrev pub habits_after : {T : Type 0} → Result T Failed → DiskHabits → DiskHabits
 habits_after (Ok answer) h = record h { calls = counted h.calls }
 habits_after (Err failed) h = record h { calls = counted h.calls; faults = counted h.faults }
-
--- one change more; or none, for want of memory
-abbrev pub AddsOrNot : Change → List Change → List Change → Type 0
-AddsOrNot change old new = (new ≡ old ++ change ∷ []) ⊎ (new ≡ old)
 
 -- A picked image of a disk that reads so and has that image, after these changes. Of the writes since
 -- the last sync the one with a number whose pick is true is there; of any other the range holds the

@@ -15,20 +15,22 @@ const LONGEST_PAYLOAD: usize = 67_108_864;
 #[derive(Debug, Drop)]
 pub struct Frame {
     bytes: Vec<u8>,
+    mark: usize,
 }
 
 impl Model for Frame {
-    ghost use Rattle.std.specs.Prelude.{◌-◌, length, min, vec_len, vec_capacity};
+    ghost use Rattle.std.specs.Prelude.{◌≤◌, ◌+◌, ◌-◌, length, min, take, vec_len, vec_capacity};
     ghost use Rattle.adx_io.specs.Frames.{FrameState, IsRecord, longest_payload, payload_in};
 
     ghost Value = { FrameState };
 
     ghost view = { λ f. record {
       payload = payload_in f.bytes.items;
+      marked = take f.mark (payload_in f.bytes.items);
       spare = min (vec_capacity f.bytes - vec_len f.bytes) (longest_payload - (vec_len f.bytes - 5));
     } };
 
-    ghost invariant = { λ f. IsRecord f.bytes.items };
+    ghost invariant = { λ f. IsRecord f.bytes.items × (f.mark + 5 ≤ vec_len f.bytes) };
 }
 
 impl Frame {
@@ -41,7 +43,7 @@ impl Frame {
         let room = capacity.checked_add(5).ok_or(OutOfMemory)?;
         let mut bytes = Vec::with_capacity(alloc, room)?;
         empty(&mut bytes);
-        Ok(Frame { bytes })
+        Ok(Frame { bytes, mark: 0 })
     }
 
     /// Takes the payload out, and keeps the room.
@@ -49,6 +51,7 @@ impl Frame {
         ensures payload { self.new.payload ≡ [] }
         ensures spare { self.old.spare + length self.old.payload ≤ self.new.spare }
     {
+        self.mark = 0;
         empty(&mut self.bytes);
     }
 
@@ -83,6 +86,7 @@ impl Frame {
         ensures succeeds { length piece.now ≤ self.old.spare → IsOk result }
         ensures spare { self.old.spare ≤ self.new.spare + length piece.now }
         ensures room { self.old.spare + length self.old.payload ≤ self.new.spare + length self.new.payload }
+        ensures marked { self.new.marked ≡ self.old.marked }
     {
         let len = self.bytes.len() - 5;
         if piece.len() > LONGEST_PAYLOAD - len {
@@ -90,6 +94,22 @@ impl Frame {
         }
         lengthen(&mut self.bytes, len, piece)?;
         Ok(())
+    }
+
+    /// Marks the payload so far, so that what is added to it can be taken back.
+    pub fn mark(&mut self)
+        ensures { self.new ≡ record self.old { marked = self.old.payload } }
+    {
+        self.mark = self.bytes.len() - 5;
+    }
+
+    /// Takes back what was added to the payload since it was marked, or all where it wasn't, and keeps the room.
+    pub fn take_back(&mut self)
+        ensures payload { self.new.payload ≡ self.old.marked }
+        ensures spare { self.old.spare ≤ self.new.spare }
+        ensures room { self.old.spare + length self.old.payload ≤ self.new.spare + length self.new.payload }
+    {
+        shorten(&mut self.bytes, self.mark);
     }
 }
 
@@ -121,6 +141,18 @@ fn lengthen(bytes: &mut Vec<u8>, len: usize, piece: &[u8]) -> Result<(), OutOfMe
     bytes.push_reserved(0);
     put_length(bytes, (len + piece.len()) as u32);
     Ok(())
+}
+
+/// Makes of the record of a payload that of its first bytes.
+fn shorten(bytes: &mut Vec<u8>, len: usize)
+    requires there { len + 5 ≤ vec_len bytes.old }
+    requires fits { len ≤ LONGEST_PAYLOAD }
+    ensures items { bytes.new.items ≡ record_of (take len (drop 4 bytes.old.items)) }
+    ensures capacity { vec_capacity bytes.old ≤ vec_capacity bytes.new }
+{
+    bytes.truncate(len + 4);
+    bytes.push_reserved(0);
+    put_length(bytes, len as u32);
 }
 
 /// Writes a length over the first four bytes.

@@ -1,11 +1,11 @@
 -- Runs of bytes of one kind, and the bytes that a text spells as themselves.
-use Rattle.std.proofs.Common.{◌≡◌, ℕ, suc, ◌<◌, ◌≤◌, List, [], ◌∷◌, ◌++◌, length, get_or, ◌||◌, ◌⊎◌, take, drop, Bool, true, false, refl, sym, ap, ap₂, ltb, eqb, cond, ◌+◌, ◌∙◌, subst, arith, inl, inr, append_assoc}
-use Rattle.std.proofs.lemmas.Bool.{false≢true, and_parts, and_from, or_parts, not-true, not-false, ne_eqb, le-ltb, ltb-false, agree_below_at, cases_lt, or_cases, ltb-true, eqb-true, eqb-false}
+use Rattle.std.proofs.Common.{◌≡◌, ℕ, suc, ◌<◌, ◌≤◌, List, [], ◌∷◌, ◌++◌, length, get_or, ◌||◌, ◌⊎◌, take, drop, Bool, true, false, refl, sym, ap, ap₂, ltb, eqb, cond, ◌+◌, ◌∙◌, subst, arith, inl, inr}
+use Rattle.std.proofs.lemmas.Bool.{false≢true, and_parts, and_from, or_parts, not-true, not-false, ne_eqb, ltb-false, cases_lt, or_cases, ltb-true, eqb-true, eqb-false}
 use Rattle.std.proofs.lemmas.List.Sums.{prefix_len-le-length, prefix_len_stops}
 use Rattle.std.proofs.lemmas.Str.{IsCharBoundary-before_ascii, IsCharBoundary-end}
 use Rattle.std.specs.Str.{IsCharBoundary}
 use Rattle.std.specs.List.{list_all, flat_map, prefix_len}
-use Rattle.adx_json.specs.Spelling.{escape, text_spelling}
+use Rattle.adx_json.specs.Spelling.{escape}
 use Rattle.adx_json.specs.Reading.{Stops, is_bare}
 
 -- the first bytes and the later bytes of equal bytes

@@ -10,7 +10,7 @@ use Rattle.std.specs.BTreeSet.{BTreeSet, contains, Updates}
 use Rattle.std.specs.List.{list_any}
 use Rattle.std.specs.Ordering.{ordering_then}
 use Rattle.std.specs.Str.{bytes_eq}
-use Rattle.adx_json.specs.Tree.{Members, member, members_of}
+use Rattle.adx_json.specs.Tree.{member, members_of}
 use Rattle.adx_json.specs.Grammar.{has_name, last_of_each}
 use Rattle.adx_json.specs.View.{member_of, members_view}
 use Rattle.adx_json.specs.Repeats.{stays, mark_from}

@@ -13,8 +13,6 @@ mod named;
 mod number;
 mod reader;
 mod repeats;
-#[cfg(test)]
-mod tests;
 mod text;
 mod tree;
 mod utf8;

@@ -10,8 +10,6 @@ mod link;
 mod memory_link;
 mod planned;
 mod tcp_link;
-#[cfg(test)]
-mod tests;
 
 pub use link::Link;
 pub use memory_link::{MemoryLink, NO_CONTENT};

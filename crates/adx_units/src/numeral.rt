@@ -1,4 +1,4 @@
-// The parts of a JSON number's text (RFC 8259, section 6), as slices of the text.
+//! The parts of a JSON number's text (RFC 8259, section 6), as slices of the text.
 ghost use Rattle.std.specs.Prelude.{◌≡◌, ◌++◌, ◌∷◌, [], ◌&&◌, not, MatchOption, true, false};
 ghost use Rattle.std.specs.List.{list_all, prefix_len};
 ghost use Rattle.adx_units.specs.Number.{is_digit as is_digit_byte, is_digits, is_whole as is_whole_text, is_number, begins_with, has_minus as has_minus_first, without_minus as text_without_minus, without_sign as text_without_sign, whole_digits, fraction_digits, exponent_part};

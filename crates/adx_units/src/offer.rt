@@ -1,3 +1,5 @@
+//! One bid of an auction as admission or the day left it.
+
 use crate::units::Units;
 
 /// The mark of a bid that was admitted and isn't decided yet.

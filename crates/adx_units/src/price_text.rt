@@ -1,4 +1,4 @@
-// The text of a price.
+//! The text of a price.
 ghost use Rattle.std.specs.Prelude.{◌≡◌, ◌+◌, ◌^◌, ◌%◌, ◌≤◌, ◌++◌, length, decimal};
 ghost use Rattle.adx_units.specs.Money.{price_of as price_of_text, price_text as text_of_price, six_decimals as six_decimals_of, without_last_zeros as text_without_last_zeros};
 
@@ -60,28 +60,5 @@ pub fn write_price(price: Units, out: &mut ArrayText)
         out.push(b'.');
         let decimals = six_decimals(price.0);
         out.extend(without_last_zeros(&decimals));
-    }
-}
-
-#[cfg(test)]
-mod tests {
-    use super::*;
-
-    #[test]
-    fn texts_of_prices(rt: HostRuntime) {
-        let rows: [(u64, &[u8]); 7] = [
-            (0, b"0"),
-            (1, b"0.000001"),
-            (2_500_000, b"2.5"),
-            (5_000_000, b"5"),
-            (10_010_000, b"10.01"),
-            (999_999_999_999, b"999999.999999"),
-            (1_000_000_000_000, b"1000000"),
-        ];
-        let mut out = ArrayText::new();
-        for (units, want) in rows {
-            write_price(Units(units), &mut out);
-            assert_eq!(rt; out.as_bytes(), want);
-        }
     }
 }

@@ -1,4 +1,4 @@
-// The value of a number's text times a power of ten: its whole part up to a cap, and whether a part is left.
+//! The value of a number's text times a power of ten: its whole part up to a cap, and whether a part is left.
 ghost use Rattle.std.specs.Prelude.{◌≡◌, ◌≤◌, ◌<◌, ◌+◌, ◌-◌, ◌*◌, ◌/◌, ◌%◌, ◌^◌, ◌++◌, ◌==◌, ◌&&◌, ◌||◌, nat_lt, not, min, true, false, if◌then◌else◌, MatchOption};
 ghost use Rattle.std.specs.List.{list_all};
 ghost use Rattle.adx_units.specs.Number.{digits_value, digits_after, is_digit, is_number, has_minus, numerator, denominator, numerator_of, denominator_of};

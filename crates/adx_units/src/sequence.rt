@@ -1,3 +1,5 @@
+//! Lists whose length no longer changes.
+
 ghost use Rattle.std.specs.Prelude.{◌≡◌, ◌↔◌, [], List, length, IsTrue};
 
 use std::marker::Model;

@@ -1,3 +1,5 @@
+//! Texts that own their bytes.
+
 ghost use Rattle.std.specs.Prelude.{◌≡◌, List, ℕ, IfOk, IsUtf8};
 ghost use Rattle.adx_units.specs.Texts.{kept_bytes};
 

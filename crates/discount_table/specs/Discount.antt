@@ -1,5 +1,6 @@
 -- The discount table: this project's own whole numbers, after the discount 1 - e^(x-1) of Mehta,
 -- Saberi, Vazirani and Vazirani, "AdWords and Generalized Online Matching", JACM 2007.
+use Rattle.discount_table.specs.declared.table.TheConstants.{DECLINE}
 use Rattle.std.specs.Prelude.{ℕ, zero, suc, ◌+◌, ◌-◌, ◌*◌, ◌/◌}
 
 -- the discount of an unused budget, of which the other discounts are parts
@@ -8,7 +9,7 @@ full_discount = 1000000000
 
 -- what each slab takes off, times 100
 abbrev pub decline : ℕ
-decline = 1586575000
+decline = DECLINE
 
 -- each slab's discount is the greater of 0 and (101 * the one before - decline) / 100 rounded up
 unfoldable pub discount : ℕ → ℕ

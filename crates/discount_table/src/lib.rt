@@ -2,12 +2,9 @@
 //!
 //! A bid is weighed by its charge times the discount of its campaign's slab, so that a campaign
 //! that has spent much loses to a fresh one at nearly equal bids.
-//! The definition of the table stands in `specs`; stands on `adx_units`.
+//! The definition of the table stands in `specs`; stands on std alone.
 #![tactic(auto)]
 
 mod table;
 
-pub use table::{discount, slab_of};
-
-#[cfg(test)]
-mod tests;
+pub use table::{DECLINE, discount, slab_of};

@@ -1,5 +1,10 @@
+//! The table of discounts, and the slab of a campaign.
+
 ghost use Rattle.std.specs.Prelude.{◌≡◌, ◌+◌, ◌*◌, ◌^◌, ◌<◌, ◌≤◌};
 ghost use Rattle.discount_table.specs.Discount.{decline, discount as discount_of, full_discount, slab_of as slab_of_money};
+
+/// What each slab takes off the discount before it, in hundredths of a billionth.
+pub const DECLINE: u64 = 1_586_575_000;
 
 /// The discounts of the slabs 0 to 100, of which a full discount is 10^9.
 #[rattlefmt::skip]

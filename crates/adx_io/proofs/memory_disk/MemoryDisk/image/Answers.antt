@@ -1,3 +1,4 @@
+-- A picked image is one of the images.
 use Rattle.std.proofs.Common.{◌∙◌, ap, sym, subst}
 use Rattle.adx_io.specs.MemoryDisks.{IsImage, reads_of}
 use Rattle.adx_io.specs.MemoryDiskLaws.{picked_is_image}

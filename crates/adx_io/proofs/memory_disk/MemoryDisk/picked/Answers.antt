@@ -1,3 +1,4 @@
+-- What is picked of the changes that are left is what is picked of all.
 use Rattle.std.proofs.Common.{◌≡◌, ◌≤◌, ◌+◌, ◌∷◌, ℕ, List, Bool, get_or, drop, arith, ap, sym, ◌∙◌, length}
 use Rattle.std.proofs.lemmas.List.{drop_more, drop_all}
 use Rattle.adx_io.specs.declared.memory_disk.Change.{Change}

@@ -1,3 +1,4 @@
+-- What the changes so far come to.
 use Rattle.std.proofs.Common.{◌≡◌, ◌≤◌, drop}
 use Rattle.adx_io.specs.MemoryDisks.{picked, image_of}
 use Rattle.adx_io.proofs.memory_disk.MemoryDisk.picked.Given as goal

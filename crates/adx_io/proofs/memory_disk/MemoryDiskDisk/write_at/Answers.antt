@@ -1,3 +1,4 @@
+-- A write that was done, one that was lost, and one for which there was no memory.
 use Rattle.std.proofs.Common.{true, rules, length}
 use Rattle.adx_io.proofs.MemoryDisks.{after_write, elapses_lost, follows_lost, follows_none}
 use Rattle.adx_io.proofs.memory_disk.MemoryDiskDisk.write_at.Goals as goal
