@@ -16,6 +16,3 @@ pub use impression::choose;
 pub use limits::{IMP_LIMIT, OFFER_LIMIT};
 pub use passes::settle;
 pub use reason::{AWARDED, LOST_TO_HIGHER, OVER_BUDGET};
-
-#[cfg(test)]
-mod tests;

@@ -77,14 +77,13 @@ fn settle_front(alloc: Global, offers: &[Offer], kept: &mut [Kept]) -> usize
     count
 }
 
-/// The texts that stay beside offers that were decided, without memory.
+/// The texts that stay beside offers that were decided, without memory. Their list keeps the room that it had:
+/// who holds it for long keeps a copy.
 pub fn settle_kept(alloc: Global, offers: &[Offer], mut kept: Vec<Kept>) -> Vec<Kept>
     ensures { result.items ≡ settled_kept offers.now kept.items }
 {
     let count = settle_front(alloc, offers, &mut kept);
     kept.truncate(count);
-    // Most texts go, and what stays is held as long as the day.
-    kept.shrink_to_fit();
     kept
 }
 

@@ -1,6 +1,6 @@
 -- What the fields of a day keep, entry by entry.
 use Rattle.std.proofs.Common.{◌≡◌, ◌≢◌, ◌⊎◌, ℕ, ◌+◌, ◌≤◌, max, List, [], ◌∷◌, ◌++◌, map, length, take, get_or, Bool, true, false, cond, ◌||◌, refl, sym, ap, ◌∙◌, subst, inl, inr, arith, Option, Some, None, slice_get, is_some}
-use Rattle.std.specs.List.{cons_option}
+use Rattle.std.specs.List.{All, cons_option}
 use Rattle.std.specs.Option.{option_map_or}
 use Rattle.std.proofs.lemmas.List.{append-nil}
 use Rattle.std.proofs.lemmas.Bool.{cases_eq, eqb-true, false≢true}
@@ -9,22 +9,28 @@ use Rattle.notice_book.specs.declared.kind.NoticeKind.{NoticeKind}
 use Rattle.notice_book.specs.AwardList.{Counts, expired_by, noticed}
 use Rattle.day_rules.specs.declared.ask.Ask.{Ask}
 use Rattle.day_rules.specs.declared.entry.Entry.{Entry}
-use Rattle.day_rules.specs.Entries.{Notice, asked, counts, entry_of_notice, notice_of}
+use Rattle.adx_units.specs.Changed.{changed_at}
+use Rattle.adx_units.specs.declared.units.Units.{Units}
+use Rattle.day_rules.specs.Entries.{BudgetChange, Notice, asked, budgeted, counts, entry_of_change, entry_of_notice, notice_of}
 use Rattle.day_rules.specs.Books.{ask_count, asks_of, awards_of, bid_count, entries_to_come, kept_size, moment_of, text_count}
 use Rattle.day_rules.specs.DayState.{DayState, HasRoomFor}
-use Rattle.day_rules.specs.Legal.{ExpireMayFollow, IsLegal, MayFollow}
+use Rattle.day_rules.specs.Legal.{BudgetMayFollow, ExpireMayFollow, IsLegal}
 use Rattle.day_rules.specs.Replies.{notice_place}
 use Rattle.day_rules.specs.Terms.{AreTerms, Terms}
 use Rattle.day_rules.proofs.Asked.{asks_after}
+use Rattle.day_rules.proofs.Asking.{awards_budget}
+use Rattle.day_rules.proofs.Budgets.{budgets_changed, budgets_kept, budgets_none, change_of_entry, changes_push}
 use Rattle.day_rules.proofs.Following.{notice_may_follow}
 use Rattle.day_rules.proofs.Histories.{legal_none, legal_push}
 use Rattle.day_rules.proofs.Noticing.{counted_fresh, had_notice, notice_stands, place_kept, place_new, stands, stands_push}
 use Rattle.day_rules.proofs.Pushing.{awards_moment, awards_notice, bill_of_open, loss_of_open}
-use Rattle.day_rules.proofs.Room.{moment_to_come, notice_to_come, to_come_moment, to_come_notice}
+use Rattle.day_rules.proofs.Room.{to_come_moment, to_come_notice}
 use Rattle.day_rules.proofs.Within.{asks_push, bids_push, latest_push, text_push}
 use Rattle.day_machine.specs.DayFields.{AreFields, AreIds, ArePlaces, AreSums}
 use Rattle.day_machine.specs.LedgerState.{LedgerState, no_places, place_of, placed}
-use Rattle.day_machine.specs.Sums.{totals_with_moment}
+use Rattle.day_machine.specs.ChangeRows.{AreRowsOf, ChangeRow, IsWithout}
+use Rattle.day_machine.specs.Sums.{totals_with_change, totals_with_moment}
+use Rattle.day_machine.proofs.RowsKept.{rows_kept, rows_new}
 use Rattle.day_machine.specs.declared.places.Places.{Places}
 use Rattle.day_machine.specs.declared.totals.Totals.{Totals}
 
@@ -43,11 +49,12 @@ no_ask_ids h e ids none i =
     placed_as place None = None
     placed_as place (Some a) = Some (place, a)
 
-no_ask_sums : (h : List Entry) (e : Entry) (t u : Totals) → asked e ≡ None → AreSums h t → u.asks ≡ t.asks → u.bids ≡ t.bids → u.text ≡ t.text → u.moment ≡ max t.moment (moment_of e) → AreSums (h ++ e ∷ []) u
-no_ask_sums h e t u none s a b x m = record {
+no_ask_sums : (h : List Entry) (e : Entry) (t u : Totals) → asked e ≡ None → AreSums h t → u.asks ≡ t.asks → u.bids ≡ t.bids → u.text ≡ t.text → u.changes ≡ t.changes + change_of_entry e → u.moment ≡ max t.moment (moment_of e) → AreSums (h ++ e ∷ []) u
+no_ask_sums h e t u none s a b x d m = record {
   asks = a ∙ (s.asks ∙ sym (asks_push h e ∙ (ap (λ (o : Option Ask). ask_count h + cond (is_some o) 1 0) none ∙ omega arith)));
   bids = b ∙ (s.bids ∙ sym (bids_push h e ∙ (ap (λ (o : Option Ask). bid_count h + option_map_or (λ a. length a.offers) o 0) none ∙ omega arith)));
   text = x ∙ (s.text ∙ sym (text_push h e ∙ (ap (λ (o : Option Ask). text_count h + option_map_or kept_size o 0) none ∙ omega arith)));
+  changes = omega (arith, d, s.changes, changes_push h e);
   moment = m ∙ (ap (λ (k : ℕ). max k (moment_of e)) s.moment ∙ sym (latest_push h e));
 }
 
@@ -143,81 +150,93 @@ notice_moment NoticeKind.Win n = refl
 notice_moment NoticeKind.Bill n = refl
 notice_moment NoticeKind.Loss n = refl
 
+notice_changes : (kind : NoticeKind) (n : ℕ) → budgeted (entry_of_notice kind n) ≡ None
+notice_changes NoticeKind.Win n = refl
+notice_changes NoticeKind.Bill n = refl
+notice_changes NoticeKind.Loss n = refl
+
 -- the fields after a notice
-pub fields_notice : (terms : Terms) (h : List Entry) (spare rest : ℕ) (l k : LedgerState) (ids : List (List ℕ × ℕ)) (t : Totals) (kind : NoticeKind) (n : ℕ) → AreFields terms h spare l ids t → Counts kind n (awards_of h)
-    → spare ≤ rest + 1 → k.awards ≡ noticed kind n l.awards
+pub fields_notice : (terms : Terms) (h : List Entry) (spare rest : ℕ) (l k : LedgerState) (ids : List (List ℕ × ℕ)) (cs : List ChangeRow) (t : Totals) (kind : NoticeKind) (n : ℕ) → AreFields terms h spare l ids cs t → Counts kind n (awards_of h)
+    → spare ≤ rest + 1 → k.budgets ≡ l.budgets → k.awards ≡ noticed kind n l.awards
     → get_or k.places n no_places ≡ placed kind (length h) (get_or l.places n no_places) → ((m : ℕ) → m ≢ n → get_or k.places m no_places ≡ get_or l.places m no_places)
-    → AreFields terms (h ++ entry_of_notice kind n ∷ []) rest k ids t
-fields_notice terms h spare rest l k ids t kind n f c less awards here others =
+    → AreFields terms (h ++ entry_of_notice kind n ∷ []) rest k ids cs t
+fields_notice terms h spare rest l k ids cs t kind n f c less budgets awards here others =
     let e : Entry = entry_of_notice kind n in
     let after : awards_of (h ++ e ∷ []) ≡ noticed kind n (awards_of h) = awards_notice h kind n c in
     record {
       day = record { terms_ok = f.day.terms_ok; legal = legal_push terms h e f.day.legal (notice_may_follow terms h kind n c) };
+      budgets_are = budgets ∙ (f.budgets_are ∙ sym (budgets_kept terms h e (notice_changes kind n)));
       awards_are = awards ∙ (ap (noticed kind n) f.awards_are ∙ sym after);
       places_are = notice_places terms h kind n l.places k.places f.day.legal c f.places_are here others;
       ids_are = no_ask_ids h e ids (notice_asks kind n) f.ids_are;
-      totals_are = no_ask_sums h e t t (notice_asks kind n) f.totals_are refl refl refl (omega (arith, notice_moment kind n));
+      changes_are = rows_kept (length terms.budgets) h e cs (notice_changes kind n) f.changes_are;
+      totals_are = no_ask_sums h e t t (notice_asks kind n) f.totals_are refl refl refl (omega (arith, ap {B = ℕ} (λ (o : Option BudgetChange). cond (is_some o) 1 0) (notice_changes kind n))) (omega (arith, notice_moment kind n));
       to_come = omega (arith, f.to_come, to_come_notice kind n (awards_of h) c, ap entries_to_come after);
     }
 
 -- the fields after a moment
-pub fields_moment : (terms : Terms) (h : List Entry) (spare rest : ℕ) (l k : LedgerState) (ids : List (List ℕ × ℕ)) (t u : Totals) (now : ℕ) → AreFields terms h spare l ids t → ExpireMayFollow h now
-    → spare ≤ rest + 1 → k.awards ≡ expired_by now l.awards → k.places ≡ l.places → u ≡ totals_with_moment t now
-    → AreFields terms (h ++ Entry.Expire now ∷ []) rest k ids u
-fields_moment terms h spare rest l k ids t u now f follows less awards places totals =
+pub fields_moment : (terms : Terms) (h : List Entry) (spare rest : ℕ) (l k : LedgerState) (ids : List (List ℕ × ℕ)) (cs : List ChangeRow) (t u : Totals) (now : ℕ) → AreFields terms h spare l ids cs t → ExpireMayFollow h now
+    → spare ≤ rest + 1 → k.budgets ≡ l.budgets → k.awards ≡ expired_by now l.awards → k.places ≡ l.places → u ≡ totals_with_moment t now
+    → AreFields terms (h ++ Entry.Expire now ∷ []) rest k ids cs u
+fields_moment terms h spare rest l k ids cs t u now f follows less budgets awards places totals =
     let e : Entry = Entry.Expire now in
     let after : awards_of (h ++ e ∷ []) ≡ expired_by now (awards_of h) = awards_moment h now in
     record {
       day = record { terms_ok = f.day.terms_ok; legal = legal_push terms h e f.day.legal follows };
+      budgets_are = budgets ∙ (f.budgets_are ∙ sym (budgets_kept terms h e refl));
       awards_are = awards ∙ (ap (expired_by now) f.awards_are ∙ sym after);
       places_are = other_places h e l.places k.places (λ x. refl) f.places_are (λ n. ap (λ (ps : List Places). get_or ps n no_places) places);
       ids_are = no_ask_ids h e ids refl f.ids_are;
-      totals_are = no_ask_sums h e t u refl f.totals_are (ap (λ (v : Totals). v.asks) totals) (ap (λ (v : Totals). v.bids) totals) (ap (λ (v : Totals). v.text) totals) (ap (λ (v : Totals). v.moment) totals ∙ omega arith);
+      changes_are = rows_kept (length terms.budgets) h e cs refl f.changes_are;
+      totals_are = no_ask_sums h e t u refl f.totals_are (ap (λ (v : Totals). v.asks) totals) (ap (λ (v : Totals). v.bids) totals) (ap (λ (v : Totals). v.text) totals) (ap (λ (v : Totals). v.changes) totals ∙ omega arith) (ap (λ (v : Totals). v.moment) totals ∙ omega arith);
       to_come = omega (arith, f.to_come, to_come_moment now (awards_of h), follows.ends, ap entries_to_come after);
     }
 
+-- the fields after a change of a budget
+pub fields_change : (terms : Terms) (h : List Entry) (spare rest : ℕ) (l k : LedgerState) (ids : List (List ℕ × ℕ)) (cs ds : List ChangeRow) (t u : Totals) (x : BudgetChange) → AreFields terms h spare l ids cs t → BudgetMayFollow terms h x
+    → 1 + entries_to_come (awards_of h) ≤ spare → spare ≤ rest + 1 → k.budgets ≡ changed_at (λ b. x.budget) x.campaign l.budgets → k.awards ≡ l.awards → k.places ≡ l.places
+    → AreRowsOf (length terms.budgets) (h ++ entry_of_change x ∷ []) ds → u ≡ totals_with_change t
+    → AreFields terms (h ++ entry_of_change x ∷ []) rest k ids ds u
+fields_change terms h spare rest l k ids cs ds t u x f follows room less budgets awards places rows totals =
+    let e : Entry = entry_of_change x in
+    let after : awards_of (h ++ e ∷ []) ≡ awards_of h = awards_budget h x.campaign x.change x.budget in
+    record {
+      day = record { terms_ok = f.day.terms_ok; legal = legal_push terms h e f.day.legal follows };
+      budgets_are = budgets ∙ (ap (changed_at (λ (b : Units). x.budget) x.campaign) f.budgets_are ∙ sym (budgets_changed terms h x));
+      awards_are = awards ∙ (f.awards_are ∙ sym after);
+      places_are = other_places h e l.places k.places (λ y. refl) f.places_are (λ n. ap (λ (ps : List Places). get_or ps n no_places) places);
+      ids_are = no_ask_ids h e ids refl f.ids_are;
+      changes_are = rows;
+      totals_are = no_ask_sums h e t u refl f.totals_are (ap (λ (v : Totals). v.asks) totals) (ap (λ (v : Totals). v.bids) totals) (ap (λ (v : Totals). v.text) totals) (ap (λ (v : Totals). v.changes) totals) (ap (λ (v : Totals). v.moment) totals ∙ omega arith);
+      to_come = omega (arith, ap entries_to_come after);
+    }
+
 -- the room for a notice
-pub notice_room : (kind : NoticeKind) (n : ℕ) (s : DayState) → 1 ≤ s.room.entries → HasRoomFor s (entry_of_notice kind n)
-notice_room NoticeKind.Win n s some = some
-notice_room NoticeKind.Bill n s some = some
-notice_room NoticeKind.Loss n s some = some
+pub notice_room : (kind : NoticeKind) (n : ℕ) (s : DayState) → HasRoomFor s (entry_of_notice kind n)
+notice_room NoticeKind.Win n s = tt
+notice_room NoticeKind.Bill n s = tt
+notice_room NoticeKind.Loss n s = tt
 
 -- the fields at the start
 none_sold : awards_of [] ≡ []
 unfolding awards_of
 none_sold = refl
 
-pub fields_new : (terms : Terms) (spare : ℕ) (l : LedgerState) (ids : List (List ℕ × ℕ)) (t : Totals) → AreTerms terms → l.awards ≡ [] → ids ≡ [] → t.asks ≡ 0 → t.bids ≡ 0 → t.text ≡ 0 → t.moment ≡ 0 → AreFields terms [] spare l ids t
-fields_new terms spare l ids t ok awards none asks bids text moment = record {
+pub fields_new : (terms : Terms) (spare : ℕ) (l : LedgerState) (ids : List (List ℕ × ℕ)) (cs : List ChangeRow) (t : Totals) → AreTerms terms → l.budgets ≡ terms.budgets → l.awards ≡ [] → ids ≡ [] → length cs ≡ length terms.budgets → All IsWithout cs → t.asks ≡ 0 → t.bids ≡ 0 → t.text ≡ 0 → t.changes ≡ 0 → t.moment ≡ 0 → AreFields terms [] spare l ids cs t
+fields_new terms spare l ids cs t ok budgets awards none count without asks bids text changes moment = record {
   day = record { terms_ok = ok; legal = legal_none terms };
+  budgets_are = budgets ∙ sym (budgets_none terms);
   awards_are = awards ∙ sym none_sold;
   places_are = λ kind n standing. absurd (false≢true standing);
   ids_are = record { front = refl; one_more = omega (arith, ap (λ (xs : List (List ℕ × ℕ)). length xs) none) };
-  totals_are = record { asks = asks; bids = bids; text = text; moment = moment };
+  changes_are = rows_new (length terms.budgets) cs count without;
+  totals_are = record { asks = asks; bids = bids; text = text; changes = changes; moment = moment };
   to_come = omega (arith, ap entries_to_come none_sold);
 }
 
--- entries that are no ask have their room
-pub other_room : (s : DayState) (e : Entry) → ((x : ℕ) × (e ≡ Entry.Win x)) ⊎ (((x : ℕ) × (e ≡ Entry.Bill x)) ⊎ (((x : ℕ) × (e ≡ Entry.Loss x)) ⊎ ((x : ℕ) × (e ≡ Entry.Expire x)))) → MayFollow s.terms s.history e
-    → entries_to_come (awards_of s.history) ≤ s.room.entries → HasRoomFor s e
-other_room s e (inl w) follows room =
-    subst (HasRoomFor s) (sym w.1) (to_room s (notice_to_come NoticeKind.Win w.0 (awards_of s.history) (subst (MayFollow s.terms s.history) w.1 follows)) room)
-  where
-    to_room : (s : DayState) → 1 ≤ entries_to_come (awards_of s.history) → entries_to_come (awards_of s.history) ≤ s.room.entries → 1 ≤ s.room.entries
-    to_room s a b = omega arith
-other_room s e (inr (inl w)) follows room =
-    subst (HasRoomFor s) (sym w.1) (to_room s (notice_to_come NoticeKind.Bill w.0 (awards_of s.history) (subst (MayFollow s.terms s.history) w.1 follows)) room)
-  where
-    to_room : (s : DayState) → 1 ≤ entries_to_come (awards_of s.history) → entries_to_come (awards_of s.history) ≤ s.room.entries → 1 ≤ s.room.entries
-    to_room s a b = omega arith
-other_room s e (inr (inr (inl w))) follows room =
-    subst (HasRoomFor s) (sym w.1) (to_room s (notice_to_come NoticeKind.Loss w.0 (awards_of s.history) (subst (MayFollow s.terms s.history) w.1 follows)) room)
-  where
-    to_room : (s : DayState) → 1 ≤ entries_to_come (awards_of s.history) → entries_to_come (awards_of s.history) ≤ s.room.entries → 1 ≤ s.room.entries
-    to_room s a b = omega arith
-other_room s e (inr (inr (inr w))) follows room =
-    let moment : ExpireMayFollow s.history w.0 = subst (MayFollow s.terms s.history) w.1 follows in
-    subst (HasRoomFor s) (sym w.1) (to_room s (moment_to_come w.0 (awards_of s.history) moment.ends) room)
-  where
-    to_room : (s : DayState) → 1 ≤ entries_to_come (awards_of s.history) → entries_to_come (awards_of s.history) ≤ s.room.entries → 1 ≤ s.room.entries
-    to_room s a b = omega arith
+-- entries that are no ask and no change have their room
+pub other_room : (s : DayState) (e : Entry) → ((x : ℕ) × (e ≡ Entry.Win x)) ⊎ (((x : ℕ) × (e ≡ Entry.Bill x)) ⊎ (((x : ℕ) × (e ≡ Entry.Loss x)) ⊎ ((x : ℕ) × (e ≡ Entry.Expire x)))) → HasRoomFor s e
+other_room s e (inl w) = subst (HasRoomFor s) (sym w.1) tt
+other_room s e (inr (inl w)) = subst (HasRoomFor s) (sym w.1) tt
+other_room s e (inr (inr (inl w))) = subst (HasRoomFor s) (sym w.1) tt
+other_room s e (inr (inr (inr w))) = subst (HasRoomFor s) (sym w.1) tt

@@ -1,30 +1,35 @@
 //! One serving day.
-ghost use Rattle.std.specs.Prelude.{◌≡◌, ◌==◌, ◌≢◌, ◌∷◌, ◌++◌, ◌^◌, ◌<◌, ◌≤◌, ◌↔◌, [], None, length, IfOk, IfSome, IsTrue, OnOk, slice_get, Some};
+ghost use Rattle.std.specs.Prelude.{◌≡◌, ◌==◌, ◌≢◌, ◌∷◌, ◌++◌, ◌^◌, ◌<◌, ◌≤◌, ◌↔◌, [], None, length, if◌then◌else◌, IfOk, IfSome, IsTrue, OnOk, slice_get, Some};
 ghost use Rattle.std.specs.List.{list_any};
+ghost use Rattle.std.specs.Option.{option_map};
 ghost use Rattle.allocator_core.specs.declared.reason.TheConstants.{AWARDED as AWARDED_MARK};
 ghost use Rattle.notice_book.specs.AwardList.{Counts};
 ghost use Rattle.notice_book.specs.declared.award.Award.{Award as AwardValue};
 ghost use Rattle.day_rules.specs.Asks.{IsUndecided, IsWellFormed, settled};
 ghost use Rattle.day_rules.specs.Books.{accounts_in, awards_of, entries_to_come, sales_of};
-ghost use Rattle.day_rules.specs.DayState.{HasRoomFor, HasRoomForAsk, IsDay};
-ghost use Rattle.day_rules.specs.Entries.{entry_of_notice};
-ghost use Rattle.day_rules.specs.Legal.{AskMayFollow, ExpireMayFollow, MayFollow};
-ghost use Rattle.day_rules.specs.Replies.{ask_of, ask_reply, notice_reply, ruled_reply, sale_reply, seen_in, settled_reply, tick_reply};
+ghost use Rattle.day_rules.specs.DayState.{HasRoomFor, HasRoomForAsk, HasRoomForChange, IsDay};
+ghost use Rattle.day_rules.specs.Entries.{change_of, entry_of_notice};
+ghost use Rattle.campaign_book.specs.Accounts.{IsBudget};
+ghost use Rattle.day_rules.specs.Changes.{last_change, same_change};
+ghost use Rattle.day_rules.specs.Legal.{AskMayFollow, BudgetMayFollow, ExpireMayFollow, MayFollow};
+ghost use Rattle.day_rules.specs.Replies.{ask_of, ask_reply, budget_reply, new_change_reply, notice_reply, ruled_reply, sale_reply, seen_in, settled_reply, tick_reply};
 ghost use Rattle.notice_book.specs.Rules.{ruling_of};
 ghost use Rattle.day_rules.specs.Terms.{AreTerms, budgets_after, terms_of};
 ghost use Rattle.day_machine.specs.Answered.{IsReplyIn};
 
+use crate::changes::Changes;
 use crate::ledger::Ledger;
 use crate::totals::Totals;
-use crate::{ids, sales, totals};
+use crate::{changes, ids, sales, totals};
 use adx_units::{Offer, OutOfMemory, Sequence, Units};
 use allocator_core::AWARDED;
 use campaign_book::Book;
-use day_rules::{Answer, Ask, DayLimits, Entry, Seen, Which};
+use day_rules::{Answer, Ask, DayLimits, Entry, MAX_CHANGES, Seen, Which};
 use indexmap::IndexMap;
 use notice_book::{Awards, NoticeKind, Ruling};
 use std::alloc::Global;
 use std::marker::Model;
+use std::snapshot::Snapshot;
 
 /// One serving day: what it was opened with, and its history. A contract sees both, and what there is
 /// memory for.
@@ -32,14 +37,18 @@ use std::marker::Model;
 pub struct Day {
     alloc: Global,
     pub(crate) limits: DayLimits,
+    /// The ledger as the day was opened.
+    opened: Snapshot<Ledger>,
     history: Vec<Entry>,
     ledger: Ledger,
     ids: IndexMap<String, u32>,
+    /// The changes of each campaign's budget, by its place in the roster.
+    changes: Vec<Changes>,
     pub(crate) totals: Totals,
 }
 
 impl Model for Day {
-    ghost use Rattle.std.specs.Prelude.{vec_len, vec_capacity, ◌-◌};
+    ghost use Rattle.std.specs.Prelude.{vec_len, vec_capacity, ◌-◌, map};
     ghost use Rattle.day_rules.specs.DayState.{DayState, next_id};
     ghost use Rattle.day_rules.specs.Terms.{terms_of};
     ghost use Rattle.day_machine.specs.DayFields.{AreFields, id_entries};
@@ -47,16 +56,17 @@ impl Model for Day {
     ghost Value = { DayState };
 
     ghost view = { λ d. record {
-      terms = terms_of d.ledger.budgets d.limits;
+      terms = terms_of d.opened.value.budgets d.limits;
       history = d.history.items;
       room = record {
         entries = vec_capacity d.history - vec_len d.history;
         awards = d.ledger.room;
         prepared = next_id d.totals.asks (vec_len d.history) (id_entries d.ids);
+        changes = map (λ c. c.room) d.changes.items;
       };
     } };
 
-    ghost invariant = { λ d. AreFields (terms_of d.ledger.budgets d.limits) d.history.items (vec_capacity d.history - vec_len d.history) d.ledger (id_entries d.ids) d.totals };
+    ghost invariant = { λ d. AreFields (terms_of d.opened.value.budgets d.limits) d.history.items (vec_capacity d.history - vec_len d.history) d.ledger (id_entries d.ids) d.changes.items d.totals };
 }
 
 /// The refusal of an ask that would pass a limit.
@@ -99,6 +109,19 @@ fn entry_of(kind: NoticeKind, award: u32) -> Entry
     }
 }
 
+/// The answer to a change whose number the campaign has already, at that place and with that budget.
+fn again(place: u32, kept: Units, budget: Units) -> Answer
+    ensures { result ≡ (if kept.0 == budget.0 then Answer.Repeat place else Answer.BudgetReused kept) }
+{
+    if kept.0 == budget.0 {
+        Answer::Repeat {
+            entry: u64::from(place),
+        }
+    } else {
+        Answer::BudgetReused { kept }
+    }
+}
+
 impl Day {
     /// A day without entries.
     pub fn new(alloc: Global, budgets: &[Units], limits: DayLimits) -> Result<Day, OutOfMemory>
@@ -107,16 +130,20 @@ impl Day {
         ensures history { IfOk result (λ d. d.history ≡ []) }
     {
         let ledger = Ledger::new(alloc, budgets)?;
+        let changes = changes::rows_of(alloc, budgets.len())?;
         Ok(Day {
             alloc,
             limits,
+            opened: Snapshot::of(&ledger),
             history: Vec::new(alloc),
             ledger,
             ids: IndexMap::new(alloc),
+            changes,
             totals: Totals {
                 asks: 0,
                 bids: 0,
                 text: 0,
+                changes: 0,
                 moment: 0,
             },
         })
@@ -301,9 +328,74 @@ impl Day {
         )
     }
 
+    /// The answer to a change of a campaign's budget, in units, and the entry that a commit is to add, if
+    /// the reply adds one. The day itself stays as it is.
+    pub fn plan_budget(&self, campaign: u32, change: u32, budget: Units) -> (Answer, Option<Entry>)
+        requires change { 1 ≤ change }
+        requires budget { IsBudget budget }
+        ensures answer { result.0 ≡ (budget_reply self.now.terms self.now.history (change_of campaign change budget)).answer }
+        ensures entry { result.1 ≡ (budget_reply self.now.terms self.now.history (change_of campaign change budget)).entry }
+        ensures legal { IfSome result.1 (MayFollow self.now.terms self.now.history) }
+    {
+        if campaign >= self.book().count() {
+            return (Answer::NoCampaign, None);
+        }
+        match self.kept_change(campaign, change) {
+            None => self.plan_new_change(campaign, change, budget),
+            Some((place, kept)) => (again(place, kept, budget), None),
+        }
+    }
+
+    /// The change of that campaign and number, if it stands in the history: its place and its budget.
+    fn kept_change(&self, campaign: u32, change: u32) -> Option<(u32, Units)>
+        requires { campaign < length self.now.terms.budgets }
+        ensures { (budget : Units) → result ≡ option_map (λ p. (p.0, p.1.budget)) (same_change (change_of campaign change budget) self.now.history) }
+    {
+        match self.changes[campaign as usize].place_of(change) {
+            None => None,
+            Some(place) => changes::set_at(&self.history, place),
+        }
+    }
+
+    /// The greatest number of a campaign's changes, and 0 where there is none.
+    pub(crate) fn last_change(&self, campaign: u32) -> u32
+        requires { campaign < length self.now.terms.budgets }
+        ensures { result ≡ last_change campaign self.now.history }
+    {
+        self.changes[campaign as usize].last()
+    }
+
+    /// The answer to a change whose number the campaign doesn't have.
+    fn plan_new_change(&self, campaign: u32, change: u32, budget: Units) -> (Answer, Option<Entry>)
+        requires known { campaign < length self.now.terms.budgets }
+        requires change { 1 ≤ change }
+        requires budget { IsBudget budget }
+        requires new { same_change (change_of campaign change budget) self.now.history ≡ None }
+        ensures { IsReplyIn self.now.terms self.now.history result (new_change_reply self.now.history (change_of campaign change budget)) }
+    {
+        let count = self.totals.changes + 1;
+        let last = self.last_change(campaign);
+        if change < last {
+            return (Answer::Late { last }, None);
+        }
+        let committed = self.book().committed(campaign);
+        if budget.0 < committed.0 {
+            return (Answer::BelowCommitted { committed }, None);
+        }
+        if MAX_CHANGES < count {
+            return full(Which::Changes, count);
+        }
+        let entry = Entry::Budget {
+            campaign,
+            change,
+            budget,
+        };
+        (Answer::Budgeted, Some(entry))
+    }
+
     /// Makes the memory for an entry: for an ask, for two further entries per award of it, beside
-    /// those that earlier awards may still get. What was prepared before is given up, also where memory
-    /// is wanting.
+    /// those that earlier awards may still get. What was prepared for an ask before is given up with
+    /// another ask, also where memory is wanting.
     pub fn prepare(&mut self, entry: &Entry) -> Result<(), OutOfMemory>
         requires { MayFollow self.old.terms self.old.history entry.now }
         ensures room { OnOk result (HasRoomFor self.new entry.now) }
@@ -313,6 +405,7 @@ impl Day {
     {
         match entry {
             Entry::Ask(ask) => self.prepare_ask(ask),
+            Entry::Budget { campaign, .. } => self.prepare_change(*campaign),
             Entry::Win { .. } | Entry::Bill { .. } | Entry::Loss { .. } | Entry::Expire { .. } => {
                 // The room is there already, as a field shows.
                 let _ = &self.history;
@@ -339,8 +432,22 @@ impl Day {
         Ok(())
     }
 
+    /// Makes the memory for a change of a campaign's budget.
+    fn prepare_change(&mut self, campaign: u32) -> Result<(), OutOfMemory>
+        requires { campaign < length self.old.terms.budgets }
+        ensures room { OnOk result (HasRoomForChange self.old.history self.new.room campaign) }
+        ensures terms { self.new.terms ≡ self.old.terms }
+        ensures history { self.new.history ≡ self.old.history }
+        ensures kept { self.old.room.entries ≤ self.new.room.entries }
+    {
+        self.history.reserve(1 + self.ledger.to_come() as usize)?;
+        self.changes[campaign as usize].room()?;
+        Ok(())
+    }
+
     /// Adds an entry to the end of the history, without memory. An ask has to be the one that was
-    /// prepared last, with nothing added since.
+    /// prepared last, with nothing added since; a change of a budget has to be prepared too, and a
+    /// notice or a moment never is.
     pub fn commit(&mut self, entry: Entry)
         requires legal { MayFollow self.old.terms self.old.history entry }
         requires room { HasRoomFor self.old entry }
@@ -353,6 +460,11 @@ impl Day {
             Entry::Bill { award } => self.commit_notice(NoticeKind::Bill, award),
             Entry::Loss { award } => self.commit_notice(NoticeKind::Loss, award),
             Entry::Expire { now } => self.commit_moment(now),
+            Entry::Budget {
+                campaign,
+                change,
+                budget,
+            } => self.commit_change(campaign, change, budget),
         }
     }
 
@@ -372,8 +484,7 @@ impl Day {
 
     /// Adds a notice.
     fn commit_notice(&mut self, kind: NoticeKind, n: u32)
-        requires legal { Counts kind n (awards_of self.old.history) }
-        requires room { 1 ≤ self.old.room.entries }
+        requires { Counts kind n (awards_of self.old.history) }
         ensures terms { self.new.terms ≡ self.old.terms }
         ensures history { self.new.history ≡ self.old.history ++ entry_of_notice kind n ∷ [] }
     {
@@ -384,13 +495,30 @@ impl Day {
 
     /// Adds a moment.
     fn commit_moment(&mut self, now: u64)
-        requires legal { ExpireMayFollow self.old.history now }
-        requires room { 1 ≤ self.old.room.entries }
+        requires { ExpireMayFollow self.old.history now }
         ensures terms { self.new.terms ≡ self.old.terms }
         ensures history { self.new.history ≡ self.old.history ++ Entry.Expire now ∷ [] }
     {
         self.ledger.expire(now);
         self.totals = totals::with_moment(self.totals, now);
         self.history.push_reserved(Entry::Expire { now });
+    }
+
+    /// Adds a change of a campaign's budget.
+    fn commit_change(&mut self, campaign: u32, change: u32, budget: Units)
+        requires legal { BudgetMayFollow self.old.terms self.old.history (change_of campaign change budget) }
+        requires room { HasRoomForChange self.old.history self.old.room campaign }
+        ensures terms { self.new.terms ≡ self.old.terms }
+        ensures history { self.new.history ≡ self.old.history ++ Entry.Budget campaign change budget ∷ [] }
+    {
+        let place = self.history.len() as u32;
+        self.ledger.set_budget(campaign, budget);
+        self.changes[campaign as usize].push(change, place);
+        self.totals = totals::with_change(self.totals);
+        self.history.push_reserved(Entry::Budget {
+            campaign,
+            change,
+            budget,
+        });
     }
 }

@@ -1,11 +1,11 @@
 -- Every order of notices gives the same ends and the same money, where no open award gets both a bill and a loss.
-use Rattle.std.proofs.Common.{◌≡◌, ℕ, ◌+◌, ◌<◌, List, [], ◌∷◌, map, length, Bool, true, false, cond, ◌&&◌, ◌||◌, eqb, refl, sym, ap, ◌∙◌, subst, inl, inr, arith, Option, Some, None}
+use Rattle.std.proofs.Common.{◌≡◌, ℕ, ◌+◌, ◌<◌, List, [], ◌∷◌, map, length, Bool, true, false, cond, ◌&&◌, ◌||◌, eqb, refl, sym, ap, ◌∙◌, subst, arith, Option, Some, None}
 use Rattle.std.specs.List.{enumerate_from, list_any, slice_get, sum_by}
 use Rattle.std.specs.Prelude.{IsPermutation}
 use Rattle.std.specs.Option.{option_map, option_map_or, option_or}
 use Rattle.std.specs.Str.{bytes_eq}
 use Rattle.std.proofs.lemmas.Option.{none-some, same_Some}
-use Rattle.std.proofs.lemmas.Bool.{and_parts, or_cases, or_left, or_right, false_from_ne_true, false≢true}
+use Rattle.std.proofs.lemmas.Bool.{or_left, or_right, false_from_ne_true, false≢true}
 use Rattle.std.proofs.lemmas.List.Sorted.{list_any-IsPermutation}
 use Rattle.notice_book.specs.declared.award.Award.{Award}
 use Rattle.notice_book.specs.declared.award.End.{End}
@@ -17,7 +17,7 @@ use Rattle.day_rules.specs.Books.{awards_of, ask_at, charge_where}
 use Rattle.day_rules.specs.Terms.{Terms}
 use Rattle.day_rules.specs.Legal.{IsLegal}
 use Rattle.day_rules.specs.Replies.{is_of_auction}
-use Rattle.day_rules.specs.Laws.{Arrival, after_arrival, after_arrivals, has_arrival, AgreeOnEnds, AreSameBooks}
+use Rattle.day_rules.specs.Laws.{Arrival, after_arrival, after_arrivals, has_arrival, is_notice_of, AgreeOnEnds, AreSameBooks}
 use Rattle.allocator_core.proofs.Lists.{sum_by-map}
 use Rattle.day_rules.proofs.Lists.{get_numbered, or_none}
 use Rattle.day_rules.proofs.Money.{numbered_twice}
@@ -29,12 +29,8 @@ use Rattle.day_rules.proofs.Ordering.{arrived, arrival_awards, arrival_legal, au
 abbrev unwon : Award → Award
 unwon w = record w { won = false }
 
--- a notice of that kind and award, which names the auction of the award
-abbrev is_known : List Entry → NoticeKind → ℕ → Award → Arrival → Bool
-is_known history kind n w x = is_same_notice (notice_of kind n) (notice_of x.kind x.award) && is_of_auction history x.auction w
-
 abbrev has_known : List Entry → NoticeKind → ℕ → Award → List Arrival → Bool
-has_known history kind n w xs = list_any (is_known history kind n w) xs
+has_known history kind n w xs = list_any (is_notice_of history kind n w) xs
 
 -- how an open award ends by its notices
 abbrev end_from : Bool → Bool → Option End
@@ -73,7 +69,7 @@ has_end NoticeKind.Loss won End.Lost v here of won_is end_is = uncounted (notice
 has_end NoticeKind.Loss won End.Expired v here of won_is end_is = uncounted (noticed_award NoticeKind.Loss v) v here of ∙ end_is
 
 -- what one more notice makes of an end, beside those that come
-step_end : (kind : NoticeKind) (v : Award) (end : Option End) (here of bills loses : Bool) → v.end ≡ end → (kind ≡ NoticeKind.Loss → here ≡ true → end ≡ None → bills ≡ false) → option_or (cond (here && (of && is_counted (ruling kind v.won end))) (noticed_award kind v) v).end (end_from bills loses) ≡ option_or end (end_from ((same_kind NoticeKind.Bill kind && here && of) || bills) ((same_kind NoticeKind.Loss kind && here && of) || loses))
+step_end : (kind : NoticeKind) (v : Award) (end : Option End) (here of bills loses : Bool) → v.end ≡ end → (kind ≡ NoticeKind.Loss → here ≡ true → of ≡ true → end ≡ None → bills ≡ false) → option_or (cond (here && (of && is_counted (ruling kind v.won end))) (noticed_award kind v) v).end (end_from bills loses) ≡ option_or end (end_from ((same_kind NoticeKind.Bill kind && here && of) || bills) ((same_kind NoticeKind.Loss kind && here && of) || loses))
 step_end kind v (Some x) here of bills loses is apart =
     ap (λ (o : Option End). option_or o (end_from bills loses)) (has_end kind v.won x v here of refl is)
 step_end NoticeKind.Win v None here of bills loses is apart =
@@ -82,7 +78,7 @@ step_end NoticeKind.Bill v None true true bills loses is apart = refl
 step_end NoticeKind.Bill v None true false bills loses is apart = ap (λ (o : Option End). option_or o (end_from bills loses)) is
 step_end NoticeKind.Bill v None false of bills loses is apart = ap (λ (o : Option End). option_or o (end_from bills loses)) is
 step_end NoticeKind.Loss v None true true bills loses is apart =
-    sym (ap (λ (b : Bool). end_from b true) (apart refl refl refl))
+    sym (ap (λ (b : Bool). end_from b true) (apart refl refl refl refl))
 step_end NoticeKind.Loss v None true false bills loses is apart = ap (λ (o : Option End). option_or o (end_from bills loses)) is
 step_end NoticeKind.Loss v None false of bills loses is apart = ap (λ (o : Option End). option_or o (end_from bills loses)) is
 
@@ -107,31 +103,21 @@ known_same : (history : List Entry) (x : Arrival) (kind : NoticeKind) (n : ℕ) 
 known_same history x kind n w xs within =
     let v : Award = arrived history x (n, w) in
     let counted : Bool = eqb n x.award && (is_of_auction history x.auction w && is_counted (ruling_of x.kind w)) in
-    list_any_same (is_known (after_arrival history x) kind n v) (is_known history kind n w) xs (λ y.
+    list_any_same (is_notice_of (after_arrival history x) kind n v) (is_notice_of history kind n w) xs (λ y.
     ap (λ (b : Bool). is_same_notice (notice_of kind n) (notice_of y.kind y.award) && b)
     (auction_of_ask (after_arrival history x) y.auction v w (ask_same counted x.kind w) ∙ auction_kept history x y.auction w within))
 
--- a known notice is one of the award
-known_arrives : (history : List Entry) (kind : NoticeKind) (n : ℕ) (w : Award) (xs : List Arrival) → has_known history kind n w xs ≡ true → has_arrival kind n xs
-known_arrives history kind n w [] has = has
-known_arrives history kind n w (x ∷ xs) has =
-    elim (or_cases (is_known history kind n w x) (has_known history kind n w xs) has) [
-      | inl here ↦
-          let parts = and_parts (is_same_notice (notice_of kind n) (notice_of x.kind x.award)) (is_of_auction history x.auction w) here in
-          or_left (is_same_notice (notice_of kind n) (notice_of x.kind x.award)) _ parts.0
-      | inr there ↦ or_right (is_same_notice (notice_of kind n) (notice_of x.kind x.award)) _ (known_arrives history kind n w xs there)
-    ]
-
-later_arrives : (kind : NoticeKind) (n : ℕ) (x : Arrival) (xs : List Arrival) → has_arrival kind n xs → has_arrival kind n (x ∷ xs)
-later_arrives kind n x xs has = or_right (is_same_notice (notice_of kind n) (notice_of x.kind x.award)) _ has
+later_arrives : (history : List Entry) (kind : NoticeKind) (n : ℕ) (w : Award) (x : Arrival) (xs : List Arrival) → has_arrival history kind n w xs → has_arrival history kind n w (x ∷ xs)
+later_arrives history kind n w x xs has = or_right (is_notice_of history kind n w x) _ has
 
 -- where an open award gets its loss no bill of it comes
-no_bill : (history : List Entry) (x : Arrival) (xs : List Arrival) (n : ℕ) (w : Award) → AgreeOnEnds history (x ∷ xs) → slice_get (awards_of history) n ≡ Some w → x.kind ≡ NoticeKind.Loss → eqb n x.award ≡ true → w.end ≡ None → has_known history NoticeKind.Bill n w xs ≡ false
-no_bill history x xs n w agree at kind here none =
+no_bill : (history : List Entry) (x : Arrival) (xs : List Arrival) (n : ℕ) (w : Award) → AgreeOnEnds history (x ∷ xs) → slice_get (awards_of history) n ≡ Some w → x.kind ≡ NoticeKind.Loss → eqb n x.award ≡ true → is_of_auction history x.auction w ≡ true → w.end ≡ None → has_known history NoticeKind.Bill n w xs ≡ false
+no_bill history x xs n w agree at kind here of none =
     false_from_ne_true (has_known history NoticeKind.Bill n w xs) (λ has.
-    let bill : has_arrival NoticeKind.Bill n (x ∷ xs) = later_arrives NoticeKind.Bill n x xs (known_arrives history NoticeKind.Bill n w xs has) in
-    let P : NoticeKind → Type 0 = λ k. (same_kind NoticeKind.Loss k && eqb n x.award) ≡ true in
-    let loss : has_arrival NoticeKind.Loss n (x ∷ xs) = or_left (is_same_notice (notice_of NoticeKind.Loss n) (notice_of x.kind x.award)) _ (subst P (sym kind) here) in
+    let bill : has_arrival history NoticeKind.Bill n w (x ∷ xs) = later_arrives history NoticeKind.Bill n w x xs has in
+    let P : NoticeKind → Type 0 = λ k. (is_same_notice (notice_of NoticeKind.Loss n) (notice_of k x.award) && is_of_auction history x.auction w) ≡ true in
+    let own : P NoticeKind.Loss = rw (here, of) refl in
+    let loss : has_arrival history NoticeKind.Loss n w (x ∷ xs) = or_left (is_notice_of history NoticeKind.Loss n w x) _ (subst P (sym kind) own) in
     agree n w at (ap is_open none) bill loss)
 
 -- an award that is open behind an arrival was open before it
@@ -151,7 +137,11 @@ agree_later history x xs agree n v at still bill loss =
     let w : Award = there.0 in
     let counted : Bool = eqb n x.award && (is_of_auction history x.auction w && is_counted (ruling_of x.kind w)) in
     let was : is_open (cond counted (noticed_award x.kind w) w).end ≡ true = ap (λ (u : Award). is_open u.end) there.2 ∙ still in
-    agree n w there.1 (was_open_by counted x.kind w was) (later_arrives NoticeKind.Bill n x xs bill) (later_arrives NoticeKind.Loss n x xs loss)
+    let same : (kind : NoticeKind) → has_known (after_arrival history x) kind n v xs ≡ has_known history kind n w xs = λ kind.
+    ap (λ (u : Award). has_known (after_arrival history x) kind n u xs) (sym there.2) ∙ known_same history x kind n w xs (award_placed history n w there.1) in
+    agree n w there.1 (was_open_by counted x.kind w was)
+    (later_arrives history NoticeKind.Bill n w x xs (sym (same NoticeKind.Bill) ∙ bill))
+    (later_arrives history NoticeKind.Loss n w x xs (sym (same NoticeKind.Loss) ∙ loss))
 
 -- the step at one award
 ended_step : (history : List Entry) (x : Arrival) (xs : List Arrival) (n : ℕ) (w : Award) → AgreeOnEnds history (x ∷ xs) → slice_get (awards_of history) n ≡ Some w → ended (after_arrival history x) xs (n, arrived history x (n, w)) ≡ ended history (x ∷ xs) (n, w)
@@ -168,7 +158,7 @@ ended_step history x xs n w agree at =
     ap (λ (b : Bool). option_or v.end (end_from b (has_known next NoticeKind.Loss n v xs))) (known_same history x NoticeKind.Bill n w xs within)
     ∙ ap (λ (b : Bool). option_or v.end (end_from bills b)) (known_same history x NoticeKind.Loss n w xs within) in
     let two : option_or v.end (end_from bills loses) ≡ end_after history (x ∷ xs) n w w.end =
-    step_end x.kind w w.end here of bills loses refl (λ kind same none. no_bill history x xs n w agree at kind same none) in
+    step_end x.kind w w.end here of bills loses refl (λ kind same names none. no_bill history x xs n w agree at kind same names none) in
     rest_same counted x.kind w (end_after next xs n v v.end)
     ∙ ap (λ (end : Option End). record w { won = false; end = end }) (one ∙ two)
 
@@ -194,14 +184,14 @@ ends_after terms history (x ∷ xs) legal agree =
 agree_ordered : (history : List Entry) (xs ys : List Arrival) → IsPermutation xs ys → AgreeOnEnds history xs → AgreeOnEnds history ys
 agree_ordered history xs ys moved agree n w at still bill loss =
     agree n w at still
-    (list_any-IsPermutation (λ (x : Arrival). is_same_notice (notice_of NoticeKind.Bill n) (notice_of x.kind x.award)) xs ys moved ∙ bill)
-    (list_any-IsPermutation (λ (x : Arrival). is_same_notice (notice_of NoticeKind.Loss n) (notice_of x.kind x.award)) xs ys moved ∙ loss)
+    (list_any-IsPermutation (is_notice_of history NoticeKind.Bill n w) xs ys moved ∙ bill)
+    (list_any-IsPermutation (is_notice_of history NoticeKind.Loss n w) xs ys moved ∙ loss)
 
 ended_ordered : (history : List Entry) (xs ys : List Arrival) (n : ℕ) (w : Award) → IsPermutation xs ys → ended history xs (n, w) ≡ ended history ys (n, w)
 ended_ordered history xs ys n w moved =
     let build : Bool → Bool → Award = λ bills loses. record w { won = false; end = option_or w.end (end_from bills loses) } in
-    ap (λ (b : Bool). build b (has_known history NoticeKind.Loss n w xs)) (list_any-IsPermutation (is_known history NoticeKind.Bill n w) xs ys moved)
-    ∙ ap (build (has_known history NoticeKind.Bill n w ys)) (list_any-IsPermutation (is_known history NoticeKind.Loss n w) xs ys moved)
+    ap (λ (b : Bool). build b (has_known history NoticeKind.Loss n w xs)) (list_any-IsPermutation (is_notice_of history NoticeKind.Bill n w) xs ys moved)
+    ∙ ap (build (has_known history NoticeKind.Bill n w ys)) (list_any-IsPermutation (is_notice_of history NoticeKind.Loss n w) xs ys moved)
 
 ends_of : (ws : List Award) → map (λ w. w.end) ws ≡ map (λ w. w.end) (map unwon ws)
 ends_of [] = refl

@@ -1,5 +1,5 @@
 -- The laws of the definitions, as statements. This project's own.
-use Rattle.std.specs.Prelude.{◌≡◌, ◌≢◌, ◌↔◌, ℕ, ◌≤◌, List, [], ◌∷◌, ◌++◌, map, length, true, if◌then◌else◌, IsPermutation, IsTrue, Option, Some, slice_get}
+use Rattle.std.specs.Prelude.{◌≡◌, ◌≢◌, ◌↔◌, ℕ, ◌≤◌, List, [], ◌∷◌, ◌++◌, map, length, Bool, true, ◌&&◌, if◌then◌else◌, IsPermutation, IsTrue, Option, Some, slice_get}
 use Rattle.std.specs.List.{list_any}
 use Rattle.notice_book.specs.declared.kind.NoticeKind.{NoticeKind}
 use Rattle.adx_units.specs.declared.offer.Offer.{Offer}
@@ -14,7 +14,7 @@ use Rattle.day_rules.specs.Books.{awards_of, numbers_where, reserved, billed, co
 use Rattle.day_rules.specs.Asks.{undecided}
 use Rattle.day_rules.specs.Terms.{Terms, budgets_after}
 use Rattle.day_rules.specs.Legal.{IsLegal}
-use Rattle.day_rules.specs.Replies.{Reply, notice_reply, reply, with_entry}
+use Rattle.day_rules.specs.Replies.{Reply, is_of_auction, notice_reply, reply, with_entry}
 use Rattle.day_rules.specs.Runs.{Turn, AreTurns, run, once, is_effective, is_repeat}
 use Rattle.day_rules.specs.PlainBooks.{PlainBooks, no_books, plain_books, plain_reserved, plain_billed}
 
@@ -56,8 +56,9 @@ abbrev pub books_once : Terms → List Entry → List Turn → PlainBooks
 books_once terms history turns = plain_books (no_books terms.budgets) (once terms history turns)
 
 -- the books after a run are the plain books of its calls taken once: the same numbers are open and were billed,
--- and each campaign has the same money
+-- and each campaign has the same budget and the same money
 pub record AreOfCallsTakenOnce (terms : Terms) (history : List Entry) (turns : List Turn) : Type 0 where
+  pub budgets : (books_once terms history turns).budgets ≡ budgets_after terms (run terms history turns)
   pub open_numbers : (books_once terms history turns).open_numbers
       ≡ numbers_where is_open (awards_of (run terms history turns))
   pub billed_numbers : IsPermutation (books_once terms history turns).billed_numbers
@@ -114,15 +115,20 @@ abbrev pub NoticesCommute : Type 0
 NoticesCommute =
     (terms : Terms) (history : List Entry) (x y : Arrival) → IsLegal terms history → x.award ≢ y.award → Commute history x y
 
--- a notice of that kind and award is among the arrivals
-abbrev pub has_arrival : NoticeKind → ℕ → List Arrival → Type 0
-has_arrival kind n xs = IsTrue (list_any (λ x. is_same_notice (notice_of kind n) (notice_of x.kind x.award)) xs)
+-- a notice of that kind and award, which names the auction of the award
+abbrev pub is_notice_of : List Entry → NoticeKind → ℕ → Award → Arrival → Bool
+is_notice_of history kind n w x =
+    is_same_notice (notice_of kind n) (notice_of x.kind x.award) && is_of_auction history x.auction w
 
--- no open award gets both a bill and a loss
+-- such a notice is among the arrivals
+abbrev pub has_arrival : List Entry → NoticeKind → ℕ → Award → List Arrival → Type 0
+has_arrival history kind n w xs = IsTrue (list_any (is_notice_of history kind n w) xs)
+
+-- no open award gets both a bill and a loss that name its auction
 abbrev pub AgreeOnEnds : List Entry → List Arrival → Type 0
 AgreeOnEnds history xs =
     (n : ℕ) (w : Award) → slice_get (awards_of history) n ≡ Some w → is_open w.end ≡ true
-    → has_arrival NoticeKind.Bill n xs → has_arrival NoticeKind.Loss n xs → ⊥
+    → has_arrival history NoticeKind.Bill n w xs → has_arrival history NoticeKind.Loss n w xs → ⊥
 
 -- every order of the notices gives the same ends, and so the same money
 pub record AreSameBooks (one other : List Entry) : Type 0 where

@@ -36,7 +36,7 @@ pub fn notices_commute()
 {}
 
 /// Notices of which none bills and another loses one open award give the same ends and the same money
-/// in every order.
+/// in every order. A notice that names another auction than the award's counts for nothing.
 pub fn order_is_free()
     ensures { OrderIsFree }
 {}

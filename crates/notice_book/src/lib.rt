@@ -18,6 +18,3 @@ pub use awards::Awards;
 pub use kind::NoticeKind;
 pub use rules::rule;
 pub use ruling::Ruling;
-
-#[cfg(test)]
-mod tests;

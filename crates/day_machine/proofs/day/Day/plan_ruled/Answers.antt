@@ -1,4 +1,4 @@
-use Rattle.std.proofs.Common.{◌≡◌, ◌≤◌, List, ap, sym, ◌∙◌, subst, arith, Some, slice_get}
+use Rattle.std.proofs.Common.{◌≡◌, List, ap, sym, ◌∙◌, subst, Some, slice_get}
 use Rattle.notice_book.specs.declared.award.Award.{Award}
 use Rattle.notice_book.specs.declared.ruling.Ruling.{Ruling}
 use Rattle.notice_book.specs.AwardList.{Counts}
@@ -7,13 +7,12 @@ use Rattle.notice_book.proofs.Counted.{counts_at}
 use Rattle.day_rules.specs.declared.answer.Answer.{Answer}
 use Rattle.day_rules.specs.declared.entry.Entry.{Entry}
 use Rattle.day_rules.specs.DayState.{DayState, HasRoomFor}
-use Rattle.day_rules.specs.Books.{awards_of, entries_to_come}
+use Rattle.day_rules.specs.Books.{awards_of}
 use Rattle.day_rules.specs.Legal.{MayFollow}
 use Rattle.day_rules.specs.Replies.{notice_place, ruled_reply}
 use Rattle.day_rules.specs.Entries.{notice_of}
 use Rattle.day_rules.proofs.Following.{notice_may_follow}
 use Rattle.day_rules.proofs.Noticing.{repeat_stands}
-use Rattle.day_rules.proofs.Room.{notice_to_come}
 use Rattle.day_machine.proofs.DayKept.{notice_room}
 use Rattle.day_machine.proofs.day.Day.plan_ruled.Goals as goal
 
@@ -27,14 +26,7 @@ returns-in-Counted-clause-legal c =
 
 pub returns-in-Counted-clause-room : goal.returns-in-Counted-clause-room
 returns-in-Counted-clause-room c =
-    let h : List Entry = c.args.self.now.history in
-    let hist = ap (λ (s : DayState). awards_of s.history) c.self.view_is in
-    let awards : c.sold.result.now.awards ≡ awards_of h = c.sold.ensures ∙ (c.self.invariant.awards_are ∙ hist) in
-    let counted : Counts c.args.kind c.args.n (awards_of h) =
-    counts_at c.args.kind c.args.n (awards_of h) c.requires (λ w at. c.in-Counted.ensures w (ap (λ (ws : List Award). slice_get ws c.args.n) awards ∙ at)) in
-    let some : 1 ≤ c.args.self.now.room.entries =
-    omega (arith, notice_to_come c.args.kind c.args.n (awards_of h) counted, c.self.invariant.to_come, ap entries_to_come hist, ap (λ (s : DayState). s.room.entries) c.self.view_is) in
-    subst (λ (e : Entry). HasRoomFor c.args.self.now e) (sym c.entry_of.ensures) (notice_room c.args.kind c.args.n c.args.self.now some)
+    subst (λ (e : Entry). HasRoomFor c.args.self.now e) (sym c.entry_of.ensures) (notice_room c.args.kind c.args.n c.args.self.now)
 
 pub returns-in-Repeat-clause-answer : goal.returns-in-Repeat-clause-answer
 returns-in-Repeat-clause-answer c = λ w at.

@@ -1,10 +1,9 @@
-use Rattle.std.proofs.Common.{◌≡◌, ◌≤◌, List, ap, ◌∙◌, subst, arith}
+use Rattle.std.proofs.Common.{◌≡◌, List, ap, ◌∙◌, subst, arith}
 use Rattle.notice_book.specs.AwardList.{due_count}
 use Rattle.day_rules.specs.declared.entry.Entry.{Entry}
 use Rattle.day_rules.specs.DayState.{DayState}
 use Rattle.day_rules.specs.Books.{awards_of}
 use Rattle.day_rules.specs.Legal.{ExpireMayFollow}
-use Rattle.day_rules.proofs.Room.{moment_to_come}
 use Rattle.day_rules.proofs.Within.{latest_small}
 use Rattle.day_machine.proofs.day.Day.plan_tick.Goals as goal
 
@@ -18,11 +17,3 @@ returns-clause-legal c =
       latest = omega (arith, c.self.invariant.totals_are.moment, c.max-moment.ensures);
       ends = omega (arith, c.if-ended-eq0.false);
     })
-
-pub returns-clause-room : goal.returns-clause-room
-returns-clause-room c =
-    let h : List Entry = c.self.inside.history.items in
-    let due : c.due-ended.result ≡ due_count c.max-moment.result (awards_of h) =
-    c.due-ended.ensures ∙ ap (due_count c.max-moment.result) (c.sold.ensures ∙ c.self.invariant.awards_are) in
-    let some : 1 ≤ due_count c.max-moment.result (awards_of h) = omega (arith, c.if-ended-eq0.false) in
-    omega (arith, moment_to_come c.max-moment.result (awards_of h) some, c.self.invariant.to_come, ap (λ (s : DayState). s.room.entries) c.self.view_is)
