@@ -1,6 +1,4 @@
-pub mod Readers
 pub mod Entries
-pub mod Loops
-pub mod Texts
-pub mod Writes
-pub mod Fitting
+pub mod Answers
+pub mod Steps
+pub mod Lengths

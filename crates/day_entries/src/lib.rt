@@ -1,12 +1,13 @@
 //! Entries of a day's history as bytes: written into a record's payload, and read back.
 //!
-//! A contract sees the spelling of an entry as a list of bytes. What is read is spelled so, each byte of
-//! it; what is spelled so is read, whatever follows. An ask can be copied, since a history keeps its own.
-//! Stands on `adx_units`, `adx_io` and `day_rules`.
+//! A contract sees the spelling of an entry as a list of bytes, in the format of its journal. What is read is
+//! spelled so, each byte of it; what is spelled so is read, whatever follows. An ask can be copied, since a
+//! history keeps its own. Stands on `adx_units`, `adx_io`, `day_rules` and `formats`.
 #![tactic(auto)]
 
 mod copying;
 mod fields;
+mod numbers;
 mod reading;
 mod unread;
 mod writing;
@@ -14,6 +15,3 @@ mod writing;
 pub use copying::copy_of;
 pub use reading::decode;
 pub use writing::encode;
-
-#[cfg(test)]
-mod tests;

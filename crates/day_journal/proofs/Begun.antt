@@ -1,8 +1,9 @@
 -- What opening leaves of a file.
-use Rattle.std.proofs.Common.{◌≡◌, ◌⊎◌, inl, inr, ℕ, ◌≤◌, List, [], length, take, Option, Some, None, is_some, refl, sym, ap, subst, arith}
-use Rattle.adx_io.specs.Disks.{Each, LeavesOnly, Within}
+use Rattle.std.proofs.Common.{◌≡◌, ◌⊎◌, inl, inr, ℕ, ◌≤◌, List, [], length, take, Option, Some, None, is_some, ⊎_elim, refl, sym, ◌∙◌, ap, subst, arith}
+use Rattle.adx_io.specs.Disks.{AsRead, Each, LeavesOnly}
 use Rattle.day_journal.specs.Places.{IsCleared, IsMarked, IsUnfinished, StandsFor, new_file}
-use Rattle.day_journal.specs.Starts.{BeginsJournal, HasSome, IsStart, LeavesNoMore, Looked, StandsAsOneOf}
+use Rattle.day_journal.specs.Starts.{BeginsJournal, HasSome, IsStart, LeavesNoMore, Looked, StandsAsRead, StandsNew}
+use Rattle.day_journal.specs.declared.start.TheConstants.{NEW_FORMAT}
 use Rattle.day_journal.specs.declared.start.Start.{Start}
 use Rattle.day_journal.proofs.Moments.{joined, weaker}
 use Rattle.day_journal.proofs.NewFile.{stands_empty}
@@ -17,31 +18,42 @@ IsUncleared file = (length file ≤ 1) ⊎ IsMarked file
 
 pub uncleared_file : (file : List ℕ) → IsStart (take 11 file) Start.Uncleared → IsUncleared file
 uncleared_file file (inl one) = small_start IsUncleared file (omega (arith, one)) (inl one)
-uncleared_file file (inr marked) = small_start IsUncleared file (omega (arith, ap length marked.1)) (inr marked)
+uncleared_file file (inr marked) = small_start IsUncleared file (omega (arith, ap length marked.marked.split)) (inr marked)
 
 pub unfinished : (file : List ℕ) → IsUncleared file → IsUnfinished file
 unfinished file (inl one) = inl one
 unfinished file (inr marked) = inr (inr marked)
 
--- made anew of an unfinished file
-pub one_of : (old mid : List ℕ → Type 0) (c : List ℕ) → Within old mid → Each mid IsUnfinished → StandsFor c [] → HasSome mid → StandsAsOneOf old c
-one_of old mid c crash un empty some =
-    (some.image, crash some.image some.there, λ ps s. subst (StandsFor c) (stands_once some.image [] ps (stands_empty some.image (un some.image some.there)) s) empty)
+-- made anew of what was read, which is unfinished
+pub made_as : (reads : Option (List ℕ)) (images : List ℕ → Type 0) (c : List ℕ) → AsRead reads images → Each images IsUnfinished → StandsNew c → HasSome images → StandsAsRead images reads c
+made_as reads images c durable un empty some =
+    let d : List ℕ = some.image in
+    inr (
+      d,
+      durable d some.there,
+      λ format ps s. subst (StandsFor format c) (stands_once format format d [] ps (stands_empty d (un d some.there) format) s) (empty format),
+    )
 
-pub as_before : (old : List ℕ → Type 0) (c : List ℕ) → old c → StandsAsOneOf old c
-as_before old c left = (c, left, λ ps s. s)
+pub as_before : (reads : Option (List ℕ)) (old : List ℕ → Type 0) (c : List ℕ) → old c → StandsAsRead old reads c
+as_before reads old c left = inl left
 
-module _ {D : Type 0} (may_leave : D → List ℕ → Type 0) (moment : D → ℕ) (left_since : D → ℕ → List ℕ → Type 0) where
-  pub looked_at : (old mid : D) → LeavesNoMore may_leave moment left_since old mid → LeavesOnly moment left_since old mid (StandsAsOneOf (may_leave old))
-  looked_at old mid less = weaker moment left_since old mid (may_leave old) (StandsAsOneOf (may_leave old)) less.moments (as_before (may_leave old))
+module _ {D : Type 0} (reads : D → Option (List ℕ)) (may_leave : D → List ℕ → Type 0) (moment : D → ℕ) (left_since : D → ℕ → List ℕ → Type 0) where
+  pub looked_at : (old mid : D) → LeavesNoMore may_leave moment left_since old mid → LeavesOnly moment left_since old mid (StandsAsRead (may_leave old) (reads old))
+  looked_at old mid less = weaker moment left_since old mid (may_leave old) (StandsAsRead (may_leave old) (reads old)) less.moments (as_before (reads old) (may_leave old))
 
-  pub made_on : (old new : D) → Each (may_leave old) IsUnfinished → LeavesOnly moment left_since old new (λ c. StandsFor c [] × HasSome (may_leave old)) → LeavesOnly moment left_since old new (StandsAsOneOf (may_leave old))
-  made_on old new un made = weaker moment left_since old new (λ (c : List ℕ). StandsFor c [] × HasSome (may_leave old)) (StandsAsOneOf (may_leave old)) made (λ c h. one_of (may_leave old) (may_leave old) c (λ d left. left) un h.0 h.1)
+  pub made_on : (old new : D) → AsRead (reads old) (may_leave old) → Each (may_leave old) IsUnfinished → LeavesOnly moment left_since old new (λ c. StandsNew c × HasSome (may_leave old))
+      → LeavesOnly moment left_since old new (StandsAsRead (may_leave old) (reads old))
+  made_on old new durable un made =
+      weaker moment left_since old new (λ (c : List ℕ). StandsNew c × HasSome (may_leave old)) (StandsAsRead (may_leave old) (reads old)) made
+      (λ c h. made_as (reads old) (may_leave old) c durable un h.0 h.1)
 
   -- one run behind another
-  pub begun_on : (old mid new : D) → LeavesNoMore may_leave moment left_since old mid → LeavesOnly moment left_since mid new (StandsAsOneOf (may_leave mid)) → LeavesOnly moment left_since old new (StandsAsOneOf (may_leave old))
-  begun_on old mid new less run = joined moment left_since old mid new (may_leave old) (StandsAsOneOf (may_leave mid)) (StandsAsOneOf (may_leave old)) less.moments run
-      (as_before (may_leave old)) (λ c h. (h.0, less.crash h.0 h.1, h.2))
+  pub begun_on : (old mid new : D) → reads mid ≡ reads old → LeavesNoMore may_leave moment left_since old mid → LeavesOnly moment left_since mid new (StandsAsRead (may_leave mid) (reads mid))
+      → LeavesOnly moment left_since old new (StandsAsRead (may_leave old) (reads old))
+  begun_on old mid new same less run =
+      joined moment left_since old mid new (may_leave old) (StandsAsRead (may_leave mid) (reads mid)) (StandsAsRead (may_leave old) (reads old)) less.moments run
+      (as_before (reads old) (may_leave old))
+      (λ c. ⊎_elim (λ left. inl (less.crash c left)) (λ made. inr (made.0, sym same ∙ made.1, made.2)))
 
 pub looked_cleared : (size : ℕ) (start : Start) (reads : Option (List ℕ)) (images : List ℕ → Type 0) → start ≡ Start.Cleared → Looked size start reads images → Each images IsCleared
 looked_cleared size start reads images is l f left = let had = l.found f (l.durable f left) in cleared_file f (subst (IsStart (take 11 f)) is had.1)
@@ -49,8 +61,8 @@ looked_cleared size start reads images is l f left = let had = l.found f (l.dura
 pub looked_uncleared : (size : ℕ) (start : Start) (reads : Option (List ℕ)) (images : List ℕ → Type 0) → start ≡ Start.Uncleared → Looked size start reads images → Each images IsUncleared
 looked_uncleared size start reads images is l f left = let had = l.found f (l.durable f left) in uncleared_file f (subst (IsStart (take 11 f)) is had.1)
 
-pub begins_new : (file : List ℕ) → file ≡ new_file → BeginsJournal 10 file
-begins_new file is = record { length_is = sym (ap length is); front = ap (λ (l : List ℕ). take 9 (take 11 l)) is }
+pub begins_new : (file : List ℕ) → file ≡ new_file → BeginsJournal NEW_FORMAT 10 file
+begins_new file is = record { known = inr refl; length_is = sym (ap length is); front = ap (λ (l : List ℕ). take 9 (take 11 l)) is }
 
 -- a disk that told what it reads, and whose images are a new journal, reads as one
 pub reads_new : (was now : Option (List ℕ)) (images : List ℕ → Type 0) (file : List ℕ) → is_some now ≡ is_some was → was ≡ Some file

@@ -12,7 +12,7 @@ use Rattle.adx_io.specs.Streams.{last_count}
 use Rattle.day_journal.specs.Openings.{WindowState, IsWindow, HasPlace, ReadsMore, ReadsOn, StandsBehind, IsPlace, IsSized, IsNoLength}
 use Rattle.day_journal.specs.declared.place.Place.{Place}
 use Rattle.day_journal.specs.declared.window.TheConstants.{CHUNK}
-use Rattle.day_journal.specs.Places.{head, new_file, IsPayload, IsClosed, HasBadLength, HasNoHead, IsUnfinished, open_place, opened}
+use Rattle.day_journal.specs.Places.{head, IsFormat, IsPayload, IsClosed, HasBadLength, HasNoHead, IsUnfinished, open_place, opened}
 use Rattle.day_journal.proofs.Keeping.{opened_push}
 use Rattle.day_journal.proofs.Once.{short}
 
@@ -86,14 +86,14 @@ open_length : (place p rest : List ℕ) → place ≡ open_place p ++ rest → l
 open_length place p rest is = omega (arith, ap length is, length-append (open_place p) rest, length-append (to_le_bytes w32 (length p)) p)
 
 -- a payload more
-pub record IsOneMore (file : List ℕ) (at n : ℕ) (payloads : List (List ℕ)) : Type 0 where
+pub record IsOneMore (format : ℕ) (file : List ℕ) (at n : ℕ) (payloads : List (List ℕ)) : Type 0 where
   pub each : All IsPayload payloads
-  pub place : at + (n + 5) ≡ length (opened payloads)
-  pub split : file ≡ opened payloads ++ drop (at + (n + 5)) file
+  pub place : at + (n + 5) ≡ length (opened format payloads)
+  pub split : file ≡ opened format payloads ++ drop (at + (n + 5)) file
 
-pub one_more : (file : List ℕ) (at n : ℕ) (ps : List (List ℕ)) (p : List ℕ) → All IsPayload ps → at ≡ length (opened ps) → file ≡ opened ps ++ drop at file
-    → drop at file ≡ 1 ∷ (to_le_bytes w32 n ++ drop 5 (drop at file)) → p ≡ take n (drop 5 (drop at file)) → n + 5 ≤ length (drop at file) → 0 < n → n ≤ longest_payload → IsOneMore file at n (ps ++ p ∷ [])
-one_more file at n ps p each there split opens is long some fits =
+pub one_more : (format : ℕ) (file : List ℕ) (at n : ℕ) (ps : List (List ℕ)) (p : List ℕ) → All IsPayload ps → at ≡ length (opened format ps) → file ≡ opened format ps ++ drop at file
+    → drop at file ≡ 1 ∷ (to_le_bytes w32 n ++ drop 5 (drop at file)) → p ≡ take n (drop 5 (drop at file)) → n + 5 ≤ length (drop at file) → 0 < n → n ≤ longest_payload → IsOneMore format file at n (ps ++ p ∷ [])
+one_more format file at n ps p each there split opens is long some fits =
     let place : List ℕ = drop at file in
     let len : length p ≡ n = omega (arith, ap length is, length-take n (drop 5 place), length-drop 5 place, long) in
     let behind : drop 5 place ≡ p ++ drop (at + (n + 5)) file =
@@ -106,9 +106,9 @@ one_more file at n ps p each there split opens is long some fits =
     let is_payload : IsPayload p = record { some = omega (arith, len, some); fits = omega (arith, len, fits) } in
     record {
       each = All-push IsPayload ps p each is_payload;
-      place = omega (arith, there, len, ap length (opened_push ps p), length-append (opened ps) (1 ∷ body p), length-append (to_le_bytes w32 (length p)) p);
-      split = split ∙ ap (λ (l : List ℕ). opened ps ++ l) opened_place ∙ sym (append_assoc (opened ps) (1 ∷ body p) (drop (at + (n + 5)) file))
-          ∙ ap (λ (l : List ℕ). l ++ drop (at + (n + 5)) file) (sym (opened_push ps p));
+      place = omega (arith, there, len, ap length (opened_push format ps p), length-append (opened format ps) (1 ∷ body p), length-append (to_le_bytes w32 (length p)) p);
+      split = split ∙ ap (λ (l : List ℕ). opened format ps ++ l) opened_place ∙ sym (append_assoc (opened format ps) (1 ∷ body p) (drop (at + (n + 5)) file))
+          ∙ ap (λ (l : List ℕ). l ++ drop (at + (n + 5)) file) (sym (opened_push format ps p));
     }
 
 -- a window that passed some of its bytes
@@ -127,20 +127,21 @@ place_long : (file : List ℕ) (at n : ℕ) → at + (n + 5) ≤ length file →
 place_long file at n le = omega (arith, le, length-drop at file)
 
 -- behind a payload whose last byte stands in the window
-pub near_more : (file : List ℕ) (at size n : ℕ) (bytes : List ℕ) (closed : Bool) (ps : List (List ℕ)) (p : List ℕ) → StandsBehind file (record { window = record { at = at; bytes = bytes }; size = size; closed = closed }) ps
+pub near_more : {format : ℕ} (file : List ℕ) (at size n : ℕ) (bytes : List ℕ) (closed : Bool) (ps : List (List ℕ)) (p : List ℕ) → StandsBehind file (record { format = format; window = record { at = at; bytes = bytes }; size = size; closed = closed }) ps
     → IsPlace bytes (Place.Open n) → n + 5 ≤ length bytes → p ≡ take n (drop 5 bytes) → closed ≡ false
-    → StandsBehind file (record { window = record { at = min (at + (n + 5)) last_count; bytes = drop (n + 5) bytes }; size = size; closed = closed }) (ps ++ p ∷ [])
-near_more file at size n bytes closed ps p b opens le is off =
+    → StandsBehind file (record { format = format; window = record { at = min (at + (n + 5)) last_count; bytes = drop (n + 5) bytes }; size = size; closed = closed }) (ps ++ p ∷ [])
+near_more {format} file at size n bytes closed ps p b opens le is off =
     let place : List ℕ = drop at file in
     let end = window_end file at bytes b.window in
     let opened_there = first_five bytes place n b.window.shown opens.1 opens.0 in
     let same : take n (drop 5 bytes) ≡ take n (drop 5 place) =
     ap (λ (l : List ℕ). take n (drop 5 l)) (b.window.shown ∙ ap (λ (k : ℕ). take k place) (omega (arith, le)))
     ∙ ap (take n) (drop-take 5 (length bytes - 5) place) ∙ take-take n (length bytes - 5) (drop 5 place) (omega (arith, le)) in
-    let more = one_more file at n ps p b.each b.place b.split opened_there (is ∙ same) (place_long file at n (omega (arith, le, end))) opens.2 opens.3 in
+    let more = one_more format file at n ps p b.each b.place b.split opened_there (is ∙ same) (place_long file at n (omega (arith, le, end))) opens.2 opens.3 in
     let here : min (at + (n + 5)) last_count ≡ at + (n + 5) = omega (arith, end, le, b.window.addressed) in
     let window = window_passed file at (n + 5) bytes le b.window in
-    subst (λ (k : ℕ). StandsBehind file (record { window = record { at = k; bytes = drop (n + 5) bytes }; size = size; closed = closed }) (ps ++ p ∷ [])) (sym here) (record {
+    subst (λ (k : ℕ). StandsBehind file (record { format = format; window = record { at = k; bytes = drop (n + 5) bytes }; size = size; closed = closed }) (ps ++ p ∷ [])) (sym here) (record {
+      known = b.known;
       each = more.each;
       place = more.place;
       split = more.split;
@@ -150,15 +151,16 @@ near_more file at size n bytes closed ps p b opens le is off =
     })
 
 -- behind a payload whose last byte doesn't
-pub far_more : (file : List ℕ) (at size n : ℕ) (bytes : List ℕ) (closed : Bool) (ps : List (List ℕ)) (p : List ℕ) → StandsBehind file (record { window = record { at = at; bytes = bytes }; size = size; closed = closed }) ps
+pub far_more : {format : ℕ} (file : List ℕ) (at size n : ℕ) (bytes : List ℕ) (closed : Bool) (ps : List (List ℕ)) (p : List ℕ) → StandsBehind file (record { format = format; window = record { at = at; bytes = bytes }; size = size; closed = closed }) ps
     → IsPlace bytes (Place.Open n) → at + (n + 5) ≤ length file → p ≡ take n (drop 5 (drop at file)) → closed ≡ false
-    → StandsBehind file (record { window = record { at = min (at + (n + 5)) last_count; bytes = [] }; size = size; closed = closed }) (ps ++ p ∷ [])
-far_more file at size n bytes closed ps p b opens le is off =
+    → StandsBehind file (record { format = format; window = record { at = min (at + (n + 5)) last_count; bytes = [] }; size = size; closed = closed }) (ps ++ p ∷ [])
+far_more {format} file at size n bytes closed ps p b opens le is off =
     let place : List ℕ = drop at file in
     let opened_there = first_five bytes place n b.window.shown opens.1 opens.0 in
-    let more = one_more file at n ps p b.each b.place b.split opened_there is (place_long file at n le) opens.2 opens.3 in
+    let more = one_more format file at n ps p b.each b.place b.split opened_there is (place_long file at n le) opens.2 opens.3 in
     let here : min (at + (n + 5)) last_count ≡ at + (n + 5) = omega (arith, le, b.window.addressed) in
-    subst (λ (k : ℕ). StandsBehind file (record { window = record { at = k; bytes = [] }; size = size; closed = closed }) (ps ++ p ∷ [])) (sym here) (record {
+    subst (λ (k : ℕ). StandsBehind file (record { format = format; window = record { at = k; bytes = [] }; size = size; closed = closed }) (ps ++ p ∷ [])) (sym here) (record {
+      known = b.known;
       each = more.each;
       place = more.place;
       split = more.split;
@@ -168,9 +170,11 @@ far_more file at size n bytes closed ps p b opens le is off =
     })
 
 -- no payload stands where the length is none of a payload, or passes the end
-bad_length : (file : List ℕ) (at n : ℕ) (x : List ℕ) (ps : List (List ℕ)) → All IsPayload ps → at ≡ length (opened ps) → file ≡ opened ps ++ drop at file
+bad_length : (format : ℕ) (file : List ℕ) (at n : ℕ) (x : List ℕ) (ps : List (List ℕ)) → IsFormat format → All IsPayload ps → at ≡ length (opened format ps) → file ≡ opened format ps ++ drop at file
     → drop at file ≡ 1 ∷ (to_le_bytes w32 n ++ x) → n < 2 ^ 32 → (IsNoLength n ⊎ (length (drop at file) < n + 5)) → HasBadLength file at
-bad_length file at n x ps each there split opens small why = record {
+bad_length format file at n x ps known each there split opens small why = record {
+  format = format;
+  known = known;
   payloads = ps;
   each = each;
   place = drop at file;
@@ -187,16 +191,18 @@ bad_length file at n x ps each there split opens small why = record {
     none p rest is_payload is (inl (inr long)) = let len = same_length (drop at file) p rest x n opens small is_payload is in omega (arith, len, long, is_payload.fits)
     none p rest is_payload is (inr past) = let len = same_length (drop at file) p rest x n opens small is_payload is in omega (arith, len, past, open_length (drop at file) p rest is)
 
-pub too_long : (file : List ℕ) (at size n : ℕ) (bytes : List ℕ) (closed : Bool) (ps : List (List ℕ)) → StandsBehind file (record { window = record { at = at; bytes = bytes }; size = size; closed = closed }) ps
+pub too_long : {format : ℕ} (file : List ℕ) (at size n : ℕ) (bytes : List ℕ) (closed : Bool) (ps : List (List ℕ)) → StandsBehind file (record { format = format; window = record { at = at; bytes = bytes }; size = size; closed = closed }) ps
     → IsPlace bytes (Place.Open n) → length file < at + (n + 5) → HasBadLength file at
-too_long file at size n bytes closed ps b opens past =
-    bad_length file at n (drop 5 (drop at file)) ps b.each b.place b.split (first_five bytes (drop at file) n b.window.shown opens.1 opens.0) (omega (arith, opens.3)) (inr (omega (arith, past, length-drop at file, b.window.within)))
+too_long {format} file at size n bytes closed ps b opens past =
+    bad_length format file at n (drop 5 (drop at file)) ps b.known b.each b.place b.split (first_five bytes (drop at file) n b.window.shown opens.1 opens.0) (omega (arith, opens.3)) (inr (omega (arith, past, length-drop at file, b.window.within)))
 
 -- a bad place
-pub bad_place : (file : List ℕ) (at size : ℕ) (bytes : List ℕ) (closed : Bool) (ps : List (List ℕ)) → StandsBehind file (record { window = record { at = at; bytes = bytes }; size = size; closed = closed }) ps
+pub bad_place : {format : ℕ} (file : List ℕ) (at size : ℕ) (bytes : List ℕ) (closed : Bool) (ps : List (List ℕ)) → StandsBehind file (record { format = format; window = record { at = at; bytes = bytes }; size = size; closed = closed }) ps
     → (5 ≤ length bytes) ⊎ (bytes ≡ drop at file) → IsPlace bytes Place.Bad → HasBadLength file at
-bad_place file at size bytes closed ps b (inl five) (inl few) = absurd (omega (arith, five, few.0))
-bad_place file at size bytes closed ps b (inr all) (inl few) = record {
+bad_place {format} file at size bytes closed ps b (inl five) (inl few) = absurd (omega (arith, five, few.0))
+bad_place {format} file at size bytes closed ps b (inr all) (inl few) = record {
+  format = format;
+  known = b.known;
   payloads = ps;
   each = b.each;
   place = drop at file;
@@ -207,37 +213,38 @@ bad_place file at size bytes closed ps b (inr all) (inl few) = record {
   };
   there = b.place;
 }
-bad_place file at size bytes closed ps b enough (inr wrong) =
+bad_place {format} file at size bytes closed ps b enough (inr wrong) =
     let five : 5 ≤ length bytes = omega (arith, ap length wrong.split, length-append (to_le_bytes w32 wrong.length_there) wrong.rest) in
     let opens : bytes ≡ 1 ∷ (to_le_bytes w32 wrong.length_there ++ drop 5 bytes) = wrong.split ∙ ap (λ (l : List ℕ). 1 ∷ (to_le_bytes w32 wrong.length_there ++ l)) (sym (ap (drop 5) wrong.split)) in
-    bad_length file at wrong.length_there (drop 5 (drop at file)) ps b.each b.place b.split (first_five bytes (drop at file) wrong.length_there b.window.shown five opens) wrong.fits (inl wrong.none)
+    bad_length format file at wrong.length_there (drop 5 (drop at file)) ps b.known b.each b.place b.split (first_five bytes (drop at file) wrong.length_there b.window.shown five opens) wrong.fits (inl wrong.none)
 
 -- a closed gate
-pub closed_place : (file : List ℕ) (at size : ℕ) (bytes : List ℕ) (closed : Bool) (ps : List (List ℕ)) → StandsBehind file (record { window = record { at = at; bytes = bytes }; size = size; closed = closed }) ps
-    → IsPlace bytes Place.Closed → IsClosed (opened ps) file
-closed_place file at size bytes closed ps b there =
+pub closed_place : {format : ℕ} (file : List ℕ) (at size : ℕ) (bytes : List ℕ) (closed : Bool) (ps : List (List ℕ)) → StandsBehind file (record { format = format; window = record { at = at; bytes = bytes }; size = size; closed = closed }) ps
+    → IsPlace bytes Place.Closed → IsClosed (opened format ps) file
+closed_place {format} file at size bytes closed ps b there =
     let gate = there.0 in
     let some : 1 ≤ length bytes = omega (arith, ap length there.2) in
     let front : take 1 (drop at file) ≡ gate ∷ [] = sym (take-take 1 (length bytes) (drop at file) some) ∙ ap (take 1) (sym b.window.shown) ∙ ap (take 1) there.2 in
     record {
       gate = gate;
       rest = drop 1 (drop at file);
-      split = b.split ∙ ap (λ (l : List ℕ). opened ps ++ l) (sym (take-append-drop 1 (drop at file)) ∙ ap (λ (l : List ℕ). l ++ drop 1 (drop at file)) front);
+      split = b.split ∙ ap (λ (l : List ℕ). opened format ps ++ l) (sym (take-append-drop 1 (drop at file)) ∙ ap (λ (l : List ℕ). l ++ drop 1 (drop at file)) front);
       shut = there.3;
     }
 
 -- the reader met the closed gate
-pub met_closed : (file : List ℕ) (window : WindowState) (size : ℕ) (closed : Bool) (ps : List (List ℕ)) → StandsBehind file (record { window = window; size = size; closed = closed }) ps → IsClosed (opened ps) file
-    → StandsBehind file (record { window = window; size = size; closed = true }) ps
-met_closed file window size closed ps b is = record { each = b.each; place = b.place; split = b.split; window = b.window; size = b.size; closed = λ on. is }
+pub met_closed : {format : ℕ} (file : List ℕ) (window : WindowState) (size : ℕ) (closed : Bool) (ps : List (List ℕ)) → StandsBehind file (record { format = format; window = window; size = size; closed = closed }) ps → IsClosed (opened format ps) file
+    → StandsBehind file (record { format = format; window = window; size = size; closed = true }) ps
+met_closed {format} file window size closed ps b is = record { known = b.known; each = b.each; place = b.place; split = b.split; window = b.window; size = b.size; closed = λ on. is }
 
 -- the window was filled
-pub filled_behind : (file : List ℕ) (old new : WindowState) (size : ℕ) (closed now : Bool) (ps : List (List ℕ)) → StandsBehind file (record { window = old; size = size; closed = closed }) ps → new.at ≡ old.at → IsWindow file new → now ≡ false
-    → StandsBehind file (record { window = new; size = size; closed = now }) ps
-filled_behind file old new size closed now ps b same is off = record {
+pub filled_behind : {format : ℕ} (file : List ℕ) (old new : WindowState) (size : ℕ) (closed now : Bool) (ps : List (List ℕ)) → StandsBehind file (record { format = format; window = old; size = size; closed = closed }) ps → new.at ≡ old.at → IsWindow file new → now ≡ false
+    → StandsBehind file (record { format = format; window = new; size = size; closed = now }) ps
+filled_behind {format} file old new size closed now ps b same is off = record {
+  known = b.known;
   each = b.each;
   place = same ∙ b.place;
-  split = b.split ∙ ap (λ (k : ℕ). opened ps ++ drop k file) (sym same);
+  split = b.split ∙ ap (λ (k : ℕ). opened format ps ++ drop k file) (sym same);
   window = is;
   size = b.size;
   closed = λ on. absurd (cc (on, off));
@@ -252,21 +259,25 @@ front_get (x ∷ xs) (suc n) zero lt = refl
 front_get (x ∷ xs) (suc n) (suc i) lt = front_get xs n i (omega (arith, lt))
 
 pub no_head : (file : List ℕ) (at : ℕ) → HasNoHead (take 11 file) at → HasNoHead file at
-no_head file at none = record {
-  finished = λ un. none.finished (subst IsUnfinished (sym (take_all 11 file (omega (arith, short file un)))) un);
-  within = none.within;
-  before = sym (take-take at 11 file (omega (arith, none.within))) ∙ none.before;
-  differs = λ same. none.differs (front_get file 11 at (omega (arith, none.within)) ∙ same);
-}
+no_head file at none =
+    let within = none.within 1 (inl refl) in
+    record {
+      finished = λ un. none.finished (subst IsUnfinished (sym (take_all 11 file (omega (arith, short file un)))) un);
+      within = none.within;
+      before = λ format known. sym (take-take at 11 file (omega (arith, within))) ∙ none.before format known;
+      differs = λ format known same. none.differs format known (front_get file 11 at (omega (arith, within)) ∙ same);
+    }
 
 pub small_start : (P : List ℕ → Type 0) (file : List ℕ) → length (take 11 file) ≤ 10 → P (take 11 file) → P file
 small_start P file few is = subst P (take_all 11 file (omega (arith, few, length-take 11 file))) is
 
 -- the reader stands behind the head
-pub behind_head : (file : List ℕ) (size : ℕ) → take 9 (take 11 file) ≡ head → size ≡ length file → length file < 2 ^ 64 → StandsBehind file (record { window = record { at = 9; bytes = [] }; size = size; closed = false }) []
-behind_head file size front is addressed =
-    let start : take 9 file ≡ head = sym (take-take 9 11 file (omega arith)) ∙ front in
+pub behind_head : (format : ℕ) (file : List ℕ) (size : ℕ) → IsFormat format → take 9 (take 11 file) ≡ head format → size ≡ length file → length file < 2 ^ 64
+    → StandsBehind file (record { format = format; window = record { at = 9; bytes = [] }; size = size; closed = false }) []
+behind_head format file size known front is addressed =
+    let start : take 9 file ≡ head format = sym (take-take 9 11 file (omega arith)) ∙ front in
     record {
+      known = known;
       each = All-nil IsPayload;
       place = refl;
       split = sym (take-append-drop 9 file) ∙ ap (λ (l : List ℕ). l ++ drop 9 file) start;
@@ -274,11 +285,6 @@ behind_head file size front is addressed =
       size = is;
       closed = λ on. absurd (cc (on));
     }
-
-pub behind_new : (file : List ℕ) → file ≡ new_file → StandsBehind file (record { window = record { at = 9; bytes = [] }; size = 10; closed = false }) []
-behind_new file is =
-    let len : length file ≡ 10 = ap length is in
-    behind_head file 10 (ap (λ (l : List ℕ). take 9 (take 11 l)) is) (sym len) (omega (arith, len))
 
 -- five bytes in front
 five_front : (bytes : List ℕ) → 5 ≤ length bytes → bytes ≡ get_or bytes 0 0 ∷ (get_or bytes 1 0 ∷ (get_or bytes 2 0 ∷ (get_or bytes 3 0 ∷ (get_or bytes 4 0 ∷ drop 5 bytes))))
@@ -319,9 +325,9 @@ pub shut_place : (bytes : List ℕ) → 0 < length bytes → get_or bytes 0 0 �
 shut_place bytes some shut = (get_or bytes 0 0, drop 1 bytes, drop_more bytes 0 0 some, shut)
 
 -- the rest of a payload, read behind what the window had of it
-pub far_read : (file : List ℕ) (at size more : ℕ) (bytes : List ℕ) (closed : Bool) (ps : List (List ℕ)) (place : ℕ) (first old new : List ℕ) → StandsBehind file (record { window = record { at = at; bytes = bytes }; size = size; closed = closed }) ps
+pub far_read : {format : ℕ} (file : List ℕ) (at size more : ℕ) (bytes : List ℕ) (closed : Bool) (ps : List (List ℕ)) (place : ℕ) (first old new : List ℕ) → StandsBehind file (record { format = format; window = record { at = at; bytes = bytes }; size = size; closed = closed }) ps
     → 5 ≤ length bytes → place ≡ min (at + 5) last_count → first ≡ take (length bytes - 5) (drop 5 bytes) → take (length bytes - 5) old ≡ first → ReadsOn file place (length bytes - 5) old more new → ReadsMore file (at + 5) (length bytes - 5) more new
-far_read file at size more bytes closed ps place first old new b five there first_is front reads =
+far_read {format} file at size more bytes closed ps place first old new b five there first_is front reads =
     let len : ℕ = length bytes - 5 in
     let end = window_end file at bytes b.window in
     let here : place ≡ at + 5 = omega (arith, there, five, end, b.window.addressed) in

@@ -3,7 +3,7 @@ use Rattle.std.specs.Prelude.{◌≡◌, ◌≢◌, ◌⊎◌, ℕ, ◌+◌, ◌
 use Rattle.std.specs.Int.{w32, to_le_bytes}
 use Rattle.adx_io.specs.Disks.{LeavesOnly, Within}
 use Rattle.adx_io.specs.Frames.{longest_payload}
-use Rattle.day_journal.specs.Places.{IsPayload, IsClosed, opened}
+use Rattle.day_journal.specs.Places.{IsFormat, IsPayload, IsClosed, opened}
 use Rattle.day_journal.specs.declared.place.Place.{Place}
 
 -- a length that is none of a payload
@@ -59,17 +59,19 @@ pub record OnlyReads {D : Type 0} (reads : D → Option (List ℕ)) (may_leave :
   pub crash : Within (may_leave old) (may_leave new)
   pub moments : LeavesOnly moment left_since old new (may_leave old)
 
--- a reader of a journal: its window, the file's length, and whether it met the closed gate
+-- a reader of a journal: its format, its window, the file's length, and whether it met the closed gate
 pub record OpeningState : Type 0 where
+  pub format : ℕ
   pub window : WindowState
   pub size : ℕ
   pub closed : Bool
 
 -- the reader stands behind these payloads
 pub record StandsBehind (file : List ℕ) (opening : OpeningState) (payloads : List (List ℕ)) : Type 0 where
+  pub known : IsFormat opening.format
   pub each : All IsPayload payloads
-  pub place : opening.window.at ≡ length (opened payloads)
-  pub split : file ≡ opened payloads ++ drop opening.window.at file
+  pub place : opening.window.at ≡ length (opened opening.format payloads)
+  pub split : file ≡ opened opening.format payloads ++ drop opening.window.at file
   pub window : IsWindow file opening.window
   pub size : opening.size ≡ length file
-  pub closed : opening.closed ≡ true → IsClosed (opened payloads) file
+  pub closed : opening.closed ≡ true → IsClosed (opened opening.format payloads) file

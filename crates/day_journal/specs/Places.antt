@@ -1,14 +1,19 @@
 -- The journal's file: a head, and behind it the payloads, each at an open place. This project's own.
-use Rattle.std.specs.Prelude.{◌≡◌, ◌≢◌, ◌⊎◌, ℕ, ◌<◌, ◌≤◌, List, [], ◌∷◌, ◌++◌, length, take, slice_get, All}
+use Rattle.std.specs.Prelude.{◌≡◌, ◌≢◌, ◌⊎◌, ℕ, ◌+◌, ◌<◌, ◌≤◌, List, [], ◌∷◌, ◌++◌, length, take, slice_get, All}
 use Rattle.std.specs.List.{flat_map}
 use Rattle.adx_io.specs.Frames.{longest_payload, body}
+use Rattle.day_journal.specs.declared.start.TheConstants.{NEW_FORMAT}
 
--- ADXJRNL1
-abbrev pub mark : List ℕ
-mark = 65 ∷ 68 ∷ 88 ∷ 74 ∷ 82 ∷ 78 ∷ 76 ∷ 49 ∷ []
+-- a journal's format, which its head tells
+abbrev pub IsFormat : ℕ → Type 0
+IsFormat format = (format ≡ 1) ⊎ (format ≡ 2)
 
-abbrev pub head : List ℕ
-head = 1 ∷ mark
+-- ADXJRNL and the digit of the format
+abbrev pub mark : ℕ → List ℕ
+mark format = 65 ∷ 68 ∷ 88 ∷ 74 ∷ 82 ∷ 78 ∷ 76 ∷ (48 + format) ∷ []
+
+abbrev pub head : ℕ → List ℕ
+head format = 1 ∷ mark format
 
 pub record IsPayload (payload : List ℕ) : Type 0 where
   pub some : 0 < length payload
@@ -18,9 +23,9 @@ pub record IsPayload (payload : List ℕ) : Type 0 where
 abbrev pub open_place : List ℕ → List ℕ
 open_place payload = 1 ∷ body payload
 
--- the head, and the payloads at open places
-abbrev pub opened : List (List ℕ) → List ℕ
-opened payloads = head ++ flat_map open_place payloads
+-- the head of a format, and the payloads at open places
+abbrev pub opened : ℕ → List (List ℕ) → List ℕ
+opened format payloads = head format ++ flat_map open_place payloads
 
 -- at most 10 bytes, of which the first is 0
 pub record IsCleared (file : List ℕ) : Type 0 where
@@ -28,18 +33,25 @@ pub record IsCleared (file : List ℕ) : Type 0 where
   pub split : file ≡ 0 ∷ rest
   pub few : length file ≤ 10
 
--- a new journal, but perhaps for its first byte
-abbrev pub IsMarked : List ℕ → Type 0
-IsMarked file = (gate : ℕ) × (file ≡ gate ∷ (mark ++ 0 ∷ []))
+-- a journal of a format without payloads, but perhaps for its first byte
+pub record IsMarkedAs (format : ℕ) (file : List ℕ) : Type 0 where
+  pub gate : ℕ
+  pub split : file ≡ gate ∷ (mark format ++ 0 ∷ [])
 
--- A file before it is made: at most a byte; byte 0 unset and at most 10 bytes; or all of a new
--- journal's bytes but the first.
+-- the same of some format
+pub record IsMarked (file : List ℕ) : Type 0 where
+  pub format : ℕ
+  pub known : IsFormat format
+  pub marked : IsMarkedAs format file
+
+-- A file before it is made: at most a byte; byte 0 unset and at most 10 bytes; or all of a journal's bytes but the
+-- first, and no payload.
 abbrev pub IsUnfinished : List ℕ → Type 0
 IsUnfinished file = (length file ≤ 1) ⊎ IsCleared file ⊎ IsMarked file
 
 -- a new journal
 abbrev pub new_file : List ℕ
-new_file = head ++ 0 ∷ []
+new_file = head NEW_FORMAT ++ 0 ∷ []
 
 -- the open places end at a gate that isn't 1, whatever stands behind it
 pub record IsClosed (before file : List ℕ) : Type 0 where
@@ -48,9 +60,15 @@ pub record IsClosed (before file : List ℕ) : Type 0 where
   pub split : file ≡ before ++ gate ∷ rest
   pub shut : gate ≢ 1
 
--- the payloads that a file stands for
-abbrev pub StandsFor : List ℕ → List (List ℕ) → Type 0
-StandsFor file payloads = (IsUnfinished file × (payloads ≡ [])) ⊎ (All IsPayload payloads × IsClosed (opened payloads) file)
+-- a journal of that format with these payloads
+pub record IsJournal (format : ℕ) (file : List ℕ) (payloads : List (List ℕ)) : Type 0 where
+  pub known : IsFormat format
+  pub each : All IsPayload payloads
+  pub closed : IsClosed (opened format payloads) file
+
+-- The payloads that a file stands for, and its format. An unfinished file stands for none, in any format.
+abbrev pub StandsFor : ℕ → List ℕ → List (List ℕ) → Type 0
+StandsFor format file payloads = (IsUnfinished file × (payloads ≡ [])) ⊎ IsJournal format file payloads
 
 -- no payload stands at this place, and no gate that isn't 1
 pub record IsBadPlace (place : List ℕ) : Type 0 where
@@ -59,16 +77,18 @@ pub record IsBadPlace (place : List ℕ) : Type 0 where
 
 -- the open places end at `at` with a bad one
 pub record HasBadLength (file : List ℕ) (at : ℕ) : Type 0 where
+  pub format : ℕ
+  pub known : IsFormat format
   pub payloads : List (List ℕ)
   pub each : All IsPayload payloads
   pub place : List ℕ
-  pub split : file ≡ opened payloads ++ place
+  pub split : file ≡ opened format payloads ++ place
   pub bad : IsBadPlace place
-  pub there : at ≡ length (opened payloads)
+  pub there : at ≡ length (opened format payloads)
 
--- byte `at` of the head is another one or missing, and those before it are the head's
+-- byte `at` is missing or another one than in the head of any format, and those before it are a head's
 pub record HasNoHead (file : List ℕ) (at : ℕ) : Type 0 where
   pub finished : IsUnfinished file → ⊥
-  pub within : at < length head
-  pub before : take at file ≡ take at head
-  pub differs : slice_get file at ≢ slice_get head at
+  pub within : (format : ℕ) → IsFormat format → at < length (head format)
+  pub before : (format : ℕ) → IsFormat format → take at file ≡ take at (head format)
+  pub differs : (format : ℕ) → IsFormat format → slice_get file at ≢ slice_get (head format) at

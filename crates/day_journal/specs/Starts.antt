@@ -1,14 +1,14 @@
 -- What a file is before its payloads are read. This project's own.
-use Rattle.std.specs.Prelude.{◌≡◌, ◌⊎◌, ℕ, ◌≤◌, List, length, take, Option, Some}
+use Rattle.std.specs.Prelude.{◌≡◌, ◌⊎◌, ℕ, ◌≤◌, List, [], length, take, Option, Some}
 use Rattle.adx_io.specs.Disks.{AsRead, LeavesOnly, Within}
-use Rattle.day_journal.specs.Places.{head, IsCleared, IsMarked, IsUnfinished, HasNoHead, StandsFor, new_file}
+use Rattle.day_journal.specs.Places.{IsCleared, IsFormat, IsMarked, IsUnfinished, HasNoHead, StandsFor, head, new_file}
 use Rattle.day_journal.specs.declared.start.Start.{Start}
 
 -- what a file with these first bytes is
 abbrev pub IsStart : List ℕ → Start → Type 0
 IsStart first Start.Cleared = IsCleared first
 IsStart first Start.Uncleared = (length first ≤ 1) ⊎ IsMarked first
-IsStart first Start.Journal = take 9 first ≡ head
+IsStart first (Start.Journal format) = IsFormat format × (take 9 first ≡ head format)
 IsStart first (Start.Other at) = HasNoHead first at
 
 -- calls after which a crash leaves no more than before
@@ -16,9 +16,17 @@ pub record LeavesNoMore {D : Type 0} (may_leave : D → List ℕ → Type 0) (mo
   pub crash : Within (may_leave old) (may_leave new)
   pub moments : LeavesOnly moment left_since old new (may_leave old)
 
--- an image stands for every list of payloads for which some earlier one does
-abbrev pub StandsAsOneOf : (List ℕ → Type 0) → List ℕ → Type 0
-StandsAsOneOf images file = (earlier : List ℕ) × images earlier × ((payloads : List (List ℕ)) → StandsFor earlier payloads → StandsFor file payloads)
+-- a file stands for all that another one stands for
+abbrev pub StandsAs : (before after : List ℕ) → Type 0
+StandsAs before after = (format : ℕ) (payloads : List (List ℕ)) → StandsFor format before payloads → StandsFor format after payloads
+
+-- an image from before, or one that stands for all that what was read stood for
+abbrev pub StandsAsRead : (List ℕ → Type 0) → Option (List ℕ) → List ℕ → Type 0
+StandsAsRead images reads file = images file ⊎ ((before : List ℕ) × (reads ≡ Some before) × StandsAs before file)
+
+-- a file stands for no payload, in any format
+abbrev pub StandsNew : List ℕ → Type 0
+StandsNew file = (format : ℕ) → StandsFor format file []
 
 -- there is an image
 pub record HasSome (images : List ℕ → Type 0) : Type 0 where
@@ -30,10 +38,11 @@ pub record Looked (size : ℕ) (start : Start) (reads : Option (List ℕ)) (imag
   pub durable : AsRead reads images
   pub found : (file : List ℕ) → reads ≡ Some file → (size ≡ length file) × IsStart (take 11 file) start
 
--- a file of this length that begins with a journal's head
-pub record BeginsJournal (size : ℕ) (file : List ℕ) : Type 0 where
+-- a file of this length that begins with the head of a journal of this format
+pub record BeginsJournal (format size : ℕ) (file : List ℕ) : Type 0 where
+  pub known : IsFormat format
   pub length_is : size ≡ length file
-  pub front : take 9 (take 11 file) ≡ head
+  pub front : take 9 (take 11 file) ≡ head format
 
 -- a read gives the file as before, or the file was unfinished and a read gives a new journal
 abbrev pub KeptOrMade : List ℕ → Option (List ℕ) → Type 0

@@ -2,7 +2,7 @@
 use Rattle.std.specs.Prelude.{◌≡◌, ◌≢◌, ◌⊎◌, ℕ, ◌+◌, List, [], ◌∷◌, ◌++◌, length, Bool, true, false, IsTrue, All}
 use Rattle.adx_io.specs.Disks.{Each}
 use Rattle.adx_io.specs.Frames.{body}
-use Rattle.day_journal.specs.Places.{IsPayload, opened, IsClosed, StandsFor}
+use Rattle.day_journal.specs.Places.{IsFormat, IsPayload, opened, IsClosed, StandsFor}
 
 -- behind these bytes a gate, then the record and a closed gate, then anything
 pub record IsGated (gate : ℕ) (before record_bytes file : List ℕ) : Type 0 where
@@ -20,32 +20,34 @@ pub record HasShutTail (before record_bytes file : List ℕ) : Type 0 where
   pub gated : IsGated gate before record_bytes file
   pub shut : gate ≢ 1
 
--- an open journal: the place of the gate behind its payloads, and whether it is in doubt that the
--- gate is closed
+-- an open journal: its format, the place of the gate behind its payloads, and whether it is in doubt that the gate is
+-- closed
 pub record JournalState : Type 0 where
+  pub format : ℕ
   pub gate : ℕ
   pub in_doubt : Bool
 
 -- what stands in an image: the payloads and a closed gate, or, in doubt, some gate and the tail
-abbrev pub Ends : Bool → List (List ℕ) → List ℕ → List ℕ → Type 0
-Ends false payloads tail file = IsClosed (opened payloads) file
-Ends true payloads tail file = HasTail (opened payloads) (body tail) file
+abbrev pub Ends : ℕ → Bool → List (List ℕ) → List ℕ → List ℕ → Type 0
+Ends format false payloads tail file = IsClosed (opened format payloads) file
+Ends format true payloads tail file = HasTail (opened format payloads) (body tail) file
 
 -- The journal keeps these payloads on a disk with these images. The tail is that of the last append
 -- where it is in doubt, and else any.
 pub record Keeps (images : List ℕ → Type 0) (journal : JournalState) (payloads : List (List ℕ)) (tail : List ℕ) : Type 0 where
-  pub place : journal.gate ≡ length (opened payloads)
+  pub known : IsFormat journal.format
+  pub place : journal.gate ≡ length (opened journal.format payloads)
   pub each : All IsPayload payloads
   pub doubted : IsTrue journal.in_doubt → IsPayload tail
-  pub ends : Each images (Ends journal.in_doubt payloads tail)
+  pub ends : Each images (Ends journal.format journal.in_doubt payloads tail)
 
--- the file stands for these payloads, or for them and the tail
-abbrev pub WithOrWithout : List (List ℕ) → List ℕ → List ℕ → Type 0
-WithOrWithout payloads tail file = StandsFor file payloads ⊎ StandsFor file (payloads ++ tail ∷ [])
+-- the file stands for these payloads in this format, or for them and the tail
+abbrev pub WithOrWithout : ℕ → List (List ℕ) → List ℕ → List ℕ → Type 0
+WithOrWithout format payloads tail file = StandsFor format file payloads ⊎ StandsFor format file (payloads ++ tail ∷ [])
 
 -- the payloads alone, with the tail that was in doubt, or with the new one; the two never together
-abbrev pub WithAtMostOne : List (List ℕ) → List ℕ → List ℕ → List ℕ → Type 0
-WithAtMostOne payloads tail new file = StandsFor file payloads ⊎ StandsFor file (payloads ++ tail ∷ []) ⊎ StandsFor file (payloads ++ new ∷ [])
+abbrev pub WithAtMostOne : ℕ → List (List ℕ) → List ℕ → List ℕ → List ℕ → Type 0
+WithAtMostOne format payloads tail new file = StandsFor format file payloads ⊎ StandsFor format file (payloads ++ tail ∷ []) ⊎ StandsFor format file (payloads ++ new ∷ [])
 
 -- how many bytes a journal has
 abbrev pub size_of : JournalState → ℕ

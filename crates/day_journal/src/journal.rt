@@ -4,11 +4,11 @@ ghost use Rattle.adx_io.specs.Disks.{Each, LeavesOnly};
 ghost use Rattle.adx_io.specs.Streams.{HasCause, last_count};
 ghost use Rattle.adx_io.specs.Frames.{body, record_of};
 ghost use Rattle.day_journal.specs.Faults.{EndsAppend};
-ghost use Rattle.day_journal.specs.Places.{IsPayload, opened};
+ghost use Rattle.day_journal.specs.Places.{IsFormat, IsPayload, opened};
 ghost use Rattle.day_journal.specs.Tails.{HasShutTail, JournalState, Keeps, WithOrWithout, WithAtMostOne, size_after, size_of};
-ghost use Rattle.day_journal.specs.declared.fault.JournalFault.{JournalFault};
+ghost use Rattle.day_journal.specs.declared.fault.AppendFault.{AppendFault};
 
-use crate::fault::JournalFault;
+use crate::fault::AppendFault;
 use crate::steps;
 use adx_io::{Disk, Failed, Frame};
 use std::marker::Model;
@@ -19,6 +19,7 @@ const GREATEST_SIZE: u128 = 1 << 32;
 /// An open journal; it owns no disk.
 #[derive(Debug, Drop)]
 pub struct Journal {
+    format: u8,
     gate: u64,
     in_doubt: bool,
 }
@@ -28,27 +29,36 @@ impl Model for Journal {
 
     ghost Value = { JournalState };
 
-    ghost view = { λ j. record { gate = j.gate; in_doubt = j.in_doubt } };
+    ghost view = { λ j. record { format = j.format; gate = j.gate; in_doubt = j.in_doubt } };
 }
 
 impl Journal {
-    /// A journal whose closed gate stands at this place, with no tail in doubt.
-    pub(crate) fn at_gate(gate: u64) -> Journal
-        ensures { result ≡ record { gate = gate; in_doubt = false } }
+    /// A journal of a format whose closed gate stands at this place, with no tail in doubt.
+    pub(crate) fn at_gate(format: u8, gate: u64) -> Journal
+        ensures { result ≡ record { format = format; gate = gate; in_doubt = false } }
     {
         Journal {
+            format,
             gate,
             in_doubt: false,
         }
+    }
+
+    /// The format of its entries, 1 or 2.
+    pub fn format(&self) -> u8
+        ensures { result ≡ self.now.format }
+    {
+        self.format
     }
 
     /// Closes the gate of a tail that is in doubt; does nothing where none is. The disk is the one that
     /// the journal was opened on, as this journal's calls left it.
     pub fn settle<D: Disk>(&mut self, disk: &mut D) -> Result<(), Failed>
         ensures kept { (payloads : List (List ℕ)) (tail : List ℕ) → Keeps (D.may_leave disk.old) self.old payloads tail
-            → Keeps (D.may_leave disk.new) self.new payloads tail × LeavesOnly D.moment D.left_since disk.old disk.new (WithOrWithout payloads tail) }
+            → Keeps (D.may_leave disk.new) self.new payloads tail × LeavesOnly D.moment D.left_since disk.old disk.new (WithOrWithout self.old.format payloads tail) }
         ensures settled { OnOk result (self.new.in_doubt ≡ false) }
         ensures place { self.new.gate ≡ self.old.gate }
+        ensures format { self.new.format ≡ self.old.format }
         ensures lasts { D.lasts disk.old disk.new }
         ensures cause { HasCause (D.faults disk.old) (D.faults disk.new) result }
     {
@@ -64,13 +74,14 @@ impl Journal {
     /// doubt.
     fn open_gate<D: Disk>(&mut self, disk: &mut D, len: u64) -> Result<(), Failed>
         requires { self.old.gate + len < 2 ^ 64 }
-        ensures kept { (payloads : List (List ℕ)) (payload : List ℕ) → self.old.gate ≡ length (opened payloads) → All IsPayload payloads
-            → IsPayload payload → len ≡ length payload + 5 → Each (D.may_leave disk.old) (HasShutTail (opened payloads) (body payload))
-            → LeavesOnly D.moment D.left_since disk.old disk.new (WithOrWithout payloads payload)
+        ensures kept { (payloads : List (List ℕ)) (payload : List ℕ) → IsFormat self.old.format → self.old.gate ≡ length (opened self.old.format payloads) → All IsPayload payloads
+            → IsPayload payload → len ≡ length payload + 5 → Each (D.may_leave disk.old) (HasShutTail (opened self.old.format payloads) (body payload))
+            → LeavesOnly D.moment D.left_since disk.old disk.new (WithOrWithout self.old.format payloads payload)
             × OnOk result ((tail : List ℕ) → Keeps (D.may_leave disk.new) self.new (payloads ++ payload ∷ []) tail)
             × OnErr result (Keeps (D.may_leave disk.new) self.new payloads payload) }
         ensures grown { OnOk result (self.new.gate ≡ self.old.gate + len) }
         ensures place { OnErr result (self.new.gate ≡ self.old.gate) }
+        ensures format { self.new.format ≡ self.old.format }
         ensures lasts { D.lasts disk.old disk.new }
         ensures cause { HasCause (D.faults disk.old) (D.faults disk.new) result }
     {
@@ -86,11 +97,12 @@ impl Journal {
         requires { self.old.gate + 1 + length record_bytes.now < 2 ^ 64 }
         ensures kept { (payloads : List (List ℕ)) (tail payload : List ℕ) → IsPayload payload → record_bytes.now ≡ record_of payload
             → Keeps (D.may_leave disk.old) self.old payloads tail
-            → LeavesOnly D.moment D.left_since disk.old disk.new (WithAtMostOne payloads tail payload)
+            → LeavesOnly D.moment D.left_since disk.old disk.new (WithAtMostOne self.old.format payloads tail payload)
             × OnOk result ((any : List ℕ) → Keeps (D.may_leave disk.new) self.new (payloads ++ payload ∷ []) any)
             × OnErr result (Keeps (D.may_leave disk.new) self.new payloads tail ⊎ Keeps (D.may_leave disk.new) self.new payloads payload) }
         ensures grown { OnOk result (self.new.gate ≡ self.old.gate + length record_bytes.now) }
         ensures place { OnErr result (self.new.gate ≡ self.old.gate) }
+        ensures format { self.new.format ≡ self.old.format }
         ensures lasts { D.lasts disk.old disk.new }
         ensures cause { HasCause (D.faults disk.old) (D.faults disk.new) result }
     {
@@ -110,34 +122,35 @@ impl Journal {
         disk: &mut D,
         frame: &Frame,
         held: u64,
-    ) -> Result<(), JournalFault>
+    ) -> Result<(), AppendFault>
         requires { 0 < length frame.now.payload }
 
         // Whatever payloads and tail the journal kept before: a crash at any moment of the call leaves
         // those payloads, or them and one more, the tail or the new one.
         ensures any_moment { (payloads : List (List ℕ)) (tail : List ℕ) → Keeps (D.may_leave disk.old) self.old payloads tail
-            → LeavesOnly D.moment D.left_since disk.old disk.new (WithAtMostOne payloads tail frame.now.payload) }
+            → LeavesOnly D.moment D.left_since disk.old disk.new (WithAtMostOne self.old.format payloads tail frame.now.payload) }
         ensures acknowledged { OnOk result ((payloads : List (List ℕ)) (tail any : List ℕ) → Keeps (D.may_leave disk.old) self.old payloads tail
             → Keeps (D.may_leave disk.new) self.new (payloads ++ frame.now.payload ∷ []) any) }
         ensures doubted { OnErr result ((payloads : List (List ℕ)) (tail : List ℕ) → Keeps (D.may_leave disk.old) self.old payloads tail
             → Keeps (D.may_leave disk.new) self.new payloads tail ⊎ Keeps (D.may_leave disk.new) self.new payloads frame.now.payload) }
 
         ensures ends { EndsAppend (D.faults disk.old) (D.faults disk.new) (size_after self.old frame.now.payload held) result }
-        ensures refused { (size : ℕ) → result ≡ Err (JournalFault.Full size) → (self.new ≡ self.old) × (disk.new ≡ disk.old) }
+        ensures refused { (size : ℕ) → result ≡ Err (AppendFault.Full size) → (self.new ≡ self.old) × (disk.new ≡ disk.old) }
         ensures grown { OnOk result (self.new.gate ≡ self.old.gate + (length frame.now.payload + 5)) }
         ensures place { OnErr result (self.new.gate ≡ self.old.gate) }
+        ensures format { self.new.format ≡ self.old.format }
         ensures lasts { D.lasts disk.old disk.new }
     {
         let record_bytes = frame.record_bytes();
         let size = size_with(self.gate, record_bytes.len(), held);
         if size > GREATEST_SIZE {
-            return Err(JournalFault::Full {
+            return Err(AppendFault::Full {
                 size: u64::try_from(size).unwrap_or(u64::MAX),
             });
         }
         match self.put(disk, record_bytes) {
             Ok(()) => Ok(()),
-            Err(_) => Err(JournalFault::DiskFault),
+            Err(_) => Err(AppendFault::DiskFault),
         }
     }
 

@@ -2,18 +2,19 @@
 ghost use Rattle.std.specs.Prelude.{◌≡◌, ◌⊎◌, ◌≤◌, ◌++◌, [], ◌∷◌, List, ℕ, length, is_some, OnOk};
 ghost use Rattle.adx_io.specs.Disks.{AsRead, Each, LeavesOnly};
 ghost use Rattle.adx_io.specs.Streams.{HasCause};
-ghost use Rattle.day_journal.specs.Places.{IsCleared, IsMarked, IsUnfinished, StandsFor, new_file};
-ghost use Rattle.day_journal.specs.Starts.{HasSome};
+ghost use Rattle.day_journal.specs.Places.{IsCleared, IsMarked, IsMarkedAs, IsUnfinished, new_file};
+ghost use Rattle.day_journal.specs.Starts.{HasSome, StandsNew};
+ghost use Rattle.day_journal.specs.declared.start.TheConstants.{NEW_FORMAT};
 
 use adx_io::{Disk, Failed};
 
 /// The mark behind byte 0 and a closed gate.
-const MARK: [u8; 9] = *b"ADXJRNL1\0";
+const MARK: [u8; 9] = *b"ADXJRNL2\0";
 
 /// Makes a new journal of a file of at most a byte, or marked, whose first byte isn't 0.
 pub(crate) fn make_uncleared<D: Disk>(disk: &mut D) -> Result<(), Failed>
     ensures kept { Each (D.may_leave disk.old) (λ c. (length c ≤ 1) ⊎ IsMarked c)
-        → LeavesOnly D.moment D.left_since disk.old disk.new (λ c. StandsFor c [] × HasSome (D.may_leave disk.old)) }
+        → LeavesOnly D.moment D.left_since disk.old disk.new (λ c. StandsNew c × HasSome (D.may_leave disk.old)) }
     ensures made { OnOk result (Each (D.may_leave disk.old) (λ c. (length c ≤ 1) ⊎ IsMarked c) → Each (D.may_leave disk.new) (λ c. c ≡ new_file)) }
     ensures durable { OnOk result (AsRead (D.reads disk.new) (D.may_leave disk.new)) }
     ensures told { is_some (D.reads disk.new) ≡ is_some (D.reads disk.old) }
@@ -28,7 +29,7 @@ pub(crate) fn make_uncleared<D: Disk>(disk: &mut D) -> Result<(), Failed>
 /// Makes a new journal of a file of at most ten bytes whose first is 0.
 pub(crate) fn make_cleared<D: Disk>(disk: &mut D) -> Result<(), Failed>
     ensures kept { Each (D.may_leave disk.old) IsCleared
-        → LeavesOnly D.moment D.left_since disk.old disk.new (λ c. StandsFor c [] × HasSome (D.may_leave disk.old)) }
+        → LeavesOnly D.moment D.left_since disk.old disk.new (λ c. StandsNew c × HasSome (D.may_leave disk.old)) }
     ensures made { OnOk result (Each (D.may_leave disk.old) IsCleared → Each (D.may_leave disk.new) (λ c. c ≡ new_file)) }
     ensures durable { OnOk result (AsRead (D.reads disk.new) (D.may_leave disk.new)) }
     ensures told { is_some (D.reads disk.new) ≡ is_some (D.reads disk.old) }
@@ -60,7 +61,7 @@ fn put_mark<D: Disk>(disk: &mut D) -> Result<(), Failed>
     ensures kept { Each (D.may_leave disk.old) IsCleared
         → Each (D.may_leave disk.new) (λ c. IsCleared c × HasSome (D.may_leave disk.old))
         × LeavesOnly D.moment D.left_since disk.old disk.new (λ c. IsCleared c × HasSome (D.may_leave disk.old)) }
-    ensures marked { OnOk result (Each (D.may_leave disk.old) IsCleared → Each (D.may_leave disk.new) IsMarked) }
+    ensures marked { OnOk result (Each (D.may_leave disk.old) IsCleared → Each (D.may_leave disk.new) (IsMarkedAs NEW_FORMAT)) }
     ensures told { is_some (D.reads disk.new) ≡ is_some (D.reads disk.old) }
     ensures lasts { D.lasts disk.old disk.new }
     ensures cause { HasCause (D.faults disk.old) (D.faults disk.new) result }
@@ -72,10 +73,10 @@ fn put_mark<D: Disk>(disk: &mut D) -> Result<(), Failed>
 
 /// Sets byte 0, behind which all is there.
 fn put_head<D: Disk>(disk: &mut D) -> Result<(), Failed>
-    ensures kept { Each (D.may_leave disk.old) IsMarked
-        → Each (D.may_leave disk.new) (λ c. IsMarked c × HasSome (D.may_leave disk.old))
-        × LeavesOnly D.moment D.left_since disk.old disk.new (λ c. IsMarked c × HasSome (D.may_leave disk.old)) }
-    ensures made { OnOk result (Each (D.may_leave disk.old) IsMarked → Each (D.may_leave disk.new) (λ c. c ≡ new_file)) }
+    ensures kept { Each (D.may_leave disk.old) (IsMarkedAs NEW_FORMAT)
+        → Each (D.may_leave disk.new) (λ c. IsMarkedAs NEW_FORMAT c × HasSome (D.may_leave disk.old))
+        × LeavesOnly D.moment D.left_since disk.old disk.new (λ c. IsMarkedAs NEW_FORMAT c × HasSome (D.may_leave disk.old)) }
+    ensures made { OnOk result (Each (D.may_leave disk.old) (IsMarkedAs NEW_FORMAT) → Each (D.may_leave disk.new) (λ c. c ≡ new_file)) }
     ensures durable { OnOk result (AsRead (D.reads disk.new) (D.may_leave disk.new)) }
     ensures told { is_some (D.reads disk.new) ≡ is_some (D.reads disk.old) }
     ensures lasts { D.lasts disk.old disk.new }

@@ -5,26 +5,33 @@ ghost use Rattle.adx_io.specs.Streams.{HasCause, last_count};
 ghost use Rattle.day_journal.specs.Faults.{EndsOpening, Refuses};
 ghost use Rattle.day_journal.specs.Openings.{IsPlace, OnlyReads, OpeningState, StandsBehind};
 ghost use Rattle.day_journal.specs.Places.{HasBadLength, IsClosed, StandsFor, opened};
-ghost use Rattle.day_journal.specs.Starts.{BeginsJournal, IsStart, KeptOrMade, LeavesNoMore, Looked, StandsAsOneOf};
+ghost use Rattle.day_journal.specs.Starts.{BeginsJournal, IsStart, KeptOrMade, LeavesNoMore, Looked, StandsAsRead};
 ghost use Rattle.day_journal.specs.Tails.{Keeps};
-ghost use Rattle.day_journal.specs.declared.fault.JournalFault.{JournalFault};
+ghost use Rattle.day_journal.specs.declared.fault.OpeningFault.{OpeningFault};
 ghost use Rattle.day_journal.specs.declared.place.Place.{Place};
 ghost use Rattle.std.specs.Prelude.{◌≡◌, ◌≤◌, ◌<◌, ◌+◌, ◌^◌, ◌++◌, [], ◌∷◌, List, ℕ, Some, None, Ok, Err, true, false, All, length, take, drop, IfOk, IfErr, OnOk, OnErr, MatchBool, MatchOption};
 
-use crate::fault::JournalFault;
+use crate::fault::OpeningFault;
 use crate::journal::Journal;
 use crate::making::{make_cleared, make_uncleared};
 use crate::place::{Place, place_in};
-use crate::start::{Start, start_of};
+use crate::start::{NEW_FORMAT, Start, start_of};
 use crate::window::{Window, read_behind};
 use adx_io::{Disk, Failed};
 use adx_units::OutOfMemory;
 use std::alloc::Global;
 use std::marker::Model;
 
+/// A new journal.
+const NEW: Found = Found {
+    format: NEW_FORMAT,
+    size: 10,
+};
+
 /// A journal while it is read; it owns no disk.
 #[derive(Debug, Drop)]
 pub struct Opening {
+    format: u8,
     window: Window,
     size: u64,
     closed: bool,
@@ -35,7 +42,14 @@ impl Model for Opening {
 
     ghost Value = { OpeningState };
 
-    ghost view = { λ o. record { window = o.window; size = o.size; closed = o.closed } };
+    ghost view = { λ o. record { format = o.format; window = o.window; size = o.size; closed = o.closed } };
+}
+
+/// A journal that is to be read: its format and its length.
+#[derive(Clone, Copy, Debug, PartialEq, Eq)]
+struct Found {
+    format: u8,
+    size: u64,
 }
 
 /// What is known of a file when it is opened.
@@ -48,67 +62,71 @@ struct Look {
 impl Journal {
     /// Syncs the disk, and begins to read its journal; of a file that has none yet it makes a new one
     /// first. The disk is then lent to each further call, as these calls left it.
-    pub fn open<D: Disk>(alloc: Global, disk: &mut D) -> Result<Opening, JournalFault>
+    pub fn open<D: Disk>(alloc: Global, disk: &mut D) -> Result<Opening, OpeningFault>
         ensures behind { IfOk result (λ opening. (file : List ℕ) → D.reads disk.new ≡ Some file → StandsBehind file opening []) }
         ensures durable { OnOk result (AsRead (D.reads disk.new) (D.may_leave disk.new)) }
         ensures reading { OnOk result ((file : List ℕ) → D.reads disk.old ≡ Some file → KeptOrMade file (D.reads disk.new)) }
         ensures refused { IfErr result (λ e. (file : List ℕ) → D.reads disk.old ≡ Some file → Refuses file e) }
-        ensures untouched { (at : ℕ) → result ≡ Err (JournalFault.NotAJournal at) → D.reads disk.new ≡ D.reads disk.old }
-        ensures no_place { (at : ℕ) → result ≡ Err (JournalFault.BadLength at) → ⊥ }
-        ensures start { IfOk result (λ opening. opening.window.at ≡ length (opened [])) }
+        ensures untouched { (at : ℕ) → result ≡ Err (OpeningFault.NotAJournal at) → D.reads disk.new ≡ D.reads disk.old }
+        ensures no_place { (at : ℕ) → result ≡ Err (OpeningFault.BadLength at) → ⊥ }
+        ensures start { IfOk result (λ opening. opening.window.at ≡ length (opened opening.format [])) }
 
-        // A crash at any moment of the call leaves a file with the payloads of one that a crash before
-        // it might have left.
-        ensures any_moment { LeavesOnly D.moment D.left_since disk.old disk.new (StandsAsOneOf (D.may_leave disk.old)) }
+        // A crash at any moment of the call leaves what a crash before it might have left, or a file that stands
+        // for all that the file that was read stood for.
+        ensures any_moment { LeavesOnly D.moment D.left_since disk.old disk.new (StandsAsRead (D.may_leave disk.old) (D.reads disk.old)) }
 
         ensures ends { EndsOpening (D.faults disk.old) (D.faults disk.new) result }
         ensures lasts { D.lasts disk.old disk.new }
     {
         let window = Window::new(alloc, 9)?;
         let look = look_at(disk)?;
-        let size = finish(disk, look)?;
-        Ok(begun(window, size))
+        let found = finish(disk, look)?;
+        Ok(begun(found, window))
     }
 }
 
-/// Makes a new journal of a file that is unfinished, and tells how long the journal is.
-fn finish<D: Disk>(disk: &mut D, look: Look) -> Result<u64, JournalFault>
+/// Makes a new journal of a file that is unfinished, and tells which format and length the journal has.
+fn finish<D: Disk>(disk: &mut D, look: Look) -> Result<Found, OpeningFault>
     ensures kept { Looked look.size look.start (D.reads disk.old) (D.may_leave disk.old)
-        → LeavesOnly D.moment D.left_since disk.old disk.new (StandsAsOneOf (D.may_leave disk.old)) }
-    ensures behind { IfOk result (λ size. Looked look.size look.start (D.reads disk.old) (D.may_leave disk.old)
-        → (file : List ℕ) → D.reads disk.new ≡ Some file → BeginsJournal size file) }
+        → LeavesOnly D.moment D.left_since disk.old disk.new (StandsAsRead (D.may_leave disk.old) (D.reads disk.old)) }
+    ensures behind { IfOk result (λ found. Looked look.size look.start (D.reads disk.old) (D.may_leave disk.old)
+        → (file : List ℕ) → D.reads disk.new ≡ Some file → BeginsJournal found.format found.size file) }
     ensures durable { OnOk result (Looked look.size look.start (D.reads disk.old) (D.may_leave disk.old) → AsRead (D.reads disk.new) (D.may_leave disk.new)) }
     ensures reading { OnOk result (Looked look.size look.start (D.reads disk.old) (D.may_leave disk.old)
         → (file : List ℕ) → D.reads disk.old ≡ Some file → KeptOrMade file (D.reads disk.new)) }
     ensures refused { IfErr result (λ e. Looked look.size look.start (D.reads disk.old) (D.may_leave disk.old)
         → (file : List ℕ) → D.reads disk.old ≡ Some file → Refuses file e) }
-    ensures untouched { (at : ℕ) → result ≡ Err (JournalFault.NotAJournal at) → D.reads disk.new ≡ D.reads disk.old }
-    ensures no_place { (at : ℕ) → result ≡ Err (JournalFault.BadLength at) → ⊥ }
+    ensures untouched { (at : ℕ) → result ≡ Err (OpeningFault.NotAJournal at) → D.reads disk.new ≡ D.reads disk.old }
+    ensures no_place { (at : ℕ) → result ≡ Err (OpeningFault.BadLength at) → ⊥ }
     ensures ends { EndsOpening (D.faults disk.old) (D.faults disk.new) result }
     ensures lasts { D.lasts disk.old disk.new }
 {
     match look.start {
         Start::Cleared => {
             make_cleared(disk)?;
-            Ok(10)
+            Ok(NEW)
         }
         Start::Uncleared => {
             make_uncleared(disk)?;
-            Ok(10)
+            Ok(NEW)
         }
-        Start::Journal => Ok(look.size),
-        Start::Other { at } => Err(JournalFault::NotAJournal { at }),
+        Start::Journal { format } => Ok(Found {
+            format,
+            size: look.size,
+        }),
+        Start::Other { at } => Err(OpeningFault::NotAJournal { at }),
     }
 }
 
-/// A reader at the front of a journal of this length.
-fn begun(window: Window, size: u64) -> Opening
-    ensures value { result ≡ record { window = window; size = size; closed = false } }
-    ensures fits { size < 2 ^ 64 }
+/// A reader at the front of a journal.
+fn begun(found: Found, window: Window) -> Opening
+    ensures value { result ≡ record { format = found.format; window = window; size = found.size; closed = false } }
+    ensures fits { found.size < 2 ^ 64 }
 {
     Opening {
+        format: found.format,
         window,
-        size,
+        size: found.size,
         closed: false,
     }
 }
@@ -131,19 +149,27 @@ fn look_at<D: Disk>(disk: &mut D) -> Result<Look, Failed>
 }
 
 impl Opening {
+    /// The format of the entries that are read, 1 or 2.
+    pub fn format(&self) -> u8
+        ensures { result ≡ self.now.format }
+    {
+        self.format
+    }
+
     /// The next payload; None exactly at the first gate that isn't 1.
     pub fn next<D: Disk>(
         &mut self,
         alloc: Global,
         disk: &mut D,
-    ) -> Result<Option<Vec<u8>>, JournalFault>
+    ) -> Result<Option<Vec<u8>>, OpeningFault>
         ensures found { IfOk result (λ next. (file : List ℕ) (payloads : List (List ℕ)) → D.reads disk.old ≡ Some file → StandsBehind file self.old payloads
-            → MatchOption next (StandsBehind file self.new payloads × IsClosed (opened payloads) file) (λ payload. StandsBehind file self.new (payloads ++ payload.items ∷ []))) }
+            → MatchOption next (StandsBehind file self.new payloads × IsClosed (opened self.old.format payloads) file) (λ payload. StandsBehind file self.new (payloads ++ payload.items ∷ []))) }
         ensures closed { result ≡ Ok None → self.new.closed ≡ true }
         ensures refused { IfErr result (λ e. (file : List ℕ) (payloads : List (List ℕ)) → D.reads disk.old ≡ Some file → StandsBehind file self.old payloads → Refuses file e) }
-        ensures place { (at : ℕ) → result ≡ Err (JournalFault.BadLength at) → at ≡ self.old.window.at }
+        ensures place { (at : ℕ) → result ≡ Err (OpeningFault.BadLength at) → at ≡ self.old.window.at }
         ensures moved { IfOk result (λ next. MatchOption next (self.new.window.at ≡ self.old.window.at) (λ payload. self.new.window.at ≤ self.old.window.at + (length payload.items + 5))) }
         ensures only_reads { OnlyReads D.reads D.may_leave D.moment D.left_since disk.old disk.new }
+        ensures format { self.new.format ≡ self.old.format }
         ensures ends { EndsOpening (D.faults disk.old) (D.faults disk.new) result }
         ensures lasts { D.lasts disk.old disk.new }
     {
@@ -158,14 +184,15 @@ impl Opening {
         &mut self,
         disk: &mut D,
         payload: &mut Vec<u8>,
-    ) -> Result<bool, JournalFault>
+    ) -> Result<bool, OpeningFault>
         ensures found { IfOk result (λ more. (file : List ℕ) (payloads : List (List ℕ)) → D.reads disk.old ≡ Some file → StandsBehind file self.old payloads
-            → MatchBool more (StandsBehind file self.new (payloads ++ payload.new.items ∷ [])) (StandsBehind file self.new payloads × IsClosed (opened payloads) file)) }
+            → MatchBool more (StandsBehind file self.new (payloads ++ payload.new.items ∷ [])) (StandsBehind file self.new payloads × IsClosed (opened self.old.format payloads) file)) }
         ensures closed { result ≡ Ok false → self.new.closed ≡ true }
         ensures refused { IfErr result (λ e. (file : List ℕ) (payloads : List (List ℕ)) → D.reads disk.old ≡ Some file → StandsBehind file self.old payloads → Refuses file e) }
-        ensures place { (at : ℕ) → result ≡ Err (JournalFault.BadLength at) → at ≡ self.old.window.at }
+        ensures place { (at : ℕ) → result ≡ Err (OpeningFault.BadLength at) → at ≡ self.old.window.at }
         ensures moved { IfOk result (λ more. MatchBool more (self.new.window.at ≤ self.old.window.at + (length payload.new.items + 5)) (self.new.window.at ≡ self.old.window.at)) }
         ensures only_reads { OnlyReads D.reads D.may_leave D.moment D.left_since disk.old disk.new }
+        ensures format { self.new.format ≡ self.old.format }
         ensures ends { EndsOpening (D.faults disk.old) (D.faults disk.new) result }
         ensures lasts { D.lasts disk.old disk.new }
     {
@@ -181,7 +208,7 @@ impl Opening {
                 self.closed = true;
                 Ok(false)
             }
-            Place::Bad => Err(JournalFault::BadLength {
+            Place::Bad => Err(OpeningFault::BadLength {
                 at: self.window.at(),
             }),
         }
@@ -193,7 +220,7 @@ impl Opening {
         disk: &mut D,
         payload: &mut Vec<u8>,
         count: usize,
-    ) -> Result<(), JournalFault>
+    ) -> Result<(), OpeningFault>
         requires empty { payload.old.items ≡ [] }
         requires open { 5 ≤ length self.old.window.bytes }
         requires some { 0 < count }
@@ -203,10 +230,11 @@ impl Opening {
             → IsPlace self.old.window.bytes (Place.Open count) → StandsBehind file self.new (payloads ++ payload.new.items ∷ [])) }
         ensures refused { IfErr result (λ e. (file : List ℕ) (payloads : List (List ℕ)) → D.reads disk.old ≡ Some file → StandsBehind file self.old payloads
             → IsPlace self.old.window.bytes (Place.Open count) → Refuses file e) }
-        ensures place { (at : ℕ) → result ≡ Err (JournalFault.BadLength at) → at ≡ self.old.window.at }
+        ensures place { (at : ℕ) → result ≡ Err (OpeningFault.BadLength at) → at ≡ self.old.window.at }
         ensures len { OnOk result (length payload.new.items ≡ count) }
         ensures moved { OnOk result (self.new.window.at ≤ self.old.window.at + (count + 5)) }
         ensures only_reads { OnlyReads D.reads D.may_leave D.moment D.left_since disk.old disk.new }
+        ensures format { self.new.format ≡ self.old.format }
         ensures ends { EndsOpening (D.faults disk.old) (D.faults disk.new) result }
         ensures lasts { D.lasts disk.old disk.new }
     {
@@ -218,14 +246,14 @@ impl Opening {
         let at = self.window.at();
         let whole = count as u64 + 5;
         if self.size < at || self.size - at < whole {
-            return Err(JournalFault::BadLength { at });
+            return Err(OpeningFault::BadLength { at });
         }
         let there = self.window.bytes().len() - 5;
         keep(payload, self.window.bytes(), there)?;
         lengthen(payload, count)?;
         let more = read_behind(disk, at.saturating_add(5), payload, there)?;
         if there + more < count {
-            return Err(JournalFault::BadLength { at });
+            return Err(OpeningFault::BadLength { at });
         }
         self.window.pass_all(whole);
         Ok(())
@@ -239,9 +267,9 @@ impl Opening {
         requires { self.closed ≡ true }
         ensures kept { (file : List ℕ) (payloads : List (List ℕ)) (tail : List ℕ) → D.reads disk.now ≡ Some file → StandsBehind file self payloads
             → AsRead (D.reads disk.now) (D.may_leave disk.now) → Keeps (D.may_leave disk.now) result payloads tail }
-        ensures gate { result ≡ record { gate = self.window.at; in_doubt = false } }
+        ensures gate { result ≡ record { format = self.format; gate = self.window.at; in_doubt = false } }
     {
-        Journal::at_gate(self.window.at())
+        Journal::at_gate(self.format, self.window.at())
     }
 }
 

@@ -1,13 +1,19 @@
 //! What a file is before its payloads are read.
-ghost use Rattle.day_journal.specs.Places.{IsCleared, IsMarked, head};
+ghost use Rattle.day_journal.specs.Places.{IsCleared, IsFormat, IsMarked, head};
 ghost use Rattle.day_journal.specs.Starts.{IsStart};
-ghost use Rattle.std.specs.Prelude.{◌≡◌, ◌≢◌, ◌<◌, ◌≤◌, ◌↔◌, length, get_or, take, slice_get, IsTrue, MatchBool};
+ghost use Rattle.std.specs.Prelude.{◌≡◌, ◌≢◌, ◌∷◌, ◌<◌, ◌≤◌, ◌↔◌, ℕ, length, get_or, take, slice_get, IsTrue, MatchBool, MatchOption};
 
-/// A journal's head.
-const HEAD: [u8; 9] = *b"\x01ADXJRNL1";
+/// The format of a new journal.
+pub const NEW_FORMAT: u8 = 2;
 
-/// The bytes of a new journal behind its first.
-const BEHIND: [u8; 9] = *b"ADXJRNL1\0";
+/// A journal's head, but for the digit of its format.
+const FRONT: [u8; 8] = *b"\x01ADXJRNL";
+
+/// The bytes behind the first of a journal of format 1 without payloads.
+const BEHIND_1: [u8; 9] = *b"ADXJRNL1\0";
+
+/// The same of format 2.
+const BEHIND_2: [u8; 9] = *b"ADXJRNL2\0";
 
 /// What a file is.
 #[derive(Clone, Copy, Debug, PartialEq, Eq)]
@@ -16,9 +22,9 @@ pub(crate) enum Start {
     Cleared,
     /// Unfinished, and its first byte is another one or missing.
     Uncleared,
-    /// A journal.
-    Journal,
-    /// None: this byte is another one than that of a journal's head, or missing.
+    /// A journal of this format.
+    Journal { format: u8 },
+    /// None: this byte is missing, or another one than in a journal's head.
     Other { at: u64 },
 }
 
@@ -32,11 +38,13 @@ pub(crate) fn start_of(first: &[u8]) -> Start
     if first.len() <= 1 || is_marked(first) {
         return Start::Uncleared;
     }
-    let at = head_len(first);
-    if at < 9 {
-        Start::Other { at: at as u64 }
-    } else {
-        Start::Journal
+    let at = front_len(first);
+    if at < 8 {
+        return Start::Other { at: at as u64 };
+    }
+    match format_of(first) {
+        Some(format) => Start::Journal { format },
+        None => Start::Other { at: 8 },
     }
 }
 
@@ -50,37 +58,59 @@ fn is_cleared(first: &[u8]) -> bool
     }
 }
 
-/// Whether these are the bytes of a new journal, but perhaps for the first.
+/// Whether these are the bytes of a journal without payloads, but perhaps for the first.
 fn is_marked(first: &[u8]) -> bool
     ensures { IsTrue result ↔ IsMarked first.now }
 {
+    let old = has_behind(first, &BEHIND_1);
+    let new = has_behind(first, &BEHIND_2);
+    old || new
+}
+
+/// Whether just these bytes stand behind the first.
+fn has_behind(first: &[u8], behind: &[u8; 9]) -> bool
+    ensures { IsTrue result ↔ ((gate : ℕ) × (first.now ≡ gate ∷ behind.now)) }
+{
     match first.split_first() {
-        Some((_, rest)) => rest == BEHIND.as_slice(),
+        Some((_, rest)) => rest == behind.as_slice(),
         None => false,
     }
 }
 
-/// With how many bytes of a journal's head these begin.
-fn head_len(first: &[u8]) -> usize
-    ensures within { result ≤ 9 }
-    ensures same { take result first.now ≡ take result head }
-    ensures differs { result < 9 → slice_get first.now result ≢ slice_get head result }
+/// With how many bytes in front of the digit of a journal's head these begin.
+fn front_len(first: &[u8]) -> usize
+    ensures within { result ≤ 8 }
+    ensures same { (format : ℕ) → take result first.now ≡ take result (head format) }
+    ensures differs { result < 8 → (format : ℕ) → slice_get first.now result ≢ slice_get (head format) result }
 {
-    for at in 0..9 {
+    for at in 0..8 {
         if differs(first, at) {
             return at;
         }
     }
-    9
+    8
 }
 
-/// Whether a byte of a journal's head is another one here, or missing.
+/// Whether a byte in front of the digit of a journal's head is another one here, or missing.
 fn differs(first: &[u8], at: usize) -> bool
-    requires { at < 9 }
-    ensures { MatchBool result (slice_get first.now at ≢ slice_get head at) ((at < length first.now) × (get_or first.now at 0 ≡ get_or head at 0)) }
+    requires { at < 8 }
+    ensures { MatchBool result ((format : ℕ) → slice_get first.now at ≢ slice_get (head format) at)
+        ((format : ℕ) → (at < length first.now) × (get_or first.now at 0 ≡ get_or (head format) at 0)) }
 {
     match first.get(at) {
-        Some(byte) => *byte != HEAD[at],
+        Some(byte) => *byte != FRONT[at],
         None => true,
+    }
+}
+
+/// The format whose digit stands in the head; None where none does.
+fn format_of(first: &[u8]) -> Option<u8>
+    ensures { MatchOption result ((format : ℕ) → IsFormat format → slice_get first.now 8 ≢ slice_get (head format) 8)
+        (λ format. IsFormat format × (slice_get first.now 8 ≡ slice_get (head format) 8)) }
+{
+    match first.get(8) {
+        Some(b'1') => Some(1),
+        Some(b'2') => Some(2),
+        _ => None,
     }
 }

@@ -1,5 +1,5 @@
 -- Notices of different awards: each is answered behind those before it as it is where the history stands.
-use Rattle.std.proofs.Common.{◌≡◌, ℕ, zero, suc, ◌+◌, ◌*◌, ◌<◌, ◌≤◌, List, [], ◌∷◌, ◌++◌, map, length, take, get_or, Bool, true, false, cond, eqb, refl, sym, ◌∙◌, ap, arith, Option, Some, None, IfSome, append_assoc, length-append}
+use Rattle.std.proofs.Common.{◌≡◌, ℕ, ◌+◌, ◌<◌, ◌≤◌, List, [], ◌∷◌, ◌++◌, map, length, take, get_or, Bool, true, false, cond, eqb, refl, sym, ◌∙◌, ap, arith, Option, Some, None, IfSome, append_assoc, length-append}
 use Rattle.std.specs.List.{AllByRecursion, flat_map, slice_get, sum_by}
 use Rattle.std.specs.Option.{option_map}
 use Rattle.std.proofs.lemmas.Bool.{cond-false, and_left, eq-eqb, false≢true, ne_eqb}
@@ -7,27 +7,29 @@ use Rattle.std.proofs.lemmas.List.{append-nil, map-append, take_more}
 use Rattle.std.proofs.lemmas.List.Sums.{sum_by-append, sum_by-cons}
 use Rattle.std.proofs.lemmas.Map.Keys.{IsDistinct-head, IsDistinct-tail}
 use Rattle.std.proofs.lemmas.Grind.{flat_map-append}
+use Rattle.std.proofs.lemmas.List.Concat.{flat_map-cons}
 use Rattle.notice_book.specs.declared.award.Award.{Award}
 use Rattle.notice_book.specs.declared.kind.NoticeKind.{NoticeKind}
 use Rattle.notice_book.specs.declared.ruling.Ruling.{Ruling}
 use Rattle.notice_book.specs.Rules.{noticed_award, ruling_of}
-use Rattle.day_entries.specs.Spelling.{IsNoAsk, entry_bytes, entries_bytes}
+use Rattle.day_entries.specs.Entries.{IsNoticeOrMoment, entry_bytes, entries_bytes}
 use Rattle.day_rules.specs.declared.answer.Answer.{Answer}
 use Rattle.day_rules.specs.declared.entry.Entry.{Entry}
 use Rattle.day_rules.specs.Books.{awards_of}
-use Rattle.day_rules.specs.Entries.{entry_of_notice}
+use Rattle.day_rules.specs.DayState.{IsDay}
 use Rattle.day_rules.specs.Laws.{Arrival, after_arrival, after_arrivals, arrival_reply}
 use Rattle.day_rules.specs.Legal.{IsLegal, MayFollow}
 use Rattle.day_rules.specs.Replies.{Reply, is_of_auction, known_reply, ruled_reply, with_entry}
 use Rattle.day_rules.specs.Terms.{Terms}
-use Rattle.day_rules.proofs.Following.{notice_entry, notice_follows}
+use Rattle.day_rules.proofs.Following.{notice_follows}
 use Rattle.day_rules.proofs.Lists.{get_numbered}
 use Rattle.day_rules.proofs.Ordering.{answer_kept, arrival_awards, arrival_legal, arrived, auction_kept}
 use Rattle.day_rules.proofs.Selling.{award_placed}
 use Rattle.notice_batches.specs.Batches.{AreApart, answers_in_turn, entries_in_turn, added_by}
 use Rattle.notice_batches.specs.Held.{held, record_size}
-use Rattle.notice_batches.proofs.NoAsks.{notice_no_ask}
+use Rattle.notice_batches.proofs.NoticeEntries.{notice_kind}
 use Rattle.notice_batches.proofs.Holding.{held_falls}
+use Rattle.day_entries.proofs.Lengths.{some_bytes}
 
 -- an arrival leaves the other awards as they are
 other_award : (history : List Entry) (y : Arrival) (n : ℕ) (o : Option Award) → eqb n y.award ≡ false → option_map (λ w. arrived history y (n, w)) o ≡ o
@@ -112,46 +114,37 @@ arrivals_legal terms history [] legal = legal
 arrivals_legal terms history (x ∷ xs) legal = arrivals_legal terms (after_arrival history x) xs (arrival_legal terms history x legal)
 
 -- their records take of what is held
-one_takes : (terms : Terms) (history : List Entry) (o : Option Entry) → IfSome o (MayFollow terms history) → IfSome o IsNoAsk → sum_by record_size (added_by o) + held (with_entry history o) ≤ held history
-one_takes terms history None follows none = omega arith
-one_takes terms history (Some e) follows none = omega (arith, held_falls terms history e follows none, sum_by-cons record_size e [])
+module _ (format : ℕ) where
+  one_takes : (terms : Terms) (history : List Entry) (o : Option Entry) → IsDay terms history → IfSome o (MayFollow terms history) → IfSome o IsNoticeOrMoment → sum_by (record_size format) (added_by o) + held format (with_entry history o) ≤ held format history
+  one_takes terms history None day follows kind = omega arith
+  one_takes terms history (Some e) day follows kind = omega (arith, held_falls format terms history e day follows kind, sum_by-cons (record_size format) e [])
 
-pub arrivals_take : (terms : Terms) (history : List Entry) (xs : List Arrival) → sum_by record_size (entries_in_turn history xs) + held (after_arrivals history xs) ≤ held history
-arrivals_take terms history [] = omega arith
-arrivals_take terms history (x ∷ xs) =
-    let r = arrival_reply history x in
-    let next = after_arrival history x in
-    omega (
-      arith,
-      arrivals_take terms next xs,
-      one_takes terms history r.entry (notice_follows terms history x.kind x.auction x.award) (notice_no_ask history x.kind x.auction x.award),
-      sum_by-append record_size (added_by r.entry) (entries_in_turn next xs),
-    )
+  pub arrivals_take : (terms : Terms) (history : List Entry) (xs : List Arrival) → IsDay terms history → sum_by (record_size format) (entries_in_turn history xs) + held format (after_arrivals history xs) ≤ held format history
+  arrivals_take terms history [] day = omega arith
+  arrivals_take terms history (x ∷ xs) day =
+      let r = arrival_reply history x in
+      let next = after_arrival history x in
+      omega (
+        arith,
+        arrivals_take terms next xs (record { terms_ok = day.terms_ok; legal = arrival_legal terms history x day.legal }),
+        one_takes terms history r.entry day (notice_follows terms history x.kind x.auction x.award) (notice_kind history x.kind x.auction x.award),
+        sum_by-append (record_size format) (added_by r.entry) (entries_in_turn next xs),
+      )
 
--- each has five bytes
-kind_bytes : (kind : NoticeKind) (n : ℕ) → length (entry_bytes (entry_of_notice kind n)) ≡ 5
-kind_bytes NoticeKind.Win n = omega arith
-kind_bytes NoticeKind.Bill n = omega arith
-kind_bytes NoticeKind.Loss n = omega arith
+  -- the bytes of entries are those of each
+  pub bytes_sum : (es : List Entry) → length (entries_bytes format es) ≡ sum_by (λ (e : Entry). length (entry_bytes format e)) es
+  bytes_sum [] = refl
+  bytes_sum (e ∷ es) =
+      omega (
+        arith,
+        bytes_sum es,
+        sum_by-cons (λ (x : Entry). length (entry_bytes format x)) e es,
+        ap length (flat_map-cons (entry_bytes format) e es),
+        length-append (entry_bytes format e) (entries_bytes format es),
+      )
 
-one_bytes_long : (o : Option Entry) → IfSome o (λ e. length (entry_bytes e) ≡ 5) → length (entries_bytes (added_by o)) ≡ 5 * length (added_by o)
-one_bytes_long None h = refl
-one_bytes_long (Some e) h = omega (arith, h, ap length (append-nil (entry_bytes e)))
-
-pub arrivals_bytes : (history : List Entry) (xs : List Arrival) → length (entries_bytes (entries_in_turn history xs)) ≡ 5 * length (entries_in_turn history xs)
-arrivals_bytes history [] = refl
-arrivals_bytes history (x ∷ xs) =
-    let entry = (arrival_reply history x).entry in
-    let rest = entries_in_turn (after_arrival history x) xs in
-    let one = one_bytes_long entry (notice_entry history x.kind x.auction x.award (λ e. length (entry_bytes e) ≡ 5) (λ c. kind_bytes x.kind x.award)) in
-    omega (
-      arith,
-      arrivals_bytes (after_arrival history x) xs,
-      one,
-      length-append (added_by entry) rest,
-      length-append (entries_bytes (added_by entry)) (entries_bytes rest),
-      ap length (flat_map-append entry_bytes (added_by entry) rest),
-    )
+bytes_some : (format : ℕ) (e : Entry) (es : List Entry) → 1 ≤ length (entries_bytes format (e ∷ es))
+bytes_some format e es = omega (arith, some_bytes format e, ap length (flat_map-cons (entry_bytes format) e es), length-append (entry_bytes format e) (entries_bytes format es))
 
 -- one notice more, where the history stands
 front_more : (xs : List Arrival) (i : ℕ) (x : Arrival) → i < length xs → x ≡ get_or xs i x → take (i + 1) xs ≡ take i xs ++ x ∷ []
@@ -174,25 +167,19 @@ entries_more history xs i x o low item is =
     ∙ (ap (λ (l : List Entry). entries_now history (take i xs) ++ l) (append-nil (g x))
     ∙ ap (λ (e : Option Entry). entries_now history (take i xs) ++ added_by e) (sym is)))
 
-pub bytes_more : (history : List Entry) (xs : List Arrival) (i : ℕ) (x : Arrival) (o : Option Entry) (old new : List ℕ) → i < length xs → x ≡ get_or xs i x → o ≡ (arrival_reply history x).entry → old ≡ entries_bytes (entries_now history (take i xs))
-    → new ≡ old ++ entries_bytes (added_by o) → new ≡ entries_bytes (entries_now history (take (i + 1) xs))
-bytes_more history xs i x o old new low item is so_far more =
+pub bytes_more : (format : ℕ) (history : List Entry) (xs : List Arrival) (i : ℕ) (x : Arrival) (o : Option Entry) (old new : List ℕ) → i < length xs → x ≡ get_or xs i x → o ≡ (arrival_reply history x).entry → old ≡ entries_bytes format (entries_now history (take i xs))
+    → new ≡ old ++ entries_bytes format (added_by o) → new ≡ entries_bytes format (entries_now history (take (i + 1) xs))
+bytes_more format history xs i x o old new low item is so_far more =
     more
-    ∙ (ap (λ (l : List ℕ). l ++ entries_bytes (added_by o)) so_far
-    ∙ (sym (flat_map-append entry_bytes (entries_now history (take i xs)) (added_by o)) ∙ ap entries_bytes (sym (entries_more history xs i x o low item is))))
+    ∙ (ap (λ (l : List ℕ). l ++ entries_bytes format (added_by o)) so_far
+    ∙ (sym (flat_map-append (entry_bytes format) (entries_now history (take i xs)) (added_by o)) ∙ ap (entries_bytes format) (sym (entries_more history xs i x o low item is))))
 
 -- no bytes are those of no entry
-pub none_added : (history : List Entry) (xs : List Arrival) (payload : List ℕ) → payload ≡ entries_bytes (entries_in_turn history xs) → length payload ≡ 0 → entries_in_turn history xs ≡ []
-none_added history xs payload is none = by (entries_in_turn history xs) (omega (arith, ap length is, arrivals_bytes history xs, none))
-  where
-    by : (es : List Entry) → length es ≡ 0 → es ≡ []
-    by [] few = refl
-    by (e ∷ es) few = absurd (omega (arith, few))
+pub none_added : (format : ℕ) (es : List Entry) (payload : List ℕ) → payload ≡ entries_bytes format es → length payload ≡ 0 → es ≡ []
+none_added format [] payload is none = refl
+none_added format (e ∷ es) payload is none = absurd (omega (arith, none, ap length is, bytes_some format e es))
 
 -- and some bytes are those of some
-pub some_added : (history : List Entry) (xs : List Arrival) (payload : List ℕ) → payload ≡ entries_bytes (entries_in_turn history xs) → (length payload ≡ 0 → ⊥) → 0 < length (entries_in_turn history xs)
-some_added history xs payload is some = by (length (entries_in_turn history xs)) (omega (arith, ap length is, arrivals_bytes history xs))
-  where
-    by : (n : ℕ) → length payload ≡ 5 * n → 0 < n
-    by zero same = absurd (some same)
-    by (suc n) same = omega arith
+pub some_added : (format : ℕ) (es : List Entry) (payload : List ℕ) → payload ≡ entries_bytes format es → (length payload ≡ 0 → ⊥) → 0 < length es
+some_added format [] payload is some = absurd (some (ap length is))
+some_added format (e ∷ es) payload is some = omega arith

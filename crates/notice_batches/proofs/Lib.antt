@@ -1,4 +1,5 @@
-pub mod NoAsks
+pub mod NoticeEntries
+pub mod Sizes
 pub mod Holding
 pub mod OpenAwards
 pub mod Calls

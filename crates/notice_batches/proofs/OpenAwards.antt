@@ -1,5 +1,5 @@
 -- How many awards have no end, counted one by one; and that what is held is small.
-use Rattle.std.proofs.Common.{◌≡◌, ℕ, suc, zero, ◌+◌, ◌^◌, ◌<◌, ◌≤◌, List, [], ◌∷◌, take, Bool, true, false, cond, refl, ◌∙◌, ap, arith, Option, Some, None}
+use Rattle.std.proofs.Common.{◌≡◌, ℕ, suc, zero, ◌+◌, ◌*◌, ◌^◌, ◌<◌, ◌≤◌, List, [], ◌∷◌, take, Bool, true, false, cond, eqb, refl, ◌∙◌, ap, arith, Option, Some, None, mul-le-mul_right}
 use Rattle.std.specs.List.{slice_get}
 use Rattle.std.proofs.lemmas.List.Sums.{count_by-le-length, sum_by-cons}
 use Rattle.notice_book.specs.declared.award.Award.{Award}
@@ -8,8 +8,9 @@ use Rattle.day_rules.specs.declared.entry.Entry.{Entry}
 use Rattle.day_rules.specs.Books.{awards_of, entries_to_come}
 use Rattle.day_rules.specs.DayState.{IsDay}
 use Rattle.day_rules.specs.Terms.{Terms}
-use Rattle.day_rules.proofs.Counting.{day_asks, day_awards, few_entries}
+use Rattle.day_rules.proofs.Counting.{day_asks, day_awards, day_changes, few_entries}
 use Rattle.notice_batches.specs.Held.{held, open_count, open_one}
+use Rattle.notice_batches.specs.declared.held.TheConstants.{EXPIRY_IN_GROUPS, EXPIRY_RECORD, NOTICE_IN_GROUPS, NOTICE_RECORD}
 
 abbrev open_by : Award → ℕ
 open_by w = cond (may_end w) 1 0
@@ -33,12 +34,20 @@ open_at_most (Some w) = one_at_most (may_end w)
 
 pub few_to_come : (terms : Terms) (history : List Entry) → IsDay terms history → entries_to_come (awards_of history) < 2 ^ 34
 few_to_come terms history day =
-    omega (arith, few_entries terms history day.legal, day_awards terms history day, day_asks terms history day)
+    omega (arith, few_entries terms history day.legal, day_awards terms history day, day_asks terms history day, day_changes terms history day)
 
 pub few_open : (terms : Terms) (history : List Entry) → IsDay terms history → open_count (awards_of history) < 2 ^ 34
 few_open terms history day = omega (arith, count_by-le-length may_end (awards_of history), day_awards terms history day)
 
+held_none : (grouped : Bool) → cond grouped EXPIRY_IN_GROUPS EXPIRY_RECORD * 0 + cond grouped NOTICE_IN_GROUPS NOTICE_RECORD * 0 ≡ 0
+held_none true = refl
+held_none false = refl
+
 -- without entries nothing is held
-pub none_held : held [] ≡ 0
+pub none_held : (format : ℕ) → held format [] ≡ 0
 unfolding awards_of
-none_held = refl
+none_held format = held_none (eqb format 2)
+
+-- so few bytes for each of so many
+pub few_times : (k n : ℕ) → k ≤ EXPIRY_IN_GROUPS → n < 2 ^ 34 → k * n < 2 ^ 38
+few_times k n few small = let most = mul-le-mul_right n few in omega (arith, most, small)

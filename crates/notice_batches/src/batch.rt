@@ -1,7 +1,7 @@
 //! Notices that a desk answers together, in one record.
 ghost use Rattle.std.specs.Prelude.{◌≡◌, ◌≤◌, ◌+◌, ◌==◌, ◌++◌, [], ◌∷◌, map, length, All, Bool, Some, None, MatchBool, IfOk, option_and_then, option_map, slice_get, vec_capacity};
 ghost use Rattle.std.specs.List.{flat_map, list_any};
-ghost use Rattle.day_entries.specs.Spelling.{Fits, entries_bytes};
+ghost use Rattle.day_entries.specs.Entries.{Fits, entries_bytes};
 ghost use Rattle.day_rules.specs.Books.{awards_of};
 ghost use Rattle.day_rules.specs.DayState.{IsDay};
 ghost use Rattle.day_rules.specs.Laws.{Arrival, after_arrivals, arrival_reply};
@@ -14,6 +14,7 @@ use adx_io::Frame;
 use adx_units::OutOfMemory;
 use day_machine::Day;
 use day_rules::Answer;
+use metered_day::MeteredDay;
 use notice_book::NoticeKind;
 use std::alloc::Global;
 use std::marker::Model;
@@ -116,24 +117,25 @@ impl Batch {
         self.ran = false;
     }
 
-    /// Answers each call by the day as it stands, and puts the bytes of their entries into the frame.
-    pub fn run(&mut self, day: &Day, frame: &mut Frame)
+    /// Answers each call by the day as it stands, and puts the bytes of their entries in a journal of this format into
+    /// the frame.
+    pub fn run(&mut self, format: u8, day: &Day, frame: &mut Frame)
         requires waits { self.old.answers ≡ None }
         requires frame { notice_room ≤ frame.old.spare + length frame.old.payload }
         ensures apart { AreApart self.old.calls }
         ensures answers { self.new ≡ record self.old { answers = Some (map (λ x. (arrival_reply day.now.history x).answer) self.old.calls) } }
-        ensures payload { frame.new.payload ≡ entries_bytes (flat_map (λ x. added_by (arrival_reply day.now.history x).entry) self.old.calls) }
-        ensures fits { All Fits (flat_map (λ x. added_by (arrival_reply day.now.history x).entry) self.old.calls) }
+        ensures payload { frame.new.payload ≡ entries_bytes format (flat_map (λ x. added_by (arrival_reply day.now.history x).entry) self.old.calls) }
+        ensures fits { All (Fits format) (flat_map (λ x. added_by (arrival_reply day.now.history x).entry) self.old.calls) }
         ensures frame { notice_room ≤ frame.new.spare + length frame.new.payload }
     {
         frame.clear();
-        plan_all(day, &self.calls, &mut self.answers, frame);
+        plan_all(format, day, &self.calls, &mut self.answers, frame);
         self.ran = true;
     }
 
     /// Adds the entries of the calls to the day, each behind those before it, and tells how many awards have no end then, where
     /// so many had none before.
-    pub fn commit(&self, day: &mut Day, without_end: u64) -> u64
+    pub fn commit(&self, day: &mut MeteredDay, without_end: u64) -> u64
         requires legal { IsDay day.old.terms day.old.history }
         requires counted { without_end ≡ open_count (awards_of day.old.history) }
         ensures terms { day.new.terms ≡ day.old.terms }

@@ -12,9 +12,6 @@ mod waiting;
 
 pub use batch::{BATCH_LIMIT, Batch};
 pub use held::{
-    EXPIRY_RECORD, GREATEST_SIZE, NOTICE_RECORD, NOTICE_ROOM, RECORD_OVERHEAD, held_by,
+    GREATEST_SIZE, NOTICE_ROOM, RECORD_OVERHEAD, expiry_record, held_by, notice_record,
     open_awards, open_behind,
 };
-
-#[cfg(test)]
-mod tests;

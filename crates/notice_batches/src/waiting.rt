@@ -1,7 +1,7 @@
 //! One notice that waits in a batch, and what a day makes of such notices.
 ghost use Rattle.std.specs.Prelude.{◌≡◌, ◌≤◌, ◌<◌, ◌+◌, ◌++◌, [], ◌∷◌, map, length, All, IfSome, MatchOption, vec_capacity, vec_len};
 ghost use Rattle.std.specs.List.{flat_map};
-ghost use Rattle.day_entries.specs.Spelling.{Fits, IsNoAsk, entries_bytes};
+ghost use Rattle.day_entries.specs.Entries.{Fits, IsNoticeOrMoment, entries_bytes};
 ghost use Rattle.day_rules.specs.Books.{awards_of};
 ghost use Rattle.day_rules.specs.DayState.{HasRoomFor, IsDay};
 ghost use Rattle.day_rules.specs.Laws.{Arrival, after_arrival, after_arrivals, arrival_reply};
@@ -17,6 +17,7 @@ use arrayvec::ArrayString;
 use day_entries::encode;
 use day_machine::Day;
 use day_rules::{Answer, Entry};
+use metered_day::MeteredDay;
 use notice_book::NoticeKind;
 use std::marker::Model;
 
@@ -64,32 +65,38 @@ impl Waiting {
         ensures entry { result.1 ≡ (arrival_reply day.now.history self.now).entry }
         ensures legal { IfSome result.1 (MayFollow day.now.terms day.now.history) }
         ensures room { IfSome result.1 (HasRoomFor day.now) }
-        ensures no_ask { IfSome result.1 IsNoAsk }
+        ensures kind { IfSome result.1 IsNoticeOrMoment }
     {
         day.plan_notice(self.kind, self.auction.as_str(), self.award)
     }
 }
 
 /// Puts the bytes of an entry behind those in a frame, where there is one, without memory.
-fn put_behind(frame: &mut Frame, entry: Option<Entry>)
-    requires no_ask { IfSome entry IsNoAsk }
-    requires room { 9 ≤ frame.old.spare }
-    ensures payload { frame.new.payload ≡ frame.old.payload ++ entries_bytes (added_by entry) }
-    ensures few { length frame.new.payload ≤ length frame.old.payload + 9 }
-    ensures fits { All Fits (added_by entry) }
+fn put_behind(format: u8, frame: &mut Frame, entry: Option<Entry>)
+    requires kind { IfSome entry IsNoticeOrMoment }
+    requires room { 11 ≤ frame.old.spare }
+    ensures payload { frame.new.payload ≡ frame.old.payload ++ entries_bytes format (added_by entry) }
+    ensures few { length frame.new.payload ≤ length frame.old.payload + 11 }
+    ensures fits { All (Fits format) (added_by entry) }
     ensures room { frame.old.spare + length frame.old.payload ≤ frame.new.spare + length frame.new.payload }
 {
     match entry {
         None => {}
         Some(entry) => {
-            let encoded = encode(&entry, frame);
+            let encoded = encode(&entry, format, frame);
             prove!(encoded.is_ok());
         }
     }
 }
 
 /// The answer of a day as it stands to each notice, and in the frame the bytes of all their entries.
-pub(crate) fn plan_all(day: &Day, calls: &[Waiting], answers: &mut Vec<Answer>, frame: &mut Frame)
+pub(crate) fn plan_all(
+    format: u8,
+    day: &Day,
+    calls: &[Waiting],
+    answers: &mut Vec<Answer>,
+    frame: &mut Frame,
+)
     requires few { length calls.now ≤ BATCH_LIMIT }
     requires none { answers.old.items ≡ [] }
     requires memory { BATCH_LIMIT ≤ vec_capacity answers.old }
@@ -97,30 +104,30 @@ pub(crate) fn plan_all(day: &Day, calls: &[Waiting], answers: &mut Vec<Answer>, 
     requires room { notice_room ≤ frame.old.spare }
     ensures answers { answers.new.items ≡ map (λ x. (arrival_reply day.now.history x).answer) calls.now }
     ensures memory { BATCH_LIMIT ≤ vec_capacity answers.new }
-    ensures payload { frame.new.payload ≡ entries_bytes (flat_map (λ x. added_by (arrival_reply day.now.history x).entry) calls.now) }
-    ensures fits { All Fits (flat_map (λ x. added_by (arrival_reply day.now.history x).entry) calls.now) }
+    ensures payload { frame.new.payload ≡ entries_bytes format (flat_map (λ x. added_by (arrival_reply day.now.history x).entry) calls.now) }
+    ensures fits { All (Fits format) (flat_map (λ x. added_by (arrival_reply day.now.history x).entry) calls.now) }
     ensures room { notice_room ≤ frame.new.spare + length frame.new.payload }
 {
     for call in calls {
         let (answer, entry) = call.plan(day);
         answers.push_reserved(answer);
-        put_behind(frame, entry);
+        put_behind(format, frame, entry);
     }
 }
 
 /// Adds to a day the entry of a notice, where its reply adds one, and tells how many awards have no end then.
-fn commit(day: &mut Day, without_end: u64, call: &Waiting) -> u64
+fn commit(day: &mut MeteredDay, without_end: u64, call: &Waiting) -> u64
     requires legal { IsDay day.old.terms day.old.history }
     requires counted { without_end ≡ open_count (awards_of day.old.history) }
     ensures terms { day.new.terms ≡ day.old.terms }
     ensures history { day.new.history ≡ after_arrival day.old.history call.now }
     ensures counted { result ≡ open_count (awards_of day.new.history) }
 {
-    let (_, entry) = call.plan(day);
+    let (_, entry) = call.plan(day.day());
     match entry {
         None => without_end,
         Some(entry) => {
-            let left = open_behind(day, without_end, &entry);
+            let left = open_behind(day.day(), without_end, &entry);
             day.commit(entry);
             left
         }
@@ -128,7 +135,7 @@ fn commit(day: &mut Day, without_end: u64, call: &Waiting) -> u64
 }
 
 /// Adds to a day the entries of notices in their order, and tells how many awards have no end then.
-pub(crate) fn commit_all(day: &mut Day, without_end: u64, calls: &[Waiting]) -> u64
+pub(crate) fn commit_all(day: &mut MeteredDay, without_end: u64, calls: &[Waiting]) -> u64
     requires legal { IsDay day.old.terms day.old.history }
     requires counted { without_end ≡ open_count (awards_of day.old.history) }
     ensures terms { day.new.terms ≡ day.old.terms }

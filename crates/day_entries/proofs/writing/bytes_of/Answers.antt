@@ -1,5 +1,11 @@
-use Rattle.std.proofs.Common.{arith}
+use Rattle.std.proofs.Common.{List, ℕ, subst}
+use Rattle.formats.specs.Formats.{Adds}
+use Rattle.formats.proofs.Laws.{adds_both, adds_made}
+use Rattle.day_entries.specs.Entries.{offer, offer_of_parts, parts_of_offer}
 use Rattle.day_entries.proofs.writing.bytes_of.Goals as goal
 
-pub returns-clause-fits : goal.returns-clause-fits
-returns-clause-fits c = record { imp = c.requires; campaign = omega arith; charge = omega arith; life = omega arith; reason = omega arith }
+pub returns : goal.returns
+unfolding offer
+returns c =
+    subst (λ (l : List ℕ). Adds (offer c.args.numbers) l c.put_short.new.out.items c.args.offer.now) c.new-bytes.ensures
+    (adds_made offer_of_parts parts_of_offer c.args.offer.now (adds_both c.put_small.ensures.added (adds_both c.put_long.ensures.added (adds_both c.put_wide.ensures.added (adds_both c.put_long-2.ensures.added c.put_short.ensures)))))

@@ -9,19 +9,19 @@ pub returns-in_err-make_cleared-in-Cleared-clause-kept : goal.returns-in_err-mak
 returns-in_err-make_cleared-in-Cleared-clause-kept g c l =
     let D = g.D.Disk in
     let each = looked_cleared c.args.look.size c.args.look.start (D.reads c.args.disk.now) (D.may_leave c.args.disk.now) c.in-Cleared.is l in
-    made_on D.may_leave D.moment D.left_since c.args.disk.now c.make_cleared.new.disk (λ f left. unfinished_cleared f (each f left)) (c.make_cleared.ensures.kept each)
+    made_on D.reads D.may_leave D.moment D.left_since c.args.disk.now c.make_cleared.new.disk l.durable (λ f left. unfinished_cleared f (each f left)) (c.make_cleared.ensures.kept each)
 
 pub returns-in_err-make_uncleared-in-Uncleared-clause-kept : goal.returns-in_err-make_uncleared-in-Uncleared-clause-kept
 returns-in_err-make_uncleared-in-Uncleared-clause-kept g c l =
     let D = g.D.Disk in
     let each = looked_uncleared c.args.look.size c.args.look.start (D.reads c.args.disk.now) (D.may_leave c.args.disk.now) c.in-Uncleared.is l in
-    made_on D.may_leave D.moment D.left_since c.args.disk.now c.make_uncleared.new.disk (λ f left. unfinished f (each f left)) (c.make_uncleared.ensures.kept each)
+    made_on D.reads D.may_leave D.moment D.left_since c.args.disk.now c.make_uncleared.new.disk l.durable (λ f left. unfinished f (each f left)) (c.make_uncleared.ensures.kept each)
 
 pub returns-in_ok-make_cleared-in-Cleared-clause-kept : goal.returns-in_ok-make_cleared-in-Cleared-clause-kept
 returns-in_ok-make_cleared-in-Cleared-clause-kept g c l =
     let D = g.D.Disk in
     let each = looked_cleared c.args.look.size c.args.look.start (D.reads c.args.disk.now) (D.may_leave c.args.disk.now) c.in-Cleared.is l in
-    made_on D.may_leave D.moment D.left_since c.args.disk.now c.make_cleared.new.disk (λ f left. unfinished_cleared f (each f left)) (c.make_cleared.ensures.kept each)
+    made_on D.reads D.may_leave D.moment D.left_since c.args.disk.now c.make_cleared.new.disk l.durable (λ f left. unfinished_cleared f (each f left)) (c.make_cleared.ensures.kept each)
 
 pub returns-in_ok-make_cleared-in-Cleared-clause-behind : goal.returns-in_ok-make_cleared-in-Cleared-clause-behind
 returns-in_ok-make_cleared-in-Cleared-clause-behind g c l file told =
@@ -33,7 +33,7 @@ pub returns-in_ok-make_uncleared-in-Uncleared-clause-kept : goal.returns-in_ok-m
 returns-in_ok-make_uncleared-in-Uncleared-clause-kept g c l =
     let D = g.D.Disk in
     let each = looked_uncleared c.args.look.size c.args.look.start (D.reads c.args.disk.now) (D.may_leave c.args.disk.now) c.in-Uncleared.is l in
-    made_on D.may_leave D.moment D.left_since c.args.disk.now c.make_uncleared.new.disk (λ f left. unfinished f (each f left)) (c.make_uncleared.ensures.kept each)
+    made_on D.reads D.may_leave D.moment D.left_since c.args.disk.now c.make_uncleared.new.disk l.durable (λ f left. unfinished f (each f left)) (c.make_uncleared.ensures.kept each)
 
 pub returns-in_ok-make_uncleared-in-Uncleared-clause-behind : goal.returns-in_ok-make_uncleared-in-Uncleared-clause-behind
 returns-in_ok-make_uncleared-in-Uncleared-clause-behind g c l file told =
@@ -44,7 +44,8 @@ returns-in_ok-make_uncleared-in-Uncleared-clause-behind g c l file told =
 pub returns-in-Journal-clause-behind : goal.returns-in-Journal-clause-behind
 returns-in-Journal-clause-behind g c l file told =
     let had = l.found file told in
-    record { length_is = had.0; front = subst (IsStart (take 11 file)) c.in-Journal.is had.1 }
+    let is = subst (IsStart (take 11 file)) c.in-Journal.is had.1 in
+    record { known = is.0; length_is = had.0; front = is.1 }
 
 pub returns-in-Other-clause-refused : goal.returns-in-Other-clause-refused
 returns-in-Other-clause-refused g c l file told =

@@ -4,6 +4,7 @@ use Rattle.notice_book.specs.AwardList.{due_count}
 use Rattle.day_rules.specs.declared.entry.Entry.{Entry}
 use Rattle.day_rules.specs.Books.{awards_of}
 use Rattle.day_rules.specs.Legal.{MayFollow}
+use Rattle.day_rules.proofs.Asking.{awards_budget}
 use Rattle.notice_batches.specs.Held.{open_count}
 use Rattle.notice_batches.proofs.Holding.{open_ask, open_bill, open_loss, open_moment, open_win}
 use Rattle.notice_batches.proofs.OpenAwards.{few_open}
@@ -54,3 +55,8 @@ pub returns-in-Expire : goal.returns-in-Expire
 returns-in-Expire c =
     subst (λ (e : Entry). c.args.without_end - c.from.result ≡ open_count (awards_of (c.args.day.now.history ++ e ∷ []))) (sym c.in-Expire.is)
     (omega (arith, c.requires.counted, c.from.ensures, c.due.ensures, ap (due_count c.in-Expire.now) c.awards.ensures, open_moment c.args.day.now.history c.in-Expire.now))
+
+pub returns-in-Budget : goal.returns-in-Budget
+returns-in-Budget c =
+    subst (λ (e : Entry). c.args.without_end ≡ open_count (awards_of (c.args.day.now.history ++ e ∷ []))) (sym c.in-Budget.is)
+    (omega (arith, c.requires.counted, ap open_count (awards_budget c.args.day.now.history c.in-Budget.campaign c.in-Budget.change c.in-Budget.budget)))

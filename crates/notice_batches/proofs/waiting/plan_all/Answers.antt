@@ -2,7 +2,7 @@
 use Rattle.std.proofs.Common.{sym, subst, arith}
 use Rattle.std.specs.Prelude.{All, List, take}
 use Rattle.std.proofs.lemmas.List.Elements.{All-append}
-use Rattle.day_entries.specs.Spelling.{Fits}
+use Rattle.day_entries.specs.Entries.{Fits}
 use Rattle.day_rules.specs.declared.entry.Entry.{Entry}
 use Rattle.notice_batches.specs.Batches.{added_by}
 use Rattle.notice_batches.proofs.InTurn.{answers_more, bytes_more, entries_more, entries_now}
@@ -21,8 +21,8 @@ loop-call-preserved c =
     record {
       answers = answers_more history xs i x c.loop-call.answers.items c.push_reserved.new.self.items c.plan-answer.result.0 low item inv.answers c.plan-answer.ensures.answer c.push_reserved.ensures.items;
       memory = omega (arith, inv.memory, c.push_reserved.ensures.capacity);
-      payload = bytes_more history xs i x o c.loop-call.frame.payload c.put_behind.new.frame.payload low item c.plan-answer.ensures.entry inv.payload c.put_behind.ensures.payload;
-      fits = subst (λ (es : List Entry). All Fits es) (sym (entries_more history xs i x o low item c.plan-answer.ensures.entry)) (All-append Fits (entries_now history (take i xs)) (added_by o) inv.fits c.put_behind.ensures.fits);
+      payload = bytes_more c.args.format history xs i x o c.loop-call.frame.payload c.put_behind.new.frame.payload low item c.plan-answer.ensures.entry inv.payload c.put_behind.ensures.payload;
+      fits = subst (λ (es : List Entry). All (Fits c.args.format) es) (sym (entries_more history xs i x o low item c.plan-answer.ensures.entry)) (All-append (Fits c.args.format) (entries_now history (take i xs)) (added_by o) inv.fits c.put_behind.ensures.fits);
       few = omega (arith, inv.few, c.put_behind.ensures.few);
       room = omega (arith, inv.room, c.put_behind.ensures.room);
     }

@@ -14,12 +14,12 @@ returns-then-count-bytes-clause-found g c file ps told b opens =
     let s = c.self.inside in
     let n = c.args.count in
     let p = c.keep.new.payload.items in
-    let was : StandsBehind file (record { window = s.window; size = s.size; closed = s.closed }) ps = subst (λ (o : OpeningState). StandsBehind file o ps) (sym c.self.view_is) b in
+    let was : StandsBehind file (record { format = s.format; window = s.window; size = s.size; closed = s.closed }) ps = subst (λ (o : OpeningState). StandsBehind file o ps) (sym c.self.view_is) b in
     let opened_here : IsPlace s.window.bytes (Place.Open n) = subst (λ (o : OpeningState). IsPlace o.window.bytes (Place.Open n)) (sym c.self.view_is) opens in
     let le : n + 5 ≤ length s.window.bytes = omega (arith, c.if-count-bytes.true, ap length c.bytes.ensures) in
     let is : p ≡ take n (drop 5 s.window.bytes) = c.in_ok-keep.ensures ∙ ap (λ (l : List ℕ). l ++ take n (drop 5 c.bytes-then-count-bytes.result.now)) c.requires.empty ∙ ap (λ (l : List ℕ). take n (drop 5 l)) c.bytes-then-count-bytes.ensures in
     let off : s.closed ≡ false = ap (λ (o : OpeningState). o.closed) c.self.view_is ∙ c.requires.closed in
-    subst (λ (w : WindowState). StandsBehind file (record { window = w; size = s.size; closed = s.closed }) (ps ++ p ∷ [])) (sym c.pass.ensures)
+    subst (λ (w : WindowState). StandsBehind file (record { format = s.format; window = w; size = s.size; closed = s.closed }) (ps ++ p ∷ [])) (sym c.pass.ensures)
     (near_more file s.window.at s.size n s.window.bytes s.closed ps p was opened_here le is off)
 
 pub returns-then-there-more-clause-refused : goal.returns-then-there-more-clause-refused
@@ -27,7 +27,7 @@ returns-then-there-more-clause-refused g c file ps told b opens =
     let s = c.self.inside in
     let n = c.args.count in
     let new = c.read_behind.new.out in
-    let was : StandsBehind file (record { window = s.window; size = s.size; closed = s.closed }) ps = subst (λ (o : OpeningState). StandsBehind file o ps) (sym c.self.view_is) b in
+    let was : StandsBehind file (record { format = s.format; window = s.window; size = s.size; closed = s.closed }) ps = subst (λ (o : OpeningState). StandsBehind file o ps) (sym c.self.view_is) b in
     let opened_here : IsPlace s.window.bytes (Place.Open n) = subst (λ (o : OpeningState). IsPlace o.window.bytes (Place.Open n)) (sym c.self.view_is) opens in
     let five : 5 ≤ length s.window.bytes = opened_here.1 in
     let len : ℕ = length s.window.bytes - 5 in
@@ -49,7 +49,7 @@ returns-clause-found g c file ps told b opens =
     let s = c.self.inside in
     let n = c.args.count in
     let new = c.read_behind.new.out in
-    let was : StandsBehind file (record { window = s.window; size = s.size; closed = s.closed }) ps = subst (λ (o : OpeningState). StandsBehind file o ps) (sym c.self.view_is) b in
+    let was : StandsBehind file (record { format = s.format; window = s.window; size = s.size; closed = s.closed }) ps = subst (λ (o : OpeningState). StandsBehind file o ps) (sym c.self.view_is) b in
     let opened_here : IsPlace s.window.bytes (Place.Open n) = subst (λ (o : OpeningState). IsPlace o.window.bytes (Place.Open n)) (sym c.self.view_is) opens in
     let five : 5 ≤ length s.window.bytes = opened_here.1 in
     let len : ℕ = length s.window.bytes - 5 in
@@ -71,5 +71,5 @@ returns-clause-found g c file ps told b opens =
     sym (take_all (len + c.in_ok-more.more) new (omega (arith, whole, size_new))) ∙ more.shown ∙ ap (λ (k : ℕ). take k (drop (s.window.at + 5) file)) whole ∙ ap (take n) (sym (drop-drop 5 s.window.at file)) in
     let p = take c.lengthen.new.payload.len (new ++ drop (length new) c.lengthen.new.payload.items) in
     let kept : p ≡ new = take_at new (drop (length new) c.lengthen.new.payload.items) c.lengthen.new.payload.len (omega (arith, c.read_behind.ensures.len, c.deref_mut.ensures.len)) in
-    subst (λ (w : WindowState). StandsBehind file (record { window = w; size = s.size; closed = s.closed }) (ps ++ p ∷ [])) (sym c.pass_all.ensures)
+    subst (λ (w : WindowState). StandsBehind file (record { format = s.format; window = w; size = s.size; closed = s.closed }) (ps ++ p ∷ [])) (sym c.pass_all.ensures)
     (far_more file s.window.at s.size n s.window.bytes s.closed ps p was opened_here long (kept ∙ is) off)

@@ -1,6 +1,0 @@
-use Rattle.std.proofs.Common.{◌≡◌, take}
-use Rattle.day_journal.specs.Places.{head}
-use Rattle.day_journal.proofs.start.head_len.Given as goal
-
-abbrev pub invariant-loop-at : goal.invariant-loop-at
-invariant-loop-at l = take l.at l.first ≡ take l.at head

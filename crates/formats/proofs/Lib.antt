@@ -1,0 +1,16 @@
+pub mod NumberedLines
+pub mod Digits
+pub mod Runs
+pub mod Decimals
+pub mod PartLaws
+pub mod Following
+pub mod OneLines
+pub mod Options
+pub mod Laws
+pub mod Lists
+pub mod Numbers
+pub mod Plain
+pub mod Documents
+pub mod Numbered
+pub mod SevenBits
+pub mod Lengths

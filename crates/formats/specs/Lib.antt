@@ -1,0 +1,5 @@
+pub mod Parts
+pub mod Following
+pub mod Formats
+pub mod Numbers
+pub mod Documents

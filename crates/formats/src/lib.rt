@@ -1,0 +1,20 @@
+//! Formats as values: which values have a spelling, which one, and what is read at the front of bytes.
+//!
+//! A document's grammar is one value of `specs/Formats`, made by combinators whose law comes with them: what
+//! is read is spelled so, and what is spelled so is read. The readers and writers here are of the smallest
+//! parts: words, whole numbers, lines, and numbers in bytes. Stands on `adx_units`.
+#![tactic(auto)]
+
+mod fixed;
+mod front;
+mod grouping;
+mod line;
+mod push;
+mod whole;
+
+pub use fixed::{byte, fixed_u16, fixed_u32, fixed_u64};
+pub use front::{behind, byte_behind, is_done};
+pub use grouping::{Groups, grouped, groups, push_groups};
+pub use line::first_line;
+pub use push::{push_number, push_part};
+pub use whole::{number, wide_number};
