@@ -1,6 +1,9 @@
 -- The ask that the answer to an ask speaks of.
-use Rattle.std.proofs.Common.{◌≡◌, ◌-◌, List, [], ◌∷◌, ◌++◌, length, Bool, true, false, cond, ltb, ◌∙◌, ap, subst, arith, Option, Some, None, IfSome}
-use Rattle.std.specs.List.{slice_get}
+use Rattle.std.proofs.Common.{◌≡◌, ◌-◌, List, [], ◌∷◌, ◌++◌, ℕ, take, length, Bool, true, false, cond, ltb, ◌∙◌, ap, subst, arith, Option, Some, None, IfSome}
+use Rattle.std.specs.List.{enumerate_from, slice_get}
+use Rattle.std.proofs.lemmas.List.{length-map}
+use Rattle.std.proofs.lemmas.List.FromFn.{length-enumerate_from}
+use Rattle.day_meters.specs.DayMeters.{step_of, steps_of}
 use Rattle.std.specs.Option.{ForSome}
 use Rattle.std.proofs.lemmas.Bool.{cond_both}
 use Rattle.std.proofs.lemmas.Option.{none-some, same_Some}
@@ -61,3 +64,7 @@ reply_speaks terms history a x e answer entry =
 pub for_some : (P : Entry → Type 0) (o : Option Entry) → IfSome o P → ForSome o P
 for_some P None h = λ e is. absurd (none-some e is)
 for_some P (Some x) h = λ e is. subst P (same_Some x e is) h
+
+-- a history has a step for each entry
+pub as_many_steps : (history : List Entry) → length (steps_of history) ≡ length history
+as_many_steps history = length-map (enumerate_from 0 history) (λ (p : ℕ × Entry). step_of (take p.0 history) p.1) ∙ length-enumerate_from 0 history

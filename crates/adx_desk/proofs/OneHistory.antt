@@ -6,26 +6,36 @@ use Rattle.std.proofs.lemmas.List.Elements.{All-cons, All-head, All-nil, All-tai
 use Rattle.adx_io.specs.Frames.{body}
 use Rattle.day_journal.specs.Places.{IsPayload, StandsFor, open_place, opened}
 use Rattle.day_journal.proofs.Apart.{stands_or_bad, stands_or_no_head}
-use Rattle.day_journal.proofs.Once.{same_payload, short, stands_once}
+use Rattle.day_journal.proofs.Once.{one_format, same_format, same_payload, short, stands_once}
 use Rattle.day_rules.specs.declared.entry.Entry.{Entry}
 use Rattle.adx_desk.specs.declared.fault.DeskFault.{DeskFault}
 use Rattle.notice_batches.specs.Held.{held}
+use Rattle.notice_batches.proofs.OpenAwards.{none_held}
 use Rattle.adx_desk.specs.Histories.{AreRecords, DeskTerms, IsHistoryOf, Spells}
 use Rattle.adx_desk.specs.Openings.{HasBadEntry, HasNoRoom, HasOtherRoster, IsRefusal, RefusesDesk}
 use Rattle.adx_desk.proofs.OneSpelling.{NextIn, RecordAt, next_in, record_at, same_records}
 use Rattle.adx_desk.proofs.OpenedDays.{none_spelled, some_payload}
 
--- payloads spell one history
-spells_once : (digest : List ℕ) (ps qs : List (List ℕ)) (a b : List Entry) → ps ≡ qs → Spells digest ps a → Spells digest qs b → a ≡ b
-spells_once digest ps qs a b same (inl p) q = p.1 ∙ sym (none_spelled digest qs b (sym same ∙ p.0) q)
-spells_once digest ps qs a b same (inr p) (inl q) = absurd (cc (same, p.1, q.0))
-spells_once digest ps qs a b same (inr p) (inr q) =
+-- payloads spell one history, in one format
+spells_once : (format : ℕ) (digest : List ℕ) (ps qs : List (List ℕ)) (a b : List Entry) → ps ≡ qs → Spells format digest ps a → Spells format digest qs b → a ≡ b
+spells_once format digest ps qs a b same (inl p) q = p.1 ∙ sym (none_spelled format digest qs b (sym same ∙ p.0) q)
+spells_once format digest ps qs a b same (inr p) (inl q) = absurd (cc (same, p.1, q.0))
+spells_once format digest ps qs a b same (inr p) (inr q) =
     let rests : p.0 ≡ q.0 = ap (drop 1) (sym p.1 ∙ (same ∙ q.1)) in
-    let records = same_records p.2.records q.2.records p.2.each q.2.each (sym p.2.spelled ∙ (rests ∙ q.2.spelled)) in
+    let records = same_records format p.2.records q.2.records p.2.each q.2.each (sym p.2.spelled ∙ (rests ∙ q.2.spelled)) in
     p.2.entries ∙ (ap (flat_map (λ (es : List Entry). es)) records ∙ sym q.2.entries)
 
+-- a file with these payloads spells one history: without payloads in any format, and else in one
+file_spells : (format other : ℕ) (digest file : List ℕ) (ps qs : List (List ℕ)) (a b : List Entry) → StandsFor format file ps → StandsFor other file qs → Spells format digest ps a → Spells other digest qs b → a ≡ b
+file_spells format other digest file ps qs a b p q (inl none) spells =
+    none.1 ∙ sym (none_spelled other digest qs b (sym (stands_once format other file ps qs p q) ∙ none.0) spells)
+file_spells format other digest file ps qs a b p q (inr some) spells =
+    let same = stands_once format other file ps qs p q in
+    let formats : format ≡ other = one_format format other file digest some.0 qs (subst (StandsFor format file) some.1 p) q in
+    spells_once other digest ps qs a b same (subst (λ (f : ℕ). Spells f digest ps a) formats (inr some)) spells
+
 pub one_history : (terms : DeskTerms) (file : List ℕ) (a b : List Entry) → IsHistoryOf terms file a → IsHistoryOf terms file b → a ≡ b
-one_history terms file a b p q = spells_once terms.digest p.payloads q.payloads a b (stands_once file p.payloads q.payloads p.stands q.stands) p.spells q.spells
+one_history terms file a b p q = file_spells p.format q.format terms.digest file p.payloads q.payloads a b p.stands q.stands p.spells q.spells
 
 -- the payloads of a file begin with those at its front
 places_front : (ps qs : List (List ℕ)) (x : List ℕ) (g : ℕ) (r : List ℕ) → All IsPayload ps → All IsPayload qs → g ≢ 1 → flat_map open_place ps ++ x ≡ flat_map open_place qs ++ g ∷ r → (more : List (List ℕ)) × (qs ≡ ps ++ more)
@@ -38,28 +48,33 @@ places_front (p ∷ ps) (q ∷ qs) x g r each_p each_q shut same =
     let rest = places_front ps qs x g r (All-tail IsPayload p ps each_p) (All-tail IsPayload q qs each_q) shut both.1 in
     (rest.0, λ i. sym both.0 i ∷ rest.1 i)
 
-file_front : (file p : List ℕ) (ps qs : List (List ℕ)) (rest : List ℕ) → All IsPayload (p ∷ ps) → file ≡ opened (p ∷ ps) ++ rest → StandsFor file qs → (more : List (List ℕ)) × (qs ≡ p ∷ ps ++ more)
-file_front file p ps qs rest each split (inl un) = absurd (some_payload file p ps rest (short file un.0) split)
-file_front file p ps qs rest each split (inr open_) =
-    places_front (p ∷ ps) qs rest open_.1.gate open_.1.rest each open_.0 open_.1.shut (ap (drop 9) (sym split ∙ open_.1.split))
+file_front : (format other : ℕ) (file p : List ℕ) (ps qs : List (List ℕ)) (rest : List ℕ) → All IsPayload (p ∷ ps) → file ≡ opened format (p ∷ ps) ++ rest → StandsFor other file qs
+    → ((more : List (List ℕ)) × (qs ≡ p ∷ ps ++ more)) × (format ≡ other)
+file_front format other file p ps qs rest each split (inl un) = absurd (some_payload format file p ps rest (short file un.0) split)
+file_front format other file p ps qs rest each split (inr open_) = (
+  places_front (p ∷ ps) qs rest open_.closed.gate open_.closed.rest each open_.each open_.closed.shut (ap (drop 9) (sym split ∙ open_.closed.split)),
+  same_format format other file (p ∷ ps) qs rest (open_.closed.gate ∷ open_.closed.rest) split open_.closed.split,
+)
 
-first_is : (digest : List ℕ) (first : List ℕ) (rest qs : List (List ℕ)) (history : List Entry) → qs ≡ first ∷ rest → Spells digest qs history → first ≡ digest
-first_is digest first rest qs history is (inl none) = absurd (cc (is, none.0))
-first_is digest first rest qs history is (inr some) = ap (λ (ps : List (List ℕ)). get_or ps 0 []) (sym is ∙ some.1)
+first_is : (format : ℕ) (digest : List ℕ) (first : List ℕ) (rest qs : List (List ℕ)) (history : List Entry) → qs ≡ first ∷ rest → Spells format digest qs history → first ≡ digest
+first_is format digest first rest qs history is (inl none) = absurd (cc (is, none.0))
+first_is format digest first rest qs history is (inr some) = ap (λ (ps : List (List ℕ)). get_or ps 0 []) (sym is ∙ some.1)
 
-rest_are : (digest : List ℕ) (rest qs : List (List ℕ)) (history : List Entry) → qs ≡ digest ∷ rest → Spells digest qs history → AreRecords rest history
-rest_are digest rest qs history is (inl none) = absurd (cc (is, none.0))
-rest_are digest rest qs history is (inr some) = subst (λ (ps : List (List ℕ)). AreRecords ps history) (ap (drop 1) (sym some.1 ∙ is)) some.2
+rest_are : (format : ℕ) (digest : List ℕ) (rest qs : List (List ℕ)) (history : List Entry) → qs ≡ digest ∷ rest → Spells format digest qs history → AreRecords format rest history
+rest_are format digest rest qs history is (inl none) = absurd (cc (is, none.0))
+rest_are format digest rest qs history is (inr some) = subst (λ (ps : List (List ℕ)). AreRecords format ps history) (ap (drop 1) (sym some.1 ∙ is)) some.2
 
 -- a payload whose entries aren't all legal stands in no legal history
 not_entry : (terms : DeskTerms) (file : List ℕ) (at : ℕ) (history : List Entry) → HasBadEntry terms file at → IsHistoryOf terms file history → ⊥
 not_entry terms file at history bad is =
     let before : List (List ℕ) = bad.payloads ++ bad.payload ∷ [] in
-    let front = file_front file terms.digest before is.payloads bad.rest bad.each bad.split is.stands in
-    let are : AreRecords (before ++ front.0) history = rest_are terms.digest (before ++ front.0) is.payloads history front.1 is.spells in
-    let at_ : RecordAt bad.records.records are.records bad.payload =
-    record_at bad.records.records are.records bad.payload front.0 bad.records.each are.each (sym are.spelled ∙ ap (λ (ps : List (List ℕ)). (ps ++ bad.payload ∷ []) ++ front.0) bad.records.spelled) in
-    let next : NextIn bad.front at_.entries bad.bytes = next_in bad.front at_.entries bad.bytes bad.fits at_.is_record.spelled bad.some (at_.bytes ∙ bad.behind) in
+    let both = file_front bad.format is.format file terms.digest before is.payloads bad.rest bad.each bad.split is.stands in
+    let front = both.0 in
+    let are : AreRecords bad.format (before ++ front.0) history =
+    subst (λ (f : ℕ). AreRecords f (before ++ front.0) history) (sym both.1) (rest_are is.format terms.digest (before ++ front.0) is.payloads history front.1 is.spells) in
+    let at_ : RecordAt bad.format bad.records.records are.records bad.payload =
+    record_at bad.format bad.records.records are.records bad.payload front.0 bad.records.each are.each (sym are.spelled ∙ ap (λ (ps : List (List ℕ)). (ps ++ bad.payload ∷ []) ++ front.0) bad.records.spelled) in
+    let next : NextIn bad.format bad.front at_.entries bad.bytes = next_in bad.format bad.front at_.entries bad.bytes bad.fits at_.is_record.spelled bad.some (at_.bytes ∙ bad.behind) in
     let id : List Entry → List Entry = λ es. es in
     let behind : List Entry = flat_map id at_.behind in
     let whole : history ≡ (bad.earlier ++ bad.front) ++ next.entry ∷ (next.behind ++ behind) =
@@ -74,20 +89,28 @@ not_entry terms file at history bad is =
 
 not_roster : (terms : DeskTerms) (file kept : List ℕ) (history : List Entry) → HasOtherRoster terms.digest file kept → IsHistoryOf terms file history → ⊥
 not_roster terms file kept history other is =
-    let front = file_front file other.first [] is.payloads other.rest (All-cons IsPayload other.first [] other.is_payload (All-nil IsPayload)) other.split is.stands in
-    other.other (first_is terms.digest other.first front.0 is.payloads history front.1 is.spells)
+    let front = (file_front other.format is.format file other.first [] is.payloads other.rest (All-cons IsPayload other.first [] other.is_payload (All-nil IsPayload)) other.split is.stands).0 in
+    other.other (first_is is.format terms.digest other.first front.0 is.payloads history front.1 is.spells)
 
+-- without payloads there is room in any format, and else the format is one
 not_room : (terms : DeskTerms) (file : List ℕ) (size : ℕ) (history : List Entry) → HasNoRoom terms file size → IsHistoryOf terms file history → ⊥
-not_room terms file size history full is =
-    let payloads = stands_once file full.payloads is.payloads full.stands is.stands in
-    let same = spells_once terms.digest full.payloads is.payloads full.history history payloads full.spells is.spells in
-    omega (arith, full.passes, is.room, ap (λ (ps : List (List ℕ)). length (opened ps)) payloads, ap held same)
+not_room terms file size history full is = by full.spells
+  where
+    by : Spells full.format terms.digest full.payloads full.history → ⊥
+    by (inl none) = omega (arith, full.passes, ap (λ (ps : List (List ℕ)). length (opened full.format ps)) none.0, ap (held full.format) none.1, none_held full.format)
+    by (inr some) =
+        let payloads = stands_once full.format is.format file full.payloads is.payloads full.stands is.stands in
+        let formats : full.format ≡ is.format = one_format full.format is.format file terms.digest some.0 is.payloads (subst (StandsFor full.format file) some.1 full.stands) is.stands in
+        let same = file_spells full.format is.format terms.digest file full.payloads is.payloads full.history history full.stands is.stands full.spells is.spells in
+        let lens = ap (λ (ps : List (List ℕ)). length (opened full.format ps)) payloads ∙ ap (λ (f : ℕ). length (opened f is.payloads)) formats in
+        let helds = ap (held full.format) same ∙ ap (λ (f : ℕ). held f history) formats in
+        omega (arith, full.passes, is.room, lens, helds)
 
 pub refused_or_stands : (terms : DeskTerms) (file : List ℕ) (why : DeskFault) (history : List Entry) → IsRefusal why → RefusesDesk terms file why → IsHistoryOf terms file history → ⊥
 refused_or_stands terms file DeskFault.DiskFault history refusal why is = refusal
 refused_or_stands terms file (DeskFault.JournalFull size) history refusal why is = not_room terms file size history why is
 refused_or_stands terms file (DeskFault.BadEntry at) history refusal why is = not_entry terms file at history why is
 refused_or_stands terms file (DeskFault.OtherRoster kept) history refusal why is = not_roster terms file kept history why is
-refused_or_stands terms file (DeskFault.NotAJournal at) history refusal why is = stands_or_no_head file is.payloads at is.stands why
-refused_or_stands terms file (DeskFault.BadLength at) history refusal why is = stands_or_bad file is.payloads at is.stands why.bad
+refused_or_stands terms file (DeskFault.NotAJournal at) history refusal why is = stands_or_no_head is.format file is.payloads at is.stands why
+refused_or_stands terms file (DeskFault.BadLength at) history refusal why is = stands_or_bad is.format file is.payloads at is.stands why.bad
 refused_or_stands terms file DeskFault.OutOfMemory history refusal why is = refusal

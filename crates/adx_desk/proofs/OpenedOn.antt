@@ -1,18 +1,18 @@
 -- What opening a desk leaves, by what its journal's opening left first.
 use Rattle.std.proofs.Common.{◌≡◌, inl, inr, ℕ, List, [], Option, Some, subst}
 use Rattle.adx_io.specs.Disks.{AsRead, LeavesOnly}
-use Rattle.day_journal.specs.declared.fault.JournalFault.{JournalFault}
+use Rattle.day_journal.specs.declared.fault.OpeningFault.{OpeningFault}
 use Rattle.day_journal.specs.Faults.{Refuses}
 use Rattle.day_journal.specs.Openings.{OpeningState, StandsBehind}
 use Rattle.day_journal.specs.Places.{new_file}
-use Rattle.day_journal.specs.Starts.{KeptOrMade, StandsAsOneOf as StandsAsOnePayloads}
+use Rattle.day_journal.specs.Starts.{KeptOrMade, StandsAsRead as StandsAsPayloads}
 use Rattle.day_journal.proofs.Moments.{started}
 use Rattle.day_rules.specs.declared.entry.Entry.{Entry}
 use Rattle.adx_desk.specs.declared.fault.DeskFault.{DeskFault}
 use Rattle.adx_desk.specs.Desks.{DeskKeeps, DeskState}
 use Rattle.adx_desk.specs.Histories.{DeskTerms, IsHistoryOf, SameHistories}
 use Rattle.adx_desk.specs.Opened.{GivesUp, Opens}
-use Rattle.adx_desk.specs.Openings.{IsRefusal, RefusesDesk, StandsAsOneOf, fault_of}
+use Rattle.adx_desk.specs.Openings.{IsRefusal, RefusesDesk, StandsAsRead, fault_of}
 use Rattle.adx_desk.proofs.OpenedDays.{begun_moments, head_refused, head_untouched, history_before, opened_moments, refused_before, untouched_before}
 
 module _ {D : Type 0} (reads : D → Option (List ℕ)) (may_leave : D → List ℕ → Type 0) (moment : D → ℕ) (left_since : D → ℕ → List ℕ → Type 0) (terms : DeskTerms) where
@@ -25,8 +25,7 @@ module _ {D : Type 0} (reads : D → Option (List ℕ)) (may_leave : D → List 
     pub reading : (file : List ℕ) → reads old ≡ Some file → KeptOrMade file (reads mid)
     pub behind : (f : List ℕ) → reads mid ≡ Some f → StandsBehind f opening []
     pub durable : AsRead (reads mid) (may_leave mid)
-    pub run : LeavesOnly moment left_since old mid (StandsAsOnePayloads (may_leave old))
-    pub left : (f : List ℕ) → reads mid ≡ Some f → left_since mid (moment old) f
+    pub run : LeavesOnly moment left_since old mid (StandsAsPayloads (may_leave old) (reads old))
 
   -- the file at that moment
   pub record Found (file : List ℕ) (mid : D) (P : List ℕ → Type 0) : Type 0 where
@@ -45,10 +44,10 @@ module _ {D : Type 0} (reads : D → Option (List ℕ)) (may_leave : D → List 
   found old mid opening P b at_mid file told = found_by file old mid opening P b at_mid (b.reading file told)
 
   run_on : (old mid new : D) (opening : OpeningState) → Began old mid opening → AtMid mid opening (λ f. LeavesOnly moment left_since mid new (SameHistories terms f))
-      → (file : List ℕ) → reads old ≡ Some file → LeavesOnly moment left_since old new (StandsAsOneOf terms (may_leave old))
+      → (file : List ℕ) → reads old ≡ Some file → LeavesOnly moment left_since old new (StandsAsRead terms (may_leave old) (reads old))
   run_on old mid new opening b moments file told =
       let at = found old mid opening (λ f. LeavesOnly moment left_since mid new (SameHistories terms f)) b moments file told in
-      opened_moments may_leave moment left_since terms old mid new at.mid_file b.run (b.left at.mid_file at.told) at.holds
+      opened_moments reads may_leave moment left_since terms old mid new file at.mid_file b.run told at.kept at.holds
 
   pub opens_on : (old mid new : D) (opening : OpeningState) (desk : DeskState) → Began old mid opening → desk.terms ≡ terms → desk.faults ≡ 0
       → AtMid mid opening (λ f. IsHistoryOf terms f desk.history) → AtMid mid opening (λ f. (tail : List Entry) → DeskKeeps (may_leave new) desk tail)
@@ -78,13 +77,13 @@ module _ {D : Type 0} (reads : D → Option (List ℕ)) (may_leave : D → List 
   }
 
   -- where the journal isn't opened
-  pub gives_up_first : (old new : D) (why : JournalFault) → ((at : ℕ) → why ≡ JournalFault.BadLength at → ⊥) → ((at : ℕ) → why ≡ JournalFault.NotAJournal at → reads new ≡ reads old)
-      → ((file : List ℕ) → reads old ≡ Some file → Refuses file why) → LeavesOnly moment left_since old new (StandsAsOnePayloads (may_leave old))
+  pub gives_up_first : (old new : D) (why : OpeningFault) → ((at : ℕ) → why ≡ OpeningFault.BadLength at → ⊥) → ((at : ℕ) → why ≡ OpeningFault.NotAJournal at → reads new ≡ reads old)
+      → ((file : List ℕ) → reads old ≡ Some file → Refuses file why) → LeavesOnly moment left_since old new (StandsAsPayloads (may_leave old) (reads old))
       → GivesUp reads may_leave moment left_since terms old new (fault_of why)
   gives_up_first old new why deny same refuses run = record {
     refused = λ file told. head_refused terms file why deny (refuses file told);
     untouched = λ file told is. head_untouched (reads old) (reads new) file why deny same (refuses file told) told is;
-    any_moment = λ file told. begun_moments may_leave moment left_since terms old new run;
+    any_moment = λ file told. begun_moments reads may_leave moment left_since terms old new run;
   }
 
   -- where memory is wanting before the disk is read
@@ -92,5 +91,5 @@ module _ {D : Type 0} (reads : D → Option (List ℕ)) (may_leave : D → List 
   gives_up_nothing disk now = record {
     refused = λ file told. tt;
     untouched = λ file told is. absurd is;
-    any_moment = λ file told. started moment left_since disk (StandsAsOneOf terms (may_leave disk)) (λ c left. (c, now c left, λ history is. is));
+    any_moment = λ file told. started moment left_since disk (StandsAsRead terms (may_leave disk) (reads disk)) (λ c left. inl (now c left));
   }

@@ -8,7 +8,7 @@ use Rattle.day_rules.specs.Legal.{MayFollow}
 use Rattle.day_rules.specs.Terms.{Terms}
 use Rattle.day_asks.specs.KeptTexts.{IsShort}
 use Rattle.day_asks.proofs.Texts.{few_texts, settled_short}
-use Rattle.day_entries.specs.Spelling.{HasShortTexts, IsSpelled}
+use Rattle.day_entries.specs.Entries.{HasShortTexts, IsSpelled}
 
 offer_imp : (campaigns imps : ℕ) (o : Offer) → imps ≤ 16 → IsOffer campaigns imps o → o.imp < 2 ^ 8
 offer_imp campaigns imps o few (inl w) = let h = w.imp in omega arith
@@ -43,3 +43,4 @@ spelled terms history (Entry.Win n) follows = tt
 spelled terms history (Entry.Bill n) follows = tt
 spelled terms history (Entry.Loss n) follows = tt
 spelled terms history (Entry.Expire now) follows = tt
+spelled terms history (Entry.Budget campaign change budget) follows = tt

@@ -1,10 +1,10 @@
 -- What a contract sees of a desk, and what its disk keeps of the history. This project's own.
-use Rattle.std.specs.Prelude.{ℕ, List, [], ◌∷◌, ◌++◌, IsTrue}
+use Rattle.std.specs.Prelude.{ℕ, Bool, List, [], ◌∷◌, ◌++◌, IsTrue}
 use Rattle.day_journal.specs.Tails.{JournalState, Keeps}
 use Rattle.day_rules.specs.declared.entry.Entry.{Entry}
 use Rattle.day_rules.specs.Legal.{IsLegal}
-use Rattle.adx_desk.specs.Histories.{AreRecords, DeskTerms, HasRoom, IsRecord}
-use Rattle.day_entries.specs.Spelling.{entries_bytes}
+use Rattle.adx_desk.specs.Histories.{AreRecords, DeskTerms, HasRoom, IsRecord, WithOrWithout}
+use Rattle.day_entries.specs.Entries.{entries_bytes}
 
 -- a desk but for its disk: what it was opened with, what happened, its open journal, and how many of its calls
 -- answered a fault of the disk
@@ -14,24 +14,37 @@ pub record DeskState : Type 0 where
   pub journal : JournalState
   pub faults : ℕ
 
--- a desk and its disk, and what the disk's count was after the opening
+-- what is known from a desk's opening: what the disk's count was then, and whether the disk told what it read
+pub record AtOpening : Type 0 where
+  pub count : ℕ
+  pub tells : Bool
+
+-- a desk and its disk, and what is known from the opening
 pub record OnDisk (D : Type 0) : Type 0 where
   pub desk : DeskState
   pub disk : D
-  pub since : ℕ
+  pub since : AtOpening
 
--- the record that may stand behind these payloads of the history
-pub record MayStandBehind (terms : DeskTerms) (payloads : List (List ℕ)) (history tail : List Entry) : Type 0 where
-  pub is_record : IsRecord tail
+-- the record that may stand behind these payloads of the history, in a journal of a format
+pub record MayStandBehind (terms : DeskTerms) (format : ℕ) (payloads : List (List ℕ)) (history tail : List Entry) : Type 0 where
+  pub is_record : IsRecord format tail
   pub legal : IsLegal terms.day (history ++ tail)
-  pub room : HasRoom (payloads ++ entries_bytes tail ∷ []) (history ++ tail)
+  pub room : HasRoom format (payloads ++ entries_bytes format tail ∷ []) (history ++ tail)
 
 -- The desk keeps its history on a disk with these images: each stands for the history or, where a record is in
 -- doubt, for the history or for it and this tail. A desk that isn't in doubt keeps its history with any tail.
 pub record DeskKeeps (images : List ℕ → Type 0) (desk : DeskState) (tail : List Entry) : Type 0 where
   pub rest : List (List ℕ)
-  pub kept : Keeps images desk.journal (desk.terms.digest ∷ rest) (entries_bytes tail)
-  pub records : AreRecords rest desk.history
+  pub kept : Keeps images desk.journal (desk.terms.digest ∷ rest) (entries_bytes desk.journal.format tail)
+  pub records : AreRecords desk.journal.format rest desk.history
   pub legal : IsLegal desk.terms.day desk.history
-  pub room : HasRoom (desk.terms.digest ∷ rest) desk.history
-  pub doubted : IsTrue desk.journal.in_doubt → MayStandBehind desk.terms (desk.terms.digest ∷ rest) desk.history tail
+  pub room : HasRoom desk.journal.format (desk.terms.digest ∷ rest) desk.history
+  pub doubted : IsTrue desk.journal.in_doubt → MayStandBehind desk.terms desk.journal.format (desk.terms.digest ∷ rest) desk.history tail
+
+-- the desk keeps its history on a disk with these images, with some record in doubt or none
+abbrev pub DeskKeepsSome : (List ℕ → Type 0) → DeskState → Type 0
+DeskKeepsSome images desk = (tail : List Entry) × DeskKeeps images desk tail
+
+-- each image stands for the history, or for it and the entries of one record
+abbrev pub StandsOnDisk : (List ℕ → Type 0) → DeskState → Type 0
+StandsOnDisk images desk = (tail : List Entry) × ((file : List ℕ) → images file → WithOrWithout desk.terms desk.history tail file)

@@ -11,7 +11,8 @@ use Rattle.notice_batches.specs.Held.{held, record_size}
 
 -- what the journal comes to with the record of an entry and with all that is held then
 abbrev pub size_with : DeskState → Entry → ℕ
-size_with desk e = size_of desk.journal + record_size e + held (desk.history ++ e ∷ [])
+size_with desk e =
+    size_of desk.journal + record_size desk.journal.format e + held desk.journal.format (desk.history ++ e ∷ [])
 
 -- there is room for the entry that is added, if one is
 abbrev pub FitsJournal : DeskState → Option Entry → Type 0
@@ -49,7 +50,7 @@ EndsNotice before now old new (Err (DeskFault.NotAJournal at)) = ⊥
 EndsNotice before now old new (Err (DeskFault.BadLength at)) = ⊥
 EndsNotice before now old new (Err DeskFault.OutOfMemory) = ⊥
 
--- How an ask ends whose reply has that entry, if any: the journal is full exactly where the record passes it, and
+-- How an ask or a change of a budget ends whose reply has that entry, if any: the journal is full exactly where the record passes it, and
 -- memory may be wanting before anything was done.
 abbrev pub EndsAsk : {T : Type 0} → (before now : ℕ) (old new : DeskState) (entry : Option Entry) → Result T DeskFault → Type 0
 EndsAsk before now old new entry (Ok done) = FitsJournal old entry × NoFault before now old new

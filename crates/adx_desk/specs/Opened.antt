@@ -5,7 +5,7 @@ use Rattle.day_rules.specs.declared.entry.Entry.{Entry}
 use Rattle.adx_desk.specs.declared.fault.DeskFault.{DeskFault}
 use Rattle.adx_desk.specs.Desks.{DeskKeeps, DeskState}
 use Rattle.adx_desk.specs.Histories.{DeskTerms, IsHistoryOf}
-use Rattle.adx_desk.specs.Openings.{IsRefusal, RefusesDesk, StandsAsOneOf}
+use Rattle.adx_desk.specs.Openings.{IsRefusal, RefusesDesk, StandsAsRead}
 
 -- A desk that was opened. Where the disk tells what it reads:
 pub record Opens {D : Type 0} (reads : D → Option (List ℕ)) (may_leave : D → List ℕ → Type 0) (moment : D → ℕ) (left_since : D → ℕ → List ℕ → Type 0) (terms : DeskTerms) (old new : D) (desk : DeskState) : Type 0 where
@@ -15,8 +15,9 @@ pub record Opens {D : Type 0} (reads : D → Option (List ℕ)) (may_leave : D �
   pub history : (file : List ℕ) → reads old ≡ Some file → IsHistoryOf terms file desk.history
   -- which every image stands for now, with no record in doubt,
   pub keeps : (file : List ℕ) → reads old ≡ Some file → (tail : List Entry) → DeskKeeps (may_leave new) desk tail
-  -- and a crash at any moment of the call leaves the history of one that a crash before it might have left.
-  pub any_moment : (file : List ℕ) → reads old ≡ Some file → LeavesOnly moment left_since old new (StandsAsOneOf terms (may_leave old))
+  -- and a crash at any moment of the call leaves what a crash before it might have left, or a file that stands for all that
+  -- what was read stood for.
+  pub any_moment : (file : List ℕ) → reads old ≡ Some file → LeavesOnly moment left_since old new (StandsAsRead terms (may_leave old) (reads old))
 
 -- An opening that gave up. Where the disk tells what it reads:
 pub record GivesUp {D : Type 0} (reads : D → Option (List ℕ)) (may_leave : D → List ℕ → Type 0) (moment : D → ℕ) (left_since : D → ℕ → List ℕ → Type 0) (terms : DeskTerms) (old new : D) (why : DeskFault) : Type 0 where
@@ -24,5 +25,6 @@ pub record GivesUp {D : Type 0} (reads : D → Option (List ℕ)) (may_leave : D
   pub refused : (file : List ℕ) → reads old ≡ Some file → RefusesDesk terms file why
   -- and leaves the file as it reads;
   pub untouched : (file : List ℕ) → reads old ≡ Some file → IsRefusal why → reads new ≡ Some file
-  -- a crash at any moment of the call leaves the history of one that a crash before it might have left.
-  pub any_moment : (file : List ℕ) → reads old ≡ Some file → LeavesOnly moment left_since old new (StandsAsOneOf terms (may_leave old))
+  -- a crash at any moment of the call leaves what a crash before it might have left, or a file that stands for all that
+  -- what was read stood for.
+  pub any_moment : (file : List ℕ) → reads old ≡ Some file → LeavesOnly moment left_since old new (StandsAsRead terms (may_leave old) (reads old))

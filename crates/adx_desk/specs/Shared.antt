@@ -1,13 +1,63 @@
 -- A desk that threads share. This project's own.
-use Rattle.std.specs.Prelude.{ℕ, Bool, true, false, Result, Ok, Err}
+use Rattle.std.specs.Prelude.{◌≡◌, ◌+◌, ◌<◌, Bool, true, false, List, [], ◌∷◌, ◌++◌, length, Option, Some, None, Result, Ok, Err}
 use Rattle.day_rules.specs.declared.answer.Answer.{Answer}
+use Rattle.day_journal.specs.Faults.{greatest_size}
+use Rattle.day_rules.specs.declared.entry.Entry.{Entry}
+use Rattle.day_rules.specs.Replies.{Call as DayCall, Reply, ask, notice, tick, set_budget, reply}
+use Rattle.day_rules.specs.Entries.{change_of}
+use Rattle.day_rules.specs.Runs.{IsCall}
 use Rattle.adx_desk.specs.declared.fault.DeskFault.{DeskFault}
 use Rattle.adx_desk.specs.declared.shared.OpenedWith.{OpenedWith}
-use Rattle.adx_desk.specs.Histories.{DeskTerms}
+use Rattle.adx_desk.specs.declared.turn.Call.{Call}
+use Rattle.adx_desk.specs.declared.turn.Turn.{Turn}
+use Rattle.adx_desk.specs.Desks.{AtOpening}
+use Rattle.adx_desk.specs.Histories.{DeskTerms, longest_size}
+use Rattle.notice_batches.specs.Held.{longest_held, longest_record}
 
--- what a desk was opened with, by its terms and what the disk's count was after the opening
-abbrev pub opened_with : DeskTerms → ℕ → OpenedWith
-opened_with terms count = record { budgets = terms.day.budgets; limits = terms.day.limits; digest = terms.digest; faults = count }
+-- what a desk was opened with, by its terms and what is known from the opening
+abbrev pub opened_with : DeskTerms → AtOpening → OpenedWith
+opened_with terms since = record { budgets = terms.day.budgets; limits = terms.day.limits; digest = terms.digest; faults = since.count; tells = since.tells }
+
+-- the terms of a desk that was opened with this
+abbrev pub terms_in : OpenedWith → DeskTerms
+terms_in opened = record { day = record { budgets = opened.budgets; limits = opened.limits }; digest = opened.digest }
+
+-- a call as the rules of a day have it
+abbrev pub call_of : Call → DayCall
+call_of (Call.Ask a) = ask a
+call_of (Call.Notice kind auction award) = notice kind auction award
+call_of (Call.Tick now) = tick now
+call_of (Call.Budget campaign change budget) = set_budget (change_of campaign change budget)
+
+-- a call that takes memory, and room in the journal that isn't held for it
+abbrev pub TakesRoom : Call → Type 0
+TakesRoom (Call.Ask a) = Unit {0}
+TakesRoom (Call.Notice kind auction award) = ⊥
+TakesRoom (Call.Tick now) = ⊥
+TakesRoom (Call.Budget campaign change budget) = Unit {0}
+
+-- there is an entry to add, and the longest journal of the history comes with its record, and with what is held then,
+-- to more than a journal takes
+abbrev pub MayBeFull : DeskTerms → List Entry → Option Entry → Type 0
+MayBeFull terms history None = ⊥
+MayBeFull terms history (Some e) = greatest_size < longest_size terms history + longest_record e + longest_held (history ++ e ∷ [])
+
+-- How a call with this reply ends, and the entry that it adds: it is done, with the reply's answer and entry, or it is
+-- given up without an entry. Any call may meet a fault of the disk; others have their causes.
+abbrev pub EndsAs : DeskTerms → List Entry → Call → Reply → Result Answer DeskFault → Option Entry → Type 0
+EndsAs terms history call r (Ok answer) entry = (answer ≡ r.answer) × (entry ≡ r.entry)
+EndsAs terms history call r (Err DeskFault.DiskFault) entry = entry ≡ None
+EndsAs terms history call r (Err (DeskFault.JournalFull size)) entry = (entry ≡ None) × TakesRoom call × MayBeFull terms history r.entry
+EndsAs terms history call r (Err (DeskFault.BadEntry at)) entry = ⊥
+EndsAs terms history call r (Err (DeskFault.OtherRoster kept)) entry = ⊥
+EndsAs terms history call r (Err (DeskFault.NotAJournal at)) entry = ⊥
+EndsAs terms history call r (Err (DeskFault.BadLength at)) entry = ⊥
+EndsAs terms history call r (Err DeskFault.OutOfMemory) entry = (entry ≡ None) × TakesRoom call
+
+-- the turn is one of a desk with these terms, where it is called at this history
+pub record IsTurnAt (terms : DeskTerms) (history : List Entry) (turn : Turn) : Type 0 where
+  pub takes : IsCall (length terms.day.budgets) (call_of turn.call)
+  pub ends : EndsAs terms history turn.call (reply terms.day history (call_of turn.call)) turn.ended turn.entry
 
 -- the disk's fault gave the call up
 abbrev pub is_disk_fault : Result Answer DeskFault → Bool

@@ -22,6 +22,27 @@ pub(crate) fn copy_in(alloc: Global, entry: &Entry) -> Result<Option<Ask>, OutOf
         Entry::Bill { .. } => Ok(None),
         Entry::Loss { .. } => Ok(None),
         Entry::Expire { .. } => Ok(None),
+        Entry::Budget { .. } => Ok(None),
+    }
+}
+
+/// The entry with the copy of its ask in the ask's place, and the ask that it had. The two are equal: what changes is
+/// whose memory the entry holds.
+pub(crate) fn swapped(entry: Entry, copy: Option<Ask>) -> (Entry, Option<Ask>)
+    requires { copy ≡ asked entry }
+    ensures kept { result.0 ≡ entry }
+    ensures ask { result.1 ≡ asked entry }
+{
+    match copy {
+        Some(exact) => match entry {
+            Entry::Ask(planned) => (Entry::Ask(exact), Some(planned)),
+            Entry::Win { .. } => (entry, Some(exact)),
+            Entry::Bill { .. } => (entry, Some(exact)),
+            Entry::Loss { .. } => (entry, Some(exact)),
+            Entry::Expire { .. } => (entry, Some(exact)),
+            Entry::Budget { .. } => (entry, Some(exact)),
+        },
+        None => (entry, None),
     }
 }
 
@@ -56,5 +77,10 @@ pub(crate) fn copy_for(
             given: _,
         } => Ok(None),
         Answer::DayFull { which: _, count: _ } => Ok(None),
+        Answer::Budgeted => Ok(None),
+        Answer::BudgetReused { kept: _ } => Ok(None),
+        Answer::Late { last: _ } => Ok(None),
+        Answer::BelowCommitted { committed: _ } => Ok(None),
+        Answer::NoCampaign => Ok(None),
     }
 }

@@ -1,13 +1,18 @@
 //! The desk: a serving day whose history a journal keeps on a disk.
-ghost use Rattle.std.specs.Prelude.{◌≡◌, ◌+◌, ◌*◌, ◌≤◌, ◌<◌, ◌^◌, [], length, drop, IfOk, IfErr, OnOk, OnErr, Some, None};
+ghost use Rattle.std.specs.Prelude.{◌≡◌, ◌+◌, ◌*◌, ◌≤◌, ◌<◌, ◌^◌, true, is_some, [], length, drop, IfOk, IfErr, OnOk, OnErr, Some, None};
 ghost use Rattle.day_journal.specs.Faults.{greatest_size};
 ghost use Rattle.day_journal.specs.Tails.{size_of};
 ghost use Rattle.day_rules.specs.Asks.{IsUndecided, IsWellFormed};
-ghost use Rattle.day_rules.specs.Books.{accounts_in, awards_of};
+ghost use Rattle.campaign_book.specs.Accounts.{IsBudget};
+ghost use Rattle.day_entries.specs.Entries.{entries_bytes};
+ghost use Rattle.day_meters.specs.DayMeters.{meters_after, steps_of};
+ghost use Rattle.day_rules.specs.Books.{accounts_in, ask_count, awards_of};
+ghost use Rattle.day_rules.specs.Entries.{change_of};
 ghost use Rattle.day_rules.specs.DayState.{IsDay};
-ghost use Rattle.day_rules.specs.Replies.{ask_reply, notice_reply, seen_in, tick_reply};
+ghost use Rattle.day_rules.specs.Replies.{ask_reply, budget_reply, notice_reply, seen_in, tick_reply};
 ghost use Rattle.day_rules.specs.Terms.{budgets_after};
 ghost use Rattle.adx_desk.specs.Asked.{ask_for};
+ghost use Rattle.adx_desk.specs.Desks.{StandsOnDisk};
 ghost use Rattle.notice_batches.specs.Batches.{answers_in_turn, entries_in_turn};
 ghost use Rattle.adx_desk.specs.Histories.{longest_size};
 ghost use Rattle.adx_desk.specs.Endings.{EndsAsk, EndsNotice, IsWithinRise};
@@ -22,9 +27,11 @@ use crate::fault::DeskFault;
 use crate::journaled_day::JournaledDay;
 use crate::parts::{Parts, parts_of};
 use adx_io::{Disk, Frame};
+use adx_units::Units;
 use campaign_book::Book;
 use day_rules::{Answer, Ask, Entry, Seen};
 use deal_floor::Roster;
+use meter_steps::{MeterStep, Meters};
 use notice_batches::Batch;
 use notice_book::NoticeKind;
 use std::alloc::Global;
@@ -32,8 +39,8 @@ use std::marker::Model;
 use std::snapshot::Snapshot;
 
 /// A serving day, the journal of its history, and the disk that it is kept on. A contract sees a `DeskState`, the disk,
-/// and what the disk's count was after the opening: what the desk was opened with, what happened, the open journal, and
-/// how many calls answered a fault of the disk.
+/// and what is known from the opening: what the desk was opened with, what happened, the open journal, and how many calls
+/// answered a fault of the disk.
 #[derive(Drop)]
 pub struct Desk<D: Disk> {
     alloc: Global,
@@ -41,18 +48,26 @@ pub struct Desk<D: Disk> {
     asks: Frame,
     notices: Frame,
     disk: D,
+    began: Snapshot<D>,
     opened: Snapshot<D>,
 }
 
 impl<D: Disk> Model for Desk<D> {
     ghost use Rattle.adx_desk.specs.Desks.{OnDisk};
     ghost use Rattle.adx_desk.specs.Fields.{AreFields};
+    ghost use Rattle.std.specs.Prelude.{is_some};
 
     ghost Value = { OnDisk D };
 
-    ghost view = { λ d. record { desk = d.kept.desk; disk = d.disk; since = D.faults d.opened.value } };
+    ghost view = { λ d. record {
+      desk = d.kept.desk;
+      disk = d.disk;
+      since = record { count = D.faults d.opened.value; tells = is_some (D.reads d.began.value) };
+    } };
 
-    ghost invariant = { λ d. AreFields d.notices (D.faults d.opened.value) d.kept.desk.faults (D.faults d.disk) };
+    ghost invariant = { λ d. AreFields d.notices
+        (record { count = D.faults d.opened.value; tells = is_some (D.reads d.began.value) })
+        d.kept.desk (D.faults d.disk) (D.may_leave d.disk) };
 }
 
 impl<D: Disk> Desk<D> {
@@ -65,11 +80,12 @@ impl<D: Disk> Desk<D> {
         ensures gives_up { IfErr result (λ e. GivesUp D.reads D.may_leave D.moment D.left_since (desk_terms roster.entry.now) disk e.1 e.0) }
         ensures legal { IfOk result (λ d. IsDay d.desk.terms.day d.desk.history) }
         ensures same_count { IfOk result (λ d. D.faults d.disk ≡ D.faults disk) }
-        ensures since { IfOk result (λ d. d.since ≡ D.faults d.disk) }
+        ensures since { IfOk result (λ d. d.since ≡ record { count = D.faults d.disk; tells = is_some (D.reads disk) }) }
         ensures cause { IfErr result (λ e. HasDiskCause (D.faults disk) (D.faults e.1) e.0) }
         ensures lasts { IfOk result (λ d. D.lasts disk d.disk) }
         ensures lasts_back { IfErr result (λ e. D.lasts disk e.1) }
     {
+        let began = Snapshot::of(&disk);
         let mut disk = disk;
         match parts_of(alloc, &mut disk, roster) {
             Ok(
@@ -86,6 +102,7 @@ impl<D: Disk> Desk<D> {
                     asks,
                     notices,
                     disk,
+                    began,
                     opened,
                 })
             }
@@ -110,6 +127,30 @@ impl<D: Disk> Desk<D> {
     {
         self.kept
             .ask(self.alloc, &mut self.disk, &mut self.asks, ask)
+    }
+
+    /// Answers a change of a campaign's budget, in units: its number is at least 1. Where the reply has an entry, it is in
+    /// the journal, and then in the history; all memory is taken before the disk is written. The refusals come in the
+    /// order of the day's answers, then want of memory, a journal without room, a fault of the disk. After a fault the
+    /// history and the books are as before.
+    pub fn set_budget(
+        &mut self,
+        campaign: u32,
+        change: u32,
+        budget: Units,
+    ) -> Result<Answer, DeskFault>
+        requires change { 1 ≤ change }
+        requires budget { IsBudget budget }
+        ensures answer { IfOk result (λ a. a ≡ (budget_reply self.old.desk.terms.day self.old.desk.history (change_of campaign change budget)).answer) }
+        ensures serves { Serves D.may_leave D.moment D.left_since self.old self.new (budget_reply self.old.desk.terms.day self.old.desk.history (change_of campaign change budget)).entry result }
+        ensures ends { EndsAsk (D.faults self.old.disk) (D.faults self.new.disk) self.old.desk self.new.desk (budget_reply self.old.desk.terms.day self.old.desk.history (change_of campaign change budget)).entry result }
+        ensures unmoved { (budget_reply self.old.desk.terms.day self.old.desk.history (change_of campaign change budget)).entry ≡ None → self.new ≡ self.old }
+        ensures refused { IfErr result (λ e. (e ≡ Fault.DiskFault → ⊥) → self.new ≡ self.old) }
+        ensures size { size_of self.old.desk.journal ≤ longest_size self.old.desk.terms self.old.desk.history }
+        ensures lasts { D.lasts self.old.disk self.new.disk }
+    {
+        self.kept
+            .set_budget(&mut self.disk, &mut self.asks, campaign, change, budget)
     }
 
     /// Answers a notice of an award of an auction. Takes no memory; its only fault is the disk's.
@@ -142,8 +183,8 @@ impl<D: Disk> Desk<D> {
     }
 
     /// Answers the calls of a batch that didn't run: each as a notice is answered behind the entries of the calls before
-    /// it. All their entries go into the journal as one record, which grows by five bytes and five for each; where there is
-    /// none, the disk isn't touched. Takes no memory; its only fault is the disk's, after which the batch didn't run.
+    /// it. All their entries go into the journal as one record, which grows by five bytes and those of the entries;
+    /// where there is none, the disk isn't touched. Takes no memory; its only fault is the disk's, after which the batch didn't run.
     pub fn batch(&mut self, batch: &mut Batch) -> Result<(), DeskFault>
         requires { batch.old.answers ≡ None }
         ensures answers { OnOk result (batch.new ≡ record batch.old { answers = Some (answers_in_turn self.old.desk.history batch.old.calls) }) }
@@ -152,7 +193,7 @@ impl<D: Disk> Desk<D> {
         ensures ends { EndsNotice (D.faults self.old.disk) (D.faults self.new.disk) self.old.desk self.new.desk result }
         ensures unmoved { entries_in_turn self.old.desk.history batch.old.calls ≡ [] → self.new ≡ self.old }
         ensures grown { OnOk result (0 < length (entries_in_turn self.old.desk.history batch.old.calls)
-            → size_of self.new.desk.journal ≡ size_of self.old.desk.journal + 5 * length (entries_in_turn self.old.desk.history batch.old.calls) + 5) }
+            → size_of self.new.desk.journal ≡ size_of self.old.desk.journal + (length (entries_bytes self.old.desk.journal.format (entries_in_turn self.old.desk.history batch.old.calls)) + 5)) }
         ensures lasts { D.lasts self.old.disk self.new.disk }
     {
         self.kept.batch(&mut self.disk, &mut self.notices, batch)
@@ -171,8 +212,31 @@ impl<D: Disk> Desk<D> {
         ensures history { result.now ≡ self.now.desk.history }
         ensures legal { IsDay self.now.desk.terms.day self.now.desk.history }
         ensures size { size_of self.now.desk.journal ≤ longest_size self.now.desk.terms self.now.desk.history }
+        ensures stands { self.now.since.tells ≡ true → StandsOnDisk (D.may_leave self.now.disk) self.now.desk }
     {
         self.kept.day().entries()
+    }
+
+    /// How many of the entries are asks.
+    pub fn ask_count(&self) -> u64
+        ensures { result ≡ ask_count self.now.desk.history }
+    {
+        self.kept.meters().asks
+    }
+
+    /// What an operator reads of the day, without a walk over its history.
+    pub fn meters(&self) -> Meters
+        ensures { result ≡ meters_after self.now.desk.history }
+    {
+        self.kept.meters()
+    }
+
+    /// What each entry from this place on did to the meters, from 0; `n` is at most the number of entries.
+    pub fn steps_since(&self, n: u64) -> &[MeterStep]
+        requires { n ≤ length self.now.desk.history }
+        ensures { result.now ≡ drop n (steps_of self.now.desk.history) }
+    {
+        steps_from(self.kept.steps(), n as usize)
     }
 
     /// What happened from the entry with this place on, from 0; `n` is at most the number of entries.
@@ -209,16 +273,18 @@ impl<D: Disk> Desk<D> {
     /// disk's own count.
     pub fn faults(&self) -> u64
         ensures faults { result ≡ self.now.desk.faults }
-        ensures within { IsWithinRise self.now.since result (D.faults self.now.disk) }
+        ensures within { IsWithinRise self.now.since.count result (D.faults self.now.disk) }
     {
         self.kept.faults()
     }
 }
 
 impl<D: Disk + Drop> Desk<D> {
-    /// Gives back the disk.
+    /// Gives back the disk. Where it told at the opening what it read, each of its images stands for the history, or for
+    /// it and one record that a fault of the disk left in doubt.
     pub fn close(self) -> D
-        ensures { result ≡ self.disk }
+        ensures disk { result ≡ self.disk }
+        ensures stands { self.since.tells ≡ true → StandsOnDisk (D.may_leave result) self.desk }
     {
         self.disk
     }
@@ -230,4 +296,12 @@ fn since(entries: &[Entry], n: usize) -> &[Entry]
     ensures { result.now ≡ drop n entries.now }
 {
     &entries[n..]
+}
+
+/// The steps from a place on.
+fn steps_from(steps: &[MeterStep], n: usize) -> &[MeterStep]
+    requires { n ≤ length steps.now }
+    ensures { result.now ≡ drop n steps.now }
+{
+    &steps[n..]
 }

@@ -4,7 +4,7 @@ ghost use Rattle.adx_desk.specs.Lines.{told_as};
 
 use adx_units::OutOfMemory;
 use answer_lines::Fault;
-use day_journal::JournalFault;
+use day_journal::{AppendFault, OpeningFault};
 use std::fmt;
 
 /// Why a call of the desk gave up.
@@ -72,19 +72,32 @@ impl From<OutOfMemory> for DeskFault {
     }
 }
 
-impl From<JournalFault> for DeskFault {
+impl From<OpeningFault> for DeskFault {
     ghost use Rattle.std.specs.Prelude.{◌≡◌};
     ghost use Rattle.adx_desk.specs.Openings.{fault_of};
 
     ghost from_gives = { λ why e. e ≡ fault_of why };
 
-    fn from(why: JournalFault) -> Self {
+    fn from(why: OpeningFault) -> Self {
         match why {
-            JournalFault::DiskFault => DeskFault::DiskFault,
-            JournalFault::NotAJournal { at } => DeskFault::NotAJournal { at },
-            JournalFault::BadLength { at } => DeskFault::BadLength { at },
-            JournalFault::Full { size } => DeskFault::JournalFull { size },
-            JournalFault::OutOfMemory => DeskFault::OutOfMemory,
+            OpeningFault::DiskFault => DeskFault::DiskFault,
+            OpeningFault::NotAJournal { at } => DeskFault::NotAJournal { at },
+            OpeningFault::BadLength { at } => DeskFault::BadLength { at },
+            OpeningFault::OutOfMemory => DeskFault::OutOfMemory,
+        }
+    }
+}
+
+impl From<AppendFault> for DeskFault {
+    ghost use Rattle.std.specs.Prelude.{◌≡◌};
+    ghost use Rattle.adx_desk.specs.Openings.{append_fault_of};
+
+    ghost from_gives = { λ why e. e ≡ append_fault_of why };
+
+    fn from(why: AppendFault) -> Self {
+        match why {
+            AppendFault::DiskFault => DeskFault::DiskFault,
+            AppendFault::Full { size } => DeskFault::JournalFull { size },
         }
     }
 }

@@ -1,6 +1,6 @@
 //! Planned entries written into a frame.
 ghost use Rattle.std.specs.Prelude.{◌≡◌, ◌+◌, ◌≤◌, length, OnOk};
-ghost use Rattle.day_entries.specs.Spelling.{Fits, IsNoAsk, IsSpelled, entry_bytes};
+ghost use Rattle.day_entries.specs.Entries.{Fits, IsNoticeOrMoment, IsSpelled, entry_bytes};
 ghost use Rattle.notice_batches.specs.declared.held.TheConstants.{NOTICE_ROOM};
 
 use adx_io::Frame;
@@ -8,26 +8,26 @@ use adx_units::OutOfMemory;
 use day_entries::encode;
 use day_rules::Entry;
 
-/// Makes the frame that of an entry; where memory is refused the frame is empty.
-pub(crate) fn put_ask(frame: &mut Frame, entry: &Entry) -> Result<(), OutOfMemory>
+/// Makes the frame that of an entry in a journal of this format; where memory is refused the frame is empty.
+pub(crate) fn put_planned(frame: &mut Frame, format: u8, entry: &Entry) -> Result<(), OutOfMemory>
     requires { IsSpelled entry.now }
-    ensures payload { OnOk result (frame.new.payload ≡ entry_bytes entry.now) }
-    ensures fits { OnOk result (Fits entry.now) }
+    ensures payload { OnOk result (frame.new.payload ≡ entry_bytes format entry.now) }
+    ensures fits { OnOk result (Fits format entry.now) }
 {
     frame.clear();
-    encode(entry, frame)?;
+    encode(entry, format, frame)?;
     Ok(())
 }
 
-/// Makes the frame that of an entry that is no ask, without memory.
-pub(crate) fn put_notice(frame: &mut Frame, entry: &Entry)
-    requires no_ask { IsNoAsk entry.now }
+/// Makes the frame that of the entry of a notice or a moment, without memory.
+pub(crate) fn put_notice(frame: &mut Frame, format: u8, entry: &Entry)
+    requires kind { IsNoticeOrMoment entry.now }
     requires room { NOTICE_ROOM ≤ frame.old.spare + length frame.old.payload }
-    ensures payload { frame.new.payload ≡ entry_bytes entry.now }
-    ensures fits { Fits entry.now }
+    ensures payload { frame.new.payload ≡ entry_bytes format entry.now }
+    ensures fits { Fits format entry.now }
     ensures room { NOTICE_ROOM ≤ frame.new.spare + length frame.new.payload }
 {
     frame.clear();
-    let encoded = encode(entry, frame);
+    let encoded = encode(entry, format, frame);
     prove!(encoded.is_ok());
 }

@@ -4,13 +4,15 @@ ghost use Rattle.std.specs.Option.{ForSome};
 ghost use Rattle.adx_io.specs.Streams.{last_count};
 ghost use Rattle.day_journal.specs.Faults.{greatest_size};
 ghost use Rattle.day_journal.specs.Tails.{size_of};
-ghost use Rattle.day_entries.specs.Spelling.{Fits, IsNoAsk, entry_bytes, entries_bytes};
+ghost use Rattle.day_entries.specs.Entries.{Fits, IsNoticeOrMoment, entry_bytes, entries_bytes};
 ghost use Rattle.day_rules.specs.Asks.{IsUndecided, IsWellFormed};
 ghost use Rattle.day_rules.specs.Books.{awards_of};
-ghost use Rattle.day_rules.specs.Entries.{asked};
+ghost use Rattle.campaign_book.specs.Accounts.{IsBudget};
+ghost use Rattle.day_rules.specs.Entries.{asked, change_of};
 ghost use Rattle.day_rules.specs.DayState.{HasRoomFor, IsDay};
 ghost use Rattle.day_rules.specs.Legal.{MayFollow};
-ghost use Rattle.day_rules.specs.Replies.{ask_reply, notice_reply, tick_reply};
+ghost use Rattle.day_rules.specs.Replies.{ask_reply, budget_reply, notice_reply, tick_reply};
+ghost use Rattle.day_meters.specs.DayMeters.{meters_after, steps_of};
 ghost use Rattle.adx_desk.specs.Asked.{ask_for};
 ghost use Rattle.notice_batches.specs.Batches.{answers_in_turn, entries_in_turn};
 ghost use Rattle.adx_desk.specs.Endings.{EndsAsk, EndsNotice, size_with};
@@ -21,17 +23,19 @@ ghost use Rattle.adx_desk.specs.Serving.{Serves, ServesAll};
 ghost use Rattle.adx_desk.specs.declared.fault.DeskFault.{DeskFault as Fault};
 ghost use Rattle.notice_batches.specs.declared.held.TheConstants.{NOTICE_ROOM};
 
-use crate::copying::{copy_for, copy_in};
+use crate::copying::{copy_for, copy_in, swapped};
 use crate::done::Done;
 use crate::fault::DeskFault;
-use crate::framing::{put_ask, put_notice};
+use crate::framing::{put_notice, put_planned};
 use adx_io::{Disk, Frame};
-use adx_units::OutOfMemory;
-use day_journal::{Journal, JournalFault};
+use adx_units::{OutOfMemory, Units};
+use day_journal::{AppendFault, Journal};
 use day_machine::{Day, sale_count};
 use day_rules::{Answer, Ask, Entry};
+use meter_steps::{MeterStep, Meters};
+use metered_day::MeteredDay;
 use notice_batches::{
-    Batch, EXPIRY_RECORD, GREATEST_SIZE, NOTICE_RECORD, held_by, open_awards, open_behind,
+    Batch, GREATEST_SIZE, expiry_record, held_by, notice_record, open_awards, open_behind,
 };
 use notice_book::NoticeKind;
 use std::alloc::Global;
@@ -41,7 +45,7 @@ use std::marker::Model;
 /// terms, its history, the open journal, how many calls answered a fault of the disk, and what there is memory for.
 #[derive(Drop)]
 pub(crate) struct JournaledDay {
-    day: Day,
+    day: MeteredDay,
     digest: [u8; 32],
     journal: Journal,
     without_end: u64,
@@ -69,19 +73,20 @@ impl Model for JournaledDay {
 impl JournaledDay {
     /// A day whose history its journal keeps; full where the journal has no room for what is held.
     pub(crate) fn of(
-        day: Day,
+        day: MeteredDay,
         digest: [u8; 32],
         journal: Journal,
     ) -> Result<JournaledDay, DeskFault>
         requires legal { IsDay day.terms day.history }
         requires short { size_of journal ≤ longest_size (record { day = day.terms; digest = digest }) day.history }
         ensures desk { IfOk result (λ d. d.desk ≡ record { terms = record { day = day.terms; digest = digest }; history = day.history; journal = journal; faults = 0 }) }
-        ensures room { OnOk result (size_of journal + held day.history ≤ greatest_size) }
-        ensures full { IfErr result (λ e. (greatest_size < size_of journal + held day.history)
-            × (e ≡ Fault.JournalFull (min (size_of journal + held day.history) last_count))) }
+        ensures room { OnOk result (size_of journal + held journal.format day.history ≤ greatest_size) }
+        ensures full { IfErr result (λ e. (greatest_size < size_of journal + held journal.format day.history)
+            × (e ≡ Fault.JournalFull (min (size_of journal + held journal.format day.history) last_count))) }
     {
-        let without_end = open_awards(day.awards());
-        let size = journal.size().saturating_add(held_by(&day, without_end));
+        let without_end = open_awards(day.day().awards());
+        let held = held_by(journal.format(), day.day(), without_end);
+        let size = journal.size().saturating_add(held);
         if size > GREATEST_SIZE {
             return Err(DeskFault::JournalFull { size });
         }
@@ -96,10 +101,25 @@ impl JournaledDay {
 
     /// The day.
     pub(crate) fn day(&self) -> &Day
-        ensures day { result.now ≡ day_in self.now }
+        ensures terms { result.now.terms ≡ self.now.desk.terms.day }
+        ensures history { result.now.history ≡ self.now.desk.history }
         ensures size { size_of self.now.desk.journal ≤ longest_size self.now.desk.terms self.now.desk.history }
     {
-        &self.day
+        self.day.day()
+    }
+
+    /// The meters of the history.
+    pub(crate) fn meters(&self) -> Meters
+        ensures { result ≡ meters_after self.now.desk.history }
+    {
+        self.day.meters()
+    }
+
+    /// The step of each entry of the history.
+    pub(crate) fn steps(&self) -> &[MeterStep]
+        ensures { result.now ≡ steps_of self.now.desk.history }
+    {
+        self.day.steps()
     }
 
     /// How many calls answered a fault of the disk.
@@ -119,24 +139,19 @@ impl JournaledDay {
         Ok(())
     }
 
-    /// The bytes that are held for notices and expiries.
-    fn held(&self) -> u64
-        ensures { result ≡ held self.now.desk.history }
-    {
-        NOTICE_RECORD * self.day.to_come() + (EXPIRY_RECORD - NOTICE_RECORD) * self.without_end
-    }
-
-    /// The bytes that are held beside the record of an entry. The record of an entry that is no ask takes of those
-    /// that are held.
+    /// The bytes that are held beside the record of an entry. The record of a notice or of a moment takes of those that
+    /// are held.
     fn held_beside(&self, entry: &Entry) -> u64
         requires { MayFollow self.now.desk.terms.day self.now.desk.history entry.now }
-        ensures { result ≡ beside self.now.desk.history entry.entry.now }
+        ensures { result ≡ beside self.now.desk.journal.format self.now.desk.history entry.entry.now }
     {
         // What is held is small, as a field shows.
         let _ = &self.day;
+        let format = self.journal.format();
         match entry {
-            Entry::Ask(ask) => self.held()
-                + (EXPIRY_RECORD + NOTICE_RECORD) * sale_count(ask) as u64,
+            Entry::Ask(ask) => held_by(format, self.day.day(), self.without_end)
+                + (expiry_record(format) + notice_record(format)) * sale_count(ask) as u64,
+            Entry::Budget { .. } => held_by(format, self.day.day(), self.without_end),
             Entry::Win { .. } | Entry::Bill { .. } | Entry::Loss { .. } | Entry::Expire { .. } => 0,
         }
     }
@@ -150,30 +165,27 @@ impl JournaledDay {
     ) -> Result<(), DeskFault>
         requires follows { MayFollow self.old.desk.terms.day self.old.desk.history entry }
         requires room { HasRoomFor (day_in self.old) entry }
-        requires payload { frame.now.payload ≡ entry_bytes entry }
-        requires fits { Fits entry }
+        requires payload { frame.now.payload ≡ entry_bytes self.old.desk.journal.format entry }
+        requires fits { Fits self.old.desk.journal.format entry }
         ensures serves { Serves D.may_leave D.moment D.left_since (on_disk self.old disk.old) (on_disk self.new disk.new) (Some entry) result }
         ensures ends { EndsRecord (D.faults disk.old) (D.faults disk.new) self.old.desk self.new.desk entry result }
-        ensures always { IsNoAsk entry → size_with self.old.desk entry ≤ greatest_size }
+        ensures always { IsNoticeOrMoment entry → size_with self.old.desk entry ≤ greatest_size }
         ensures refused { IfErr result (λ e. (e ≡ Fault.DiskFault → ⊥) → on_disk self.new disk.new ≡ on_disk self.old disk.old) }
         ensures lasts { D.lasts disk.old disk.new }
     {
         let held = self.held_beside(&entry);
-        let without_end = open_behind(&self.day, self.without_end, &entry);
+        let without_end = open_behind(self.day.day(), self.without_end, &entry);
         match self.journal.append(disk, frame, held) {
             Ok(()) => {
                 self.day.commit(entry);
                 self.without_end = without_end;
                 Ok(())
             }
-            Err(JournalFault::DiskFault) => {
+            Err(AppendFault::DiskFault) => {
                 self.faults = self.faults.saturating_add(1);
                 Err(DeskFault::DiskFault)
             }
-            Err(JournalFault::Full { size }) => Err(DeskFault::JournalFull { size }),
-            Err(JournalFault::NotAJournal { .. }) => unreachable!(),
-            Err(JournalFault::BadLength { .. }) => unreachable!(),
-            Err(JournalFault::OutOfMemory) => unreachable!(),
+            Err(AppendFault::Full { size }) => Err(DeskFault::JournalFull { size }),
         }
     }
 
@@ -187,7 +199,7 @@ impl JournaledDay {
     ) -> Result<Answer, DeskFault>
         requires follows { ForSome entry (MayFollow self.old.desk.terms.day self.old.desk.history) }
         requires room { ForSome entry (HasRoomFor (day_in self.old)) }
-        requires no_ask { ForSome entry IsNoAsk }
+        requires no_ask { ForSome entry IsNoticeOrMoment }
         requires frame { NOTICE_ROOM ≤ frame.old.spare + length frame.old.payload }
         ensures answer { IfOk result (λ a. a ≡ answer) }
         ensures serves { Serves D.may_leave D.moment D.left_since (on_disk self.old disk.old) (on_disk self.new disk.new) entry result }
@@ -199,7 +211,7 @@ impl JournaledDay {
         match entry {
             None => Ok(answer),
             Some(entry) => {
-                put_notice(frame, &entry);
+                put_notice(frame, self.journal.format(), &entry);
                 match self.append(disk, frame, entry) {
                     Ok(()) => Ok(answer),
                     Err(fault) => Err(fault),
@@ -259,15 +271,27 @@ impl JournaledDay {
     ) -> Result<Option<Ask>, OutOfMemory>
         requires { MayFollow self.old.desk.terms.day self.old.desk.history entry.now }
         ensures copy { IfOk result (λ copy. copy ≡ asked entry.entry.now) }
-        ensures payload { OnOk result (frame.new.payload ≡ entry_bytes entry.now) }
-        ensures fits { OnOk result (Fits entry.now) }
+        ensures payload { OnOk result (frame.new.payload ≡ entry_bytes self.old.desk.journal.format entry.now) }
+        ensures fits { OnOk result (Fits self.old.desk.journal.format entry.now) }
         ensures room { OnOk result (HasRoomFor (day_in self.new) entry.now) }
         ensures desk { self.new.desk ≡ self.old.desk }
     {
         let copy = copy_in(alloc, entry)?;
-        put_ask(frame, entry)?;
-        self.prepare(entry)?;
+        self.take_room(frame, entry)?;
         Ok(copy)
+    }
+
+    /// Takes the memory that a planned entry needs: for its bytes, for the entry and those that may come of it.
+    fn take_room(&mut self, frame: &mut Frame, entry: &Entry) -> Result<(), OutOfMemory>
+        requires { MayFollow self.old.desk.terms.day self.old.desk.history entry.now }
+        ensures payload { OnOk result (frame.new.payload ≡ entry_bytes self.old.desk.journal.format entry.now) }
+        ensures fits { OnOk result (Fits self.old.desk.journal.format entry.now) }
+        ensures room { OnOk result (HasRoomFor (day_in self.new) entry.now) }
+        ensures desk { self.new.desk ≡ self.old.desk }
+    {
+        put_planned(frame, self.journal.format(), entry)?;
+        self.prepare(entry)?;
+        Ok(())
     }
 
     /// Adds an ask for which all memory was taken, and gives what is then answered.
@@ -280,8 +304,8 @@ impl JournaledDay {
     ) -> Result<Done, DeskFault>
         requires follows { MayFollow self.old.desk.terms.day self.old.desk.history entry }
         requires room { HasRoomFor (day_in self.old) entry }
-        requires payload { frame.now.payload ≡ entry_bytes entry }
-        requires fits { Fits entry }
+        requires payload { frame.now.payload ≡ entry_bytes self.old.desk.journal.format entry }
+        requires fits { Fits self.old.desk.journal.format entry }
         ensures answer { IfOk result (λ d. d.answer ≡ done.answer) }
         ensures copy { IfOk result (λ d. d.ask ≡ done.ask) }
         ensures serves { Serves D.may_leave D.moment D.left_since (on_disk self.old disk.old) (on_disk self.new disk.new) (Some entry) result }
@@ -295,7 +319,8 @@ impl JournaledDay {
         }
     }
 
-    /// Adds the planned ask of a reply: all memory first, then the journal, then the history.
+    /// Adds the planned ask of a reply: all memory first, then the journal, then the history, which keeps the exact
+    /// copy; the ask as it was planned, whose lists have the room that they were read with, goes to the caller.
     fn add_ask<D: Disk>(
         &mut self,
         alloc: Global,
@@ -313,7 +338,10 @@ impl JournaledDay {
         ensures lasts { D.lasts disk.old disk.new }
     {
         match self.make_room(alloc, frame, &entry) {
-            Ok(ask) => self.append_as(disk, frame, Done { answer, ask }, entry),
+            Ok(copy) => {
+                let (exact, ask) = swapped(entry, copy);
+                self.append_as(disk, frame, Done { answer, ask }, exact)
+            }
             Err(_) => Err(DeskFault::OutOfMemory),
         }
     }
@@ -337,13 +365,84 @@ impl JournaledDay {
         ensures size { size_of self.old.desk.journal ≤ longest_size self.old.desk.terms self.old.desk.history }
         ensures lasts { D.lasts disk.old disk.new }
     {
-        let (answer, entry) = self.day.plan_ask(ask);
+        let (answer, entry) = self.day.day().plan_ask(ask);
         match entry {
-            None => match copy_for(alloc, self.day.entries(), answer) {
+            None => match copy_for(alloc, self.day.day().entries(), answer) {
                 Ok(ask) => Ok(Done { answer, ask }),
                 Err(_) => Err(DeskFault::OutOfMemory),
             },
             Some(entry) => self.add_ask(alloc, disk, frame, answer, entry),
+        }
+    }
+
+    /// Adds the planned change of a budget of a reply: all memory first, then the journal, then the history.
+    fn add_budget<D: Disk>(
+        &mut self,
+        disk: &mut D,
+        frame: &mut Frame,
+        answer: Answer,
+        entry: Entry,
+    ) -> Result<Answer, DeskFault>
+        requires { MayFollow self.old.desk.terms.day self.old.desk.history entry }
+        ensures answer { IfOk result (λ a. a ≡ answer) }
+        ensures serves { Serves D.may_leave D.moment D.left_since (on_disk self.old disk.old) (on_disk self.new disk.new) (Some entry) result }
+        ensures ends { EndsAsk (D.faults disk.old) (D.faults disk.new) self.old.desk self.new.desk (Some entry) result }
+        ensures refused { IfErr result (λ e. (e ≡ Fault.DiskFault → ⊥) → on_disk self.new disk.new ≡ on_disk self.old disk.old) }
+        ensures lasts { D.lasts disk.old disk.new }
+    {
+        match self.take_room(frame, &entry) {
+            Ok(()) => self.append_answer(disk, frame, answer, entry),
+            Err(_) => Err(DeskFault::OutOfMemory),
+        }
+    }
+
+    /// Adds an entry for which all memory was taken, and gives its answer.
+    fn append_answer<D: Disk>(
+        &mut self,
+        disk: &mut D,
+        frame: &Frame,
+        answer: Answer,
+        entry: Entry,
+    ) -> Result<Answer, DeskFault>
+        requires follows { MayFollow self.old.desk.terms.day self.old.desk.history entry }
+        requires room { HasRoomFor (day_in self.old) entry }
+        requires payload { frame.now.payload ≡ entry_bytes self.old.desk.journal.format entry }
+        requires fits { Fits self.old.desk.journal.format entry }
+        ensures answer { IfOk result (λ a. a ≡ answer) }
+        ensures serves { Serves D.may_leave D.moment D.left_since (on_disk self.old disk.old) (on_disk self.new disk.new) (Some entry) result }
+        ensures ends { EndsAsk (D.faults disk.old) (D.faults disk.new) self.old.desk self.new.desk (Some entry) result }
+        ensures refused { IfErr result (λ e. (e ≡ Fault.DiskFault → ⊥) → on_disk self.new disk.new ≡ on_disk self.old disk.old) }
+        ensures lasts { D.lasts disk.old disk.new }
+    {
+        match self.append(disk, frame, entry) {
+            Ok(()) => Ok(answer),
+            Err(fault) => Err(fault),
+        }
+    }
+
+    /// Answers a change of a campaign's budget.
+    pub(crate) fn set_budget<D: Disk>(
+        &mut self,
+        disk: &mut D,
+        frame: &mut Frame,
+        campaign: u32,
+        change: u32,
+        budget: Units,
+    ) -> Result<Answer, DeskFault>
+        requires change { 1 ≤ change }
+        requires budget { IsBudget budget }
+        ensures answer { IfOk result (λ a. a ≡ (budget_reply self.old.desk.terms.day self.old.desk.history (change_of campaign change budget)).answer) }
+        ensures serves { Serves D.may_leave D.moment D.left_since (on_disk self.old disk.old) (on_disk self.new disk.new) (budget_reply self.old.desk.terms.day self.old.desk.history (change_of campaign change budget)).entry result }
+        ensures ends { EndsAsk (D.faults disk.old) (D.faults disk.new) self.old.desk self.new.desk (budget_reply self.old.desk.terms.day self.old.desk.history (change_of campaign change budget)).entry result }
+        ensures unmoved { (budget_reply self.old.desk.terms.day self.old.desk.history (change_of campaign change budget)).entry ≡ None → on_disk self.new disk.new ≡ on_disk self.old disk.old }
+        ensures refused { IfErr result (λ e. (e ≡ Fault.DiskFault → ⊥) → on_disk self.new disk.new ≡ on_disk self.old disk.old) }
+        ensures size { size_of self.old.desk.journal ≤ longest_size self.old.desk.terms self.old.desk.history }
+        ensures lasts { D.lasts disk.old disk.new }
+    {
+        let (answer, entry) = self.day.day().plan_budget(campaign, change, budget);
+        match entry {
+            None => Ok(answer),
+            Some(entry) => self.add_budget(disk, frame, answer, entry),
         }
     }
 
@@ -355,12 +454,12 @@ impl JournaledDay {
         frame: &Frame,
         batch: &Batch,
     ) -> Result<(), DeskFault>
-        requires payload { frame.now.payload ≡ entries_bytes (entries_in_turn self.old.desk.history batch.now.calls) }
-        requires fits { All Fits (entries_in_turn self.old.desk.history batch.now.calls) }
+        requires payload { frame.now.payload ≡ entries_bytes self.old.desk.journal.format (entries_in_turn self.old.desk.history batch.now.calls) }
+        requires fits { All (Fits self.old.desk.journal.format) (entries_in_turn self.old.desk.history batch.now.calls) }
         requires some { 0 < length (entries_in_turn self.old.desk.history batch.now.calls) }
         ensures serves { ServesAll D.may_leave D.moment D.left_since (on_disk self.old disk.old) (on_disk self.new disk.new) (entries_in_turn self.old.desk.history batch.now.calls) result }
         ensures ends { EndsNotice (D.faults disk.old) (D.faults disk.new) self.old.desk self.new.desk result }
-        ensures grown { OnOk result (size_of self.new.desk.journal ≡ size_of self.old.desk.journal + 5 * length (entries_in_turn self.old.desk.history batch.now.calls) + 5) }
+        ensures grown { OnOk result (size_of self.new.desk.journal ≡ size_of self.old.desk.journal + (length (entries_bytes self.old.desk.journal.format (entries_in_turn self.old.desk.history batch.now.calls)) + 5)) }
         ensures lasts { D.lasts disk.old disk.new }
     {
         match self.journal.append(disk, frame, 0) {
@@ -368,15 +467,12 @@ impl JournaledDay {
                 self.without_end = batch.commit(&mut self.day, self.without_end);
                 Ok(())
             }
-            Err(JournalFault::DiskFault) => {
+            Err(AppendFault::DiskFault) => {
                 let faults = self.faults.saturating_add(1);
                 self.faults = faults;
                 Err(DeskFault::DiskFault)
             }
-            Err(JournalFault::Full { .. }) => unreachable!(),
-            Err(JournalFault::NotAJournal { .. }) => unreachable!(),
-            Err(JournalFault::BadLength { .. }) => unreachable!(),
-            Err(JournalFault::OutOfMemory) => unreachable!(),
+            Err(AppendFault::Full { .. }) => unreachable!(),
         }
     }
 
@@ -395,11 +491,11 @@ impl JournaledDay {
         ensures ends { EndsNotice (D.faults disk.old) (D.faults disk.new) self.old.desk self.new.desk result }
         ensures unmoved { entries_in_turn self.old.desk.history batch.old.calls ≡ [] → on_disk self.new disk.new ≡ on_disk self.old disk.old }
         ensures grown { OnOk result (0 < length (entries_in_turn self.old.desk.history batch.old.calls)
-            → size_of self.new.desk.journal ≡ size_of self.old.desk.journal + 5 * length (entries_in_turn self.old.desk.history batch.old.calls) + 5) }
+            → size_of self.new.desk.journal ≡ size_of self.old.desk.journal + (length (entries_bytes self.old.desk.journal.format (entries_in_turn self.old.desk.history batch.old.calls)) + 5)) }
         ensures frame { NOTICE_ROOM ≤ frame.new.spare + length frame.new.payload }
         ensures lasts { D.lasts disk.old disk.new }
     {
-        batch.run(&self.day, frame);
+        batch.run(self.journal.format(), self.day.day(), frame);
         if frame.payload().is_empty() {
             return Ok(());
         }

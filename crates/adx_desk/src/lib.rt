@@ -4,7 +4,7 @@
 //! that history; an entry is in the journal before it is in the history, and a crash at any moment leaves a file that
 //! stands for the history, or for it and the record that was being written.
 //! Opening reads a file that stands for a history, or names the first fault in the order of its bytes.
-//! Stands on `deal_floor` (a roster), `day_machine`, `day_entries`, `notice_batches`,
+//! Stands on `deal_floor` (a roster), `metered_day`, `day_entries`, `notice_batches`,
 //! `day_journal`, `adx_io` and `sha2`.
 #![tactic(auto)]
 
@@ -28,6 +28,6 @@ pub use desk::Desk;
 pub use done::Done;
 pub use fault::DeskFault;
 pub use laws::{one_history, refusals_exclude};
-pub use lines::{answer_line, fault_line, table_of};
+pub use lines::{answer_line, fault_line, table_of, table_with};
 pub use shared::OpenedWith;
 pub use turn::{Call, Turn};

@@ -4,7 +4,7 @@ ghost use Rattle.std.specs.List.{sum_by};
 ghost use Rattle.day_journal.specs.Openings.{OnlyReads, StandsBehind};
 ghost use Rattle.day_journal.specs.Places.{IsClosed, opened};
 ghost use Rattle.day_rules.specs.DayState.{IsDay};
-ghost use Rattle.notice_batches.specs.Held.{record_size};
+ghost use Rattle.notice_batches.specs.Held.{longest_record};
 ghost use Rattle.adx_desk.specs.Histories.{longest_size};
 ghost use Rattle.adx_desk.specs.Loading.{HasRead, HasReadAll};
 ghost use Rattle.adx_desk.specs.Openings.{EndsByDisk, RefusesDesk, told_of};
@@ -14,7 +14,7 @@ use crate::fault::DeskFault;
 use crate::record_reading::take_record;
 use adx_io::Disk;
 use day_journal::Opening;
-use day_machine::Day;
+use metered_day::MeteredDay;
 use sha2::{Digest, Sha256};
 use std::alloc::Global;
 
@@ -46,7 +46,7 @@ fn read_records<D: Disk>(
     alloc: Global,
     disk: &mut D,
     opening: &mut Opening,
-    day: &mut Day,
+    day: &mut MeteredDay,
     payload: &mut Vec<u8>,
 ) -> Result<(), DeskFault>
     requires { IsDay day.old.terms day.old.history }
@@ -54,20 +54,21 @@ fn read_records<D: Disk>(
     ensures legal { OnOk result (IsDay day.new.terms day.new.history) }
 
     // Whatever the disk reads: the reader moved by no more bytes than a record for each entry that it added takes.
-    ensures moved { OnOk result (opening.new.window.at + sum_by record_size day.old.history ≤ opening.old.window.at + sum_by record_size day.new.history) }
+    ensures moved { OnOk result (opening.new.window.at + sum_by longest_record day.old.history ≤ opening.old.window.at + sum_by longest_record day.new.history) }
 
     ensures read { OnOk result ((digest file : List ℕ) → D.reads disk.old ≡ Some file → HasRead digest file opening.old day.old.history
         → HasReadAll digest file opening.new day.new.history) }
     ensures closed { OnOk result (opening.new.closed ≡ true) }
     ensures refused { IfErr result (λ e. (digest file : List ℕ) → D.reads disk.old ≡ Some file → HasRead digest file opening.old day.old.history
         → RefusesDesk (record { day = day.old.terms; digest = digest }) file e) }
+    ensures format { opening.new.format ≡ opening.old.format }
     ensures only_reads { OnlyReads D.reads D.may_leave D.moment D.left_since disk.old disk.new }
     ensures ends { EndsByDisk (D.faults disk.old) (D.faults disk.new) result }
     ensures lasts { D.lasts disk.old disk.new }
 {
     'records: loop {
         match opening.next_into(disk, payload) {
-            Ok(true) => match take_record(alloc, day, payload.as_slice()) {
+            Ok(true) => match take_record(alloc, day, opening.format(), payload.as_slice()) {
                 Ok(()) => {}
                 Err(fault) => return Err(fault),
             },
@@ -82,23 +83,24 @@ pub(crate) fn load<D: Disk>(
     alloc: Global,
     disk: &mut D,
     opening: &mut Opening,
-    day: &mut Day,
+    day: &mut MeteredDay,
     digest: &[u8; 32],
 ) -> Result<bool, DeskFault>
     requires legal { IsDay day.old.terms day.old.history }
     requires empty { day.old.history ≡ [] }
-    requires start { opening.old.window.at ≡ length (opened []) }
+    requires start { opening.old.window.at ≡ length (opened opening.old.format []) }
     ensures terms { day.new.terms ≡ day.old.terms }
     ensures legal { OnOk result (IsDay day.new.terms day.new.history) }
     ensures read { IfOk result (λ found. (file : List ℕ) → D.reads disk.old ≡ Some file → StandsBehind file opening.old []
         → MatchBool found (HasReadAll digest.now file opening.new day.new.history)
-        (StandsBehind file opening.new [] × IsClosed (opened []) file)) }
+        (StandsBehind file opening.new [] × IsClosed (opened opening.old.format []) file)) }
     ensures size { IfOk result (λ found. MatchBool found
         (opening.new.window.at + 1 ≤ longest_size (record { day = day.new.terms; digest = digest.now }) day.new.history)
-        ((opening.new.window.at ≡ length (opened [])) × (day.new.history ≡ []))) }
+        ((opening.new.window.at ≡ length (opened opening.old.format [])) × (day.new.history ≡ []))) }
     ensures closed { OnOk result (opening.new.closed ≡ true) }
     ensures refused { IfErr result (λ e. (file : List ℕ) → D.reads disk.old ≡ Some file → StandsBehind file opening.old []
         → RefusesDesk (record { day = day.old.terms; digest = digest.now }) file e) }
+    ensures format { opening.new.format ≡ opening.old.format }
     ensures only_reads { OnlyReads D.reads D.may_leave D.moment D.left_since disk.old disk.new }
     ensures ends { EndsByDisk (D.faults disk.old) (D.faults disk.new) result }
     ensures lasts { D.lasts disk.old disk.new }

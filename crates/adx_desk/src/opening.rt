@@ -17,19 +17,20 @@ use crate::journaled_day::JournaledDay;
 use crate::loading::load;
 use adx_io::{Disk, Frame};
 use day_journal::{Journal, Opening};
-use day_machine::Day;
+use metered_day::MeteredDay;
 use std::alloc::Global;
 
 /// Makes the frame's payload the first one of a journal that has none.
 fn begin<D: Disk>(disk: &mut D, opening: Opening, first: &Frame) -> Result<Journal, DeskFault>
     requires closed { opening.closed ≡ true }
     requires some { 0 < length first.now.payload }
-    requires start { opening.window.at ≡ length (opened []) }
+    requires start { opening.window.at ≡ length (opened opening.format []) }
     ensures kept { IfOk result (λ journal. (file : List ℕ) → D.reads disk.old ≡ Some file → StandsBehind file opening [] → AsRead (D.reads disk.old) (D.may_leave disk.old)
         → (tail : List ℕ) → Keeps (D.may_leave disk.new) journal (first.now.payload ∷ []) tail) }
     ensures any_moment { (file : List ℕ) → D.reads disk.old ≡ Some file → StandsBehind file opening [] → AsRead (D.reads disk.old) (D.may_leave disk.old)
-        → LeavesOnly D.moment D.left_since disk.old disk.new (λ c. StandsFor c [] ⊎ StandsFor c (first.now.payload ∷ [])) }
-    ensures size { IfOk result (λ journal. size_of journal ≡ length (opened (first.now.payload ∷ [])) + 1) }
+        → LeavesOnly D.moment D.left_since disk.old disk.new (λ c. StandsFor opening.format c [] ⊎ StandsFor opening.format c (first.now.payload ∷ [])) }
+    ensures size { IfOk result (λ journal. size_of journal ≡ length (opened opening.format (first.now.payload ∷ [])) + 1) }
+    ensures format { IfOk result (λ journal. journal.format ≡ opening.format) }
     ensures refused { IfErr result (λ e. (file : List ℕ) → D.reads disk.old ≡ Some file → StandsBehind file opening [] → length first.now.payload ≤ 32 → IsRefusal e → ⊥) }
     ensures ends { EndsByDisk (D.faults disk.old) (D.faults disk.new) result }
     ensures lasts { D.lasts disk.old disk.new }
@@ -46,14 +47,14 @@ fn journal_of<D: Disk>(
     alloc: Global,
     disk: &mut D,
     opening: Opening,
-    day: &mut Day,
+    day: &mut MeteredDay,
     digest: &[u8; 32],
     first: &Frame,
 ) -> Result<Journal, DeskFault>
     requires legal { IsDay day.old.terms day.old.history }
     requires empty { day.old.history ≡ [] }
     requires first { first.now.payload ≡ digest.now }
-    requires start { opening.window.at ≡ length (opened []) }
+    requires start { opening.window.at ≡ length (opened opening.format []) }
     ensures terms { day.new.terms ≡ day.old.terms }
     ensures legal { OnOk result (IsDay day.new.terms day.new.history) }
     ensures opened { IfOk result (λ journal. (file : List ℕ) → D.reads disk.old ≡ Some file → StandsBehind file opening [] → AsRead (D.reads disk.old) (D.may_leave disk.old)
@@ -83,14 +84,14 @@ fn day_behind<D: Disk>(
     alloc: Global,
     disk: &mut D,
     opening: Opening,
-    day: Day,
+    day: MeteredDay,
     digest: &[u8; 32],
     first: &Frame,
 ) -> Result<JournaledDay, DeskFault>
     requires legal { IsDay day.terms day.history }
     requires empty { day.history ≡ [] }
     requires first { first.now.payload ≡ digest.now }
-    requires start { opening.window.at ≡ length (opened []) }
+    requires start { opening.window.at ≡ length (opened opening.format []) }
     ensures terms { IfOk result (λ d. d.desk.terms ≡ record { day = day.terms; digest = digest.now }) }
     ensures faults { IfOk result (λ d. d.desk.faults ≡ 0) }
     ensures history { IfOk result (λ d. (file : List ℕ) → D.reads disk.old ≡ Some file → StandsBehind file opening [] → AsRead (D.reads disk.old) (D.may_leave disk.old)
@@ -121,7 +122,7 @@ fn day_behind<D: Disk>(
 pub(crate) fn open_on<D: Disk>(
     alloc: Global,
     disk: &mut D,
-    day: Day,
+    day: MeteredDay,
     digest: &[u8; 32],
     first: &Frame,
 ) -> Result<JournaledDay, DeskFault>

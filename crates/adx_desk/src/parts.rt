@@ -12,8 +12,8 @@ use crate::opening::open_on;
 use crate::roster_day::day_of;
 use adx_io::{Disk, Frame};
 use adx_units::OutOfMemory;
-use day_machine::Day;
 use deal_floor::Roster;
+use metered_day::MeteredDay;
 use notice_batches::NOTICE_ROOM;
 use std::alloc::Global;
 
@@ -26,8 +26,8 @@ pub(crate) struct Parts {
 }
 
 /// What a desk has before its disk is read: the roster's day without entries, a frame with the roster's digest, and one
-/// with room for any entry that is no ask.
-fn made(alloc: Global, roster: &Roster) -> Result<(Day, Frame, Frame), OutOfMemory>
+/// with room for any notices of a batch.
+fn made(alloc: Global, roster: &Roster) -> Result<(MeteredDay, Frame, Frame), OutOfMemory>
     ensures terms { IfOk result (λ m. m.0.terms ≡ (desk_terms roster.entry.now).day) }
     ensures legal { IfOk result (λ m. IsDay m.0.terms m.0.history) }
     ensures empty { IfOk result (λ m. m.0.history ≡ []) }

@@ -4,9 +4,9 @@ ghost use Rattle.deal_floor.specs.declared.campaign.Campaign.{Campaign};
 ghost use Rattle.adx_desk.specs.Rosters.{desk_terms};
 
 use adx_units::{OutOfMemory, Units};
-use day_machine::Day;
 use day_rules::DayLimits;
 use deal_floor::{Campaign, Roster};
+use metered_day::MeteredDay;
 use std::alloc::Global;
 
 /// The budgets of campaigns, in their order.
@@ -21,7 +21,7 @@ fn budgets_of(alloc: Global, campaigns: &[Campaign]) -> Result<Vec<Units>, OutOf
 }
 
 /// The day of a roster, without entries.
-pub(crate) fn day_of(alloc: Global, roster: &Roster) -> Result<Day, OutOfMemory>
+pub(crate) fn day_of(alloc: Global, roster: &Roster) -> Result<MeteredDay, OutOfMemory>
     ensures terms { IfOk result (λ day. day.terms ≡ (desk_terms roster.entry.now).day) }
     ensures history { IfOk result (λ day. day.history ≡ []) }
 {
@@ -31,6 +31,6 @@ pub(crate) fn day_of(alloc: Global, roster: &Roster) -> Result<Day, OutOfMemory>
         bids: roster.limits.bids,
         text: roster.limits.text,
     };
-    let day = Day::new(alloc, budgets.as_slice(), limits)?;
+    let day = MeteredDay::new(alloc, budgets.as_slice(), limits)?;
     Ok(day)
 }

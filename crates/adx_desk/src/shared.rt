@@ -5,8 +5,8 @@ use adx_io::Disk;
 use adx_units::{Counted, Sequence, Units};
 use day_rules::{DayLimits, Entry};
 
-/// What a desk was opened with, which no call changes: the roster's campaigns and limits, and what the disk's count was
-/// after the opening.
+/// What a desk was opened with, which no call changes: the roster's campaigns and limits, and what is known of the disk
+/// from the opening.
 #[derive(Debug, Drop)]
 pub struct OpenedWith {
     /// The budget of each of the roster's campaigns.
@@ -15,12 +15,15 @@ pub struct OpenedWith {
     pub limits: DayLimits,
     /// The digest of the roster's day and campaigns.
     pub digest: [u8; 32],
-    /// How often the disk had failed.
+    /// How often the disk had failed after the opening.
     pub faults: u64,
+    /// Whether the disk told what it read.
+    pub tells: bool,
 }
 
 impl<D: Disk> Counted for Desk<D> {
-    ghost use Rattle.adx_desk.specs.Shared.{is_disk_fault, opened_with};
+    ghost use Rattle.day_rules.specs.DayState.{IsDay};
+    ghost use Rattle.adx_desk.specs.Shared.{IsTurnAt, is_disk_fault, opened_with, terms_in};
 
     type Item = Entry;
 
@@ -38,11 +41,19 @@ impl<D: Disk> Counted for Desk<D> {
 
     ghost is_fault = { λ t. is_disk_fault t.ended };
 
+    ghost legal = { λ opened history. IsDay (terms_in opened).day history };
+
+    ghost right = { λ opened history turn. IsTurnAt (terms_in opened) history turn };
+
     fn count(&self) -> u64 {
         Desk::count(self)
     }
 
     fn faults(&self) -> u64 {
         Desk::faults(self)
+    }
+
+    fn is_legal(&self) {
+        let _ = self.entries();
     }
 }

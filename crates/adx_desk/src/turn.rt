@@ -1,6 +1,6 @@
 //! What is kept of a call on a desk that threads share.
 use crate::fault::DeskFault;
-use adx_units::Text;
+use adx_units::{Text, Units};
 use day_rules::{Answer, Ask, Entry};
 use notice_book::NoticeKind;
 
@@ -22,6 +22,15 @@ pub enum Call {
     Tick {
         /// The moment in seconds, below 2^63.
         now: u64,
+    },
+    /// A change of a campaign's budget.
+    Budget {
+        /// The place of the campaign in the roster, from 0; perhaps of none.
+        campaign: u32,
+        /// The number of the change, at least 1; the accepted ones of a campaign rise.
+        change: u32,
+        /// The budget from then on, in units.
+        budget: Units,
     },
 }
 

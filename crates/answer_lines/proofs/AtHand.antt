@@ -12,8 +12,12 @@ use Rattle.day_rules.specs.declared.ask.Ask.{Ask}
 use Rattle.day_rules.specs.declared.entry.Entry.{Entry}
 use Rattle.day_rules.specs.declared.limits.DayLimits.{DayLimits}
 use Rattle.day_rules.specs.Asks.{settled}
-use Rattle.day_rules.specs.Books.{ask_at, awards_of, latest}
-use Rattle.day_rules.specs.Replies.{Reply, answered, added, full, asks_with, bids_with, text_with, is_awarded, is_of_auction, sale_reply, settled_reply, ask_reply_by, ask_reply, ruled_reply, known_reply, notice_reply, tick_reply, ticked, seen_in}
+use Rattle.adx_units.specs.Money.{units}
+use Rattle.day_rules.specs.declared.limits.TheConstants.{MAX_CHANGES}
+use Rattle.day_rules.specs.Books.{ask_at, awards_of, committed, latest}
+use Rattle.day_rules.specs.Changes.{last_change, same_change}
+use Rattle.day_rules.specs.Entries.{BudgetChange, entry_of_change}
+use Rattle.day_rules.specs.Replies.{Reply, answered, added, budget_reply, change_reply, changes_with, full, asks_with, bids_with, text_with, is_awarded, is_of_auction, sale_reply, settled_reply, ask_reply_by, ask_reply, ruled_reply, known_reply, notice_reply, tick_reply, ticked, seen_in}
 use Rattle.day_rules.specs.Terms.{Terms}
 use Rattle.answer_lines.specs.Answers.{ask_told, IsAtHand}
 
@@ -67,7 +71,7 @@ known_at_hand history kind auction n (Some w) =
 ticked_at_hand : (history : List Entry) (moment ended : ℕ) → IsAtHand history (ticked moment ended)
 ticked_at_hand history moment ended = either history (ended == 0) (answered (Answer.Ticked 0)) (added (Answer.Ticked ended) (Entry.Expire moment)) refl refl
 
--- of each call of a day: to an ask, to a notice, to a tick
+-- of each call of a day: to an ask, to a notice, to a tick, and, below, to a change of a budget
 pub ask_is_at_hand : (terms : Terms) (history : List Entry) (a : Ask) → IsAtHand history (ask_reply terms history a)
 ask_is_at_hand terms history a = ask_at_hand_by (seen_in history a.auction a.digest) terms history a
 
@@ -76,3 +80,21 @@ notice_is_at_hand history kind auction n = known_at_hand history kind auction n 
 
 pub tick_is_at_hand : (history : List Entry) (now : ℕ) → IsAtHand history (tick_reply history now)
 tick_is_at_hand history now = ticked_at_hand history (max now (latest history)) (due_count (max now (latest history)) (awards_of history))
+
+changed_at_hand : (history : List Entry) (x : BudgetChange) (o : Option (ℕ × BudgetChange)) → IsAtHand history (change_reply history x o)
+changed_at_hand history x None =
+    let last = last_change x.campaign history in
+    let money = committed history x.campaign in
+    let count = changes_with history in
+    let third : Reply = if nat_lt MAX_CHANGES count then full Which.Changes count else added Answer.Budgeted (entry_of_change x) in
+    let second : Reply = if nat_lt x.budget.0 money then answered (Answer.BelowCommitted (units money)) else third in
+    either history (nat_lt x.change last) (answered (Answer.Late last)) second refl
+    (either history (nat_lt x.budget.0 money) (answered (Answer.BelowCommitted (units money))) third refl
+    (either history (nat_lt MAX_CHANGES count) (full Which.Changes count) (added Answer.Budgeted (entry_of_change x)) refl refl))
+changed_at_hand history x (Some (place, y)) =
+    either history (y.budget.0 == x.budget.0) (answered (Answer.Repeat place)) (answered (Answer.BudgetReused y.budget)) refl refl
+
+pub change_is_at_hand : (terms : Terms) (history : List Entry) (x : BudgetChange) → IsAtHand history (budget_reply terms history x)
+change_is_at_hand terms history x =
+    either history (nat_lt x.campaign (length terms.budgets)) (change_reply history x (same_change x history)) (answered Answer.NoCampaign)
+    (changed_at_hand history x (same_change x history)) refl

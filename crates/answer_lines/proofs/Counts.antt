@@ -132,6 +132,7 @@ asks_nothing (Entry.Win n) none = refl
 asks_nothing (Entry.Bill n) none = refl
 asks_nothing (Entry.Loss n) none = refl
 asks_nothing (Entry.Expire now) none = refl
+asks_nothing (Entry.Budget campaign change budget) none = refl
 
 -- an entry that is no ask made none
 pub made_without : (entries left before : List Entry) (e : Entry) → HasMadeAll entries left → left ≡ before ++ e ∷ [] → ((a : Ask) → e ≡ Entry.Ask a → ⊥) → HasMadeAll entries before

@@ -56,7 +56,7 @@ nosale_line a =
 abbrev pub ask_line : List Campaign → Ask → List ℕ
 ask_line campaigns a = if is_awarded a then awarded_line campaigns a else nosale_line a
 
--- the line of a repeat: of an ask the line of the one that is kept, of a notice one of its own
+-- the line of a repeat: of an ask the line of the one that is kept, of a notice or a change of a budget one of its own
 abbrev pub repeat_line : List Campaign → Option Ask → List ℕ
 repeat_line campaigns None = codes "{\"answer\":\"repeat\"}"
 repeat_line campaigns (Some a) = ask_line campaigns a
@@ -69,6 +69,7 @@ abbrev pub which_text : Which → List ℕ
 which_text Which.Auctions = codes "auctions"
 which_text Which.Bids = codes "bids"
 which_text Which.Text = codes "text"
+which_text Which.Changes = codes "changes"
 
 abbrev pub dayfull_line : Which → ℕ → List ℕ
 dayfull_line which count =
@@ -85,6 +86,18 @@ conflict_line kept = codes "{\"answer\":\"conflict\",\"kept\":\"" ++ end_text ke
 abbrev pub ticked_line : ℕ → List ℕ
 ticked_line ended = codes "{\"answer\":\"ticked\",\"ended\":" ++ decimal ended ++ codes "}"
 
+-- the budget that stands with the number of a change, in units
+abbrev pub budgetreused_line : ℕ → List ℕ
+budgetreused_line kept = codes "{\"answer\":\"budgetreused\",\"kept\":" ++ decimal kept ++ codes "}"
+
+-- the greatest number of the campaign's changes
+abbrev pub late_line : ℕ → List ℕ
+late_line last = codes "{\"answer\":\"late\",\"last\":" ++ decimal last ++ codes "}"
+
+-- the money that the budget doesn't cover, in units
+abbrev pub below_line : ℕ → List ℕ
+below_line committed = codes "{\"answer\":\"below\",\"committed\":" ++ decimal committed ++ codes "}"
+
 -- the line of an answer, and of the ask that it is about: there for Awarded and NoSale (without one nothing is told),
 -- and for a Repeat exactly where it is of an ask. What is about no ask is told by the answer alone.
 abbrev pub answer_line : List Campaign → Answer → Option Ask → List ℕ
@@ -97,6 +110,11 @@ answer_line campaigns Answer.Unknown ask = codes "{\"answer\":\"unknown\"}"
 answer_line campaigns (Answer.Ticked ended) ask = ticked_line ended
 answer_line campaigns (Answer.Reused kept given) ask = reused_line kept given
 answer_line campaigns (Answer.DayFull which count) ask = dayfull_line which count
+answer_line campaigns Answer.Budgeted ask = codes "{\"answer\":\"budget\"}"
+answer_line campaigns (Answer.BudgetReused kept) ask = budgetreused_line kept.0
+answer_line campaigns (Answer.Late last) ask = late_line last
+answer_line campaigns (Answer.BelowCommitted committed) ask = below_line committed.0
+answer_line campaigns Answer.NoCampaign ask = codes "{\"answer\":\"nocampaign\"}"
 
 -- the place of the history that an answer names, if it names one
 abbrev pub place_told : Answer → Option ℕ
@@ -109,6 +127,11 @@ place_told Answer.Unknown = None
 place_told (Answer.Ticked ended) = None
 place_told (Answer.Reused kept given) = None
 place_told (Answer.DayFull which count) = None
+place_told Answer.Budgeted = None
+place_told (Answer.BudgetReused kept) = None
+place_told (Answer.Late last) = None
+place_told (Answer.BelowCommitted committed) = None
+place_told Answer.NoCampaign = None
 
 -- the ask that an answer is about: the one at the place that it names, in the history that its call left
 abbrev pub ask_told : List Entry → Answer → Option Ask

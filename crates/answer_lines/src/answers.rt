@@ -1,12 +1,12 @@
 //! The line of each answer.
 ghost use Rattle.std.specs.Prelude.{◌≡◌, ◌++◌, OnOk, option_map, string_bytes};
 ghost use Rattle.hex.specs.Hex.{encode_lower};
-ghost use Rattle.answer_lines.specs.Answers.{answer_line, conflict_line, dayfull_line, end_text, repeat_line, reused_line, ticked_line, which_text};
+ghost use Rattle.answer_lines.specs.Answers.{answer_line, below_line, budgetreused_line, conflict_line, dayfull_line, end_text, late_line, repeat_line, reused_line, ticked_line, which_text};
 
 use crate::awards::{push_ask, push_awarded, push_no_sale};
 use crate::pieces::push;
 use adx_json::push_number;
-use adx_units::OutOfMemory;
+use adx_units::{OutOfMemory, Units};
 use day_rules::{Answer, Ask, Which};
 use deal_floor::Campaign;
 use hex::encode_to_slice;
@@ -19,10 +19,11 @@ fn push_which(out: &mut String, which: Which) -> Result<(), OutOfMemory>
         Which::Auctions => push(out, "auctions"),
         Which::Bids => push(out, "bids"),
         Which::Text => push(out, "text"),
+        Which::Changes => push(out, "changes"),
     }
 }
 
-/// Writes the line of an ask that would pass a limit of the day.
+/// Writes the line of an ask or a change that would pass a limit of the day.
 fn push_day_full(out: &mut String, which: Which, count: u64) -> Result<(), OutOfMemory>
     ensures { OnOk result (string_bytes out.new ≡ string_bytes out.old ++ dayfull_line which count) }
 {
@@ -83,6 +84,33 @@ fn push_ticked(out: &mut String, ended: u32) -> Result<(), OutOfMemory>
     push(out, "}")
 }
 
+/// Writes the line of a change whose number stands with another budget, in units.
+fn push_budget_reused(out: &mut String, kept: Units) -> Result<(), OutOfMemory>
+    ensures { OnOk result (string_bytes out.new ≡ string_bytes out.old ++ budgetreused_line kept.0) }
+{
+    push(out, "{\"answer\":\"budgetreused\",\"kept\":")?;
+    push_number(out, kept.0)?;
+    push(out, "}")
+}
+
+/// Writes the line of a change whose number is below the campaign's greatest.
+fn push_late(out: &mut String, last: u32) -> Result<(), OutOfMemory>
+    ensures { OnOk result (string_bytes out.new ≡ string_bytes out.old ++ late_line last) }
+{
+    push(out, "{\"answer\":\"late\",\"last\":")?;
+    push_number(out, u64::from(last))?;
+    push(out, "}")
+}
+
+/// Writes the line of a budget below the campaign's committed money, in units.
+fn push_below(out: &mut String, committed: Units) -> Result<(), OutOfMemory>
+    ensures { OnOk result (string_bytes out.new ≡ string_bytes out.old ++ below_line committed.0) }
+{
+    push(out, "{\"answer\":\"below\",\"committed\":")?;
+    push_number(out, committed.0)?;
+    push(out, "}")
+}
+
 /// Writes the line of a repeat: of an ask its own line.
 fn push_repeat(
     out: &mut String,
@@ -98,7 +126,8 @@ fn push_repeat(
 }
 
 /// Writes the line of an answer, without a newline. `ask` is the ask that the answer is about: the one
-/// that was taken now, or the one that stands in the history already; a notice and a tick are about none.
+/// that was taken now, or the one that stands in the history already; a notice, a tick and a change of a
+/// budget are about none.
 pub fn push_answer(
     out: &mut String,
     campaigns: &[Campaign],
@@ -123,5 +152,10 @@ pub fn push_answer(
         Answer::Ticked { ended } => push_ticked(out, *ended),
         Answer::Reused { kept_digest, given } => push_reused(out, kept_digest, given),
         Answer::DayFull { which, count } => push_day_full(out, *which, *count),
+        Answer::Budgeted => push(out, "{\"answer\":\"budget\"}"),
+        Answer::BudgetReused { kept } => push_budget_reused(out, *kept),
+        Answer::Late { last } => push_late(out, *last),
+        Answer::BelowCommitted { committed } => push_below(out, *committed),
+        Answer::NoCampaign => push(out, "{\"answer\":\"nocampaign\"}"),
     }
 }

@@ -36,7 +36,12 @@ fn ask_told<'a>(entries: &'a [Entry], answer: &Answer) -> Option<&'a Ask>
         | Answer::Unknown
         | Answer::Ticked { .. }
         | Answer::Reused { .. }
-        | Answer::DayFull { .. } => None,
+        | Answer::DayFull { .. }
+        | Answer::Budgeted
+        | Answer::BudgetReused { .. }
+        | Answer::Late { .. }
+        | Answer::BelowCommitted { .. }
+        | Answer::NoCampaign => None,
     }
 }
 
@@ -55,6 +60,10 @@ fn asked(entry: &Entry) -> Option<&Ask>
 {
     match entry {
         Entry::Ask(ask) => Some(ask),
-        Entry::Win { .. } | Entry::Bill { .. } | Entry::Loss { .. } | Entry::Expire { .. } => None,
+        Entry::Win { .. }
+        | Entry::Bill { .. }
+        | Entry::Loss { .. }
+        | Entry::Expire { .. }
+        | Entry::Budget { .. } => None,
     }
 }

@@ -13,10 +13,8 @@ mod awards;
 mod faults;
 mod pieces;
 mod table;
-#[cfg(test)]
-mod tests;
 
 pub use answers::{push_answer, push_digest};
 pub use at_hand::ask_at_hand;
 pub use faults::{Fault, push_fault};
-pub use table::push_table;
+pub use table::{ask_count, push_table};

@@ -56,8 +56,8 @@ fn push_rows(out: &mut String, campaigns: &[Campaign], book: &Book) -> Result<()
     Ok(())
 }
 
-/// The number of asks of a history.
-fn ask_count(entries: &[Entry]) -> u64
+/// The number of asks of a history, by a walk over it.
+pub fn ask_count(entries: &[Entry]) -> u64
     ensures { result ≡ ask_count_of entries.now }
 {
     let mut count: u64 = 0;
@@ -101,31 +101,33 @@ fn award_count(entries: &[Entry]) -> u64
 }
 
 /// Writes the row of counts of the closing table.
-fn push_counts(out: &mut String, awards: u64, entries: &[Entry]) -> Result<(), OutOfMemory>
-    ensures { OnOk result (string_bytes out.new ≡ string_bytes out.old ++ counts_text (ask_count_of entries.now) awards (length entries.now)) }
+fn push_counts(out: &mut String, asks: u64, awards: u64, entries: u64) -> Result<(), OutOfMemory>
+    ensures { OnOk result (string_bytes out.new ≡ string_bytes out.old ++ counts_text asks awards entries) }
 {
     push(out, "{\"asks\":")?;
-    push_number(out, ask_count(entries))?;
+    push_number(out, asks)?;
     push(out, ",\"awards\":")?;
     push_number(out, awards)?;
     push(out, ",\"entries\":")?;
-    push_number(out, entries.len() as u64)?;
+    push_number(out, entries)?;
     push(out, "}\n")
 }
 
 /// Writes the closing table: a row for each campaign of the roster, and the counts. The entries are a legal
-/// history, and the book is the history's.
+/// history with so many asks, and the book is the history's, with its current budgets.
 pub fn push_table(
     out: &mut String,
     campaigns: &[Campaign],
     book: &Book,
+    asks: u64,
     entries: &[Entry],
 ) -> Result<(), OutOfMemory>
-    requires { length book.now ≡ length campaigns.now }
+    requires rows { length book.now ≡ length campaigns.now }
+    requires asks { asks ≡ ask_count_of entries.now }
     ensures { OnOk result ((terms : Terms) → IsLegal terms entries.now → book.now ≡ accounts_in (budgets_after terms entries.now) (awards_of entries.now)
         → string_bytes out.new ≡ string_bytes out.old ++ closing_table campaigns.now terms entries.now) }
 {
     push_rows(out, campaigns, book)?;
-    push_counts(out, award_count(entries), entries)?;
+    push_counts(out, asks, award_count(entries), entries.len() as u64)?;
     Ok(())
 }

@@ -7,7 +7,5 @@
 
 mod bids;
 mod making;
-#[cfg(test)]
-mod tests;
 
 pub use making::{make_ask, make_ask_lent};

@@ -79,7 +79,10 @@ module _ (cs : List Campaign) (order : List ℕ) (sorted : IsOrder (map pair_of 
       false_true : false ≡ true → ⊥
       false_true h = cc
 
-  place_low : (i : ℕ) → IsFound (map pair_of cs) order pair i → place_at order i < length cs
+  pub absent_pair : (i : ℕ) → IsGap (map pair_of cs) order pair i → position (has_pair seat cid) cs ≡ None
+  absent_pair i gap = none_is (has_pair seat cid) cs (fails i gap)
+
+  pub place_low : (i : ℕ) → IsFound (map pair_of cs) order pair i → place_at order i < length cs
   place_low i found = let n = length-map cs pair_of in let b = sorted.below i found.in_range in omega arith
 
   has_found : (i : ℕ) (d : Campaign) → IsFound (map pair_of cs) order pair i → has_pair seat cid (get_or cs (place_at order i) d) ≡ true
@@ -92,6 +95,12 @@ module _ (cs : List Campaign) (order : List ℕ) (sorted : IsOrder (map pair_of 
   -- no campaign at another place has the pair
   only : (i k : ℕ) (d : Campaign) → IsFound (map pair_of cs) order pair i → k < length cs → has_pair seat cid (get_or cs k d) ≡ true → k ≡ place_at order i
   only i k d found low h = only_place (map pair_of cs) order sorted pair i k found (within k low) (ties k d low h)
+
+  -- the campaign that is found
+  pub found_pair : (i : ℕ) (d : Campaign) → IsFound (map pair_of cs) order pair i → position (has_pair seat cid) cs ≡ Some (place_at order i)
+  found_pair i d found =
+      some_is (has_pair seat cid) cs (place_at order i) d (place_low i found) (has_found i d found)
+      (λ k low. is_false _ (λ h. let same = only i k d found (let l = place_low i found in omega arith) h in omega arith))
 
   -- the campaign that is found, where it is the bidder's
   pub found_place : (bidder i : ℕ) (c : Campaign) → IsFound (map pair_of cs) order pair i → c ≡ get_or cs (place_at order i) c → (c.bidder == bidder) ≡ true → position (is_campaign bidder seat cid) cs ≡ Some (place_at order i)
@@ -120,6 +129,10 @@ slice_get_is (x ∷ xs) (suc i) d low = slice_get_is xs i d (omega arith)
 pub found_some : (cs : List Campaign) (order : List ℕ) → IsOrder (map pair_of cs) order → (seat cid : List ℕ) (i : ℕ) → IsFound (map pair_of cs) order (seat, cid) i → list_any (has_pair seat cid) cs ≡ true
 found_some [] order sorted seat cid i found = absurd (let low = sorted.below i found.in_range in omega arith)
 found_some (c ∷ cs) order sorted seat cid i found = found_any (c ∷ cs) order sorted seat cid i c found
+
+pub pair_found : (cs : List Campaign) (order : List ℕ) → IsOrder (map pair_of cs) order → (seat cid : List ℕ) (i : ℕ) → IsFound (map pair_of cs) order (seat, cid) i → position (has_pair seat cid) cs ≡ Some (place_at order i)
+pair_found [] order sorted seat cid i found = absurd (let low = sorted.below i found.in_range in omega arith)
+pair_found (c ∷ cs) order sorted seat cid i found = found_pair (c ∷ cs) order sorted seat cid i c found
 
 -- the bidder's campaign was read at the place that was read, or another bidder's
 pub own_place : (cs : List Campaign) (order : List ℕ) → IsOrder (map pair_of cs) order → (seat cid : List ℕ) (bidder i n : ℕ) → IsFound (map pair_of cs) order (seat, cid) i → n ≡ place_at order i → option_map_or (λ (c : Campaign). c.bidder == bidder) (slice_get cs n) false ≡ true → Some n ≡ position (is_campaign bidder seat cid) cs

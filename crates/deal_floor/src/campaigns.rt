@@ -73,6 +73,14 @@ impl Campaigns {
         place_in(&self.campaigns, &self.order, bidder, seat, cid)
     }
 
+    /// The place of the campaign with that seat and cid, from 0. None exactly where there is none.
+    pub fn place_of_pair(&self, seat: &str, cid: &str) -> Option<usize>
+        ensures value { result ≡ position (has_pair_by seat.now cid.now) self.now }
+        ensures below { IfSome result (λ place. place < length self.now) }
+    {
+        place_of_pair_in(&self.campaigns, &self.order, seat, cid)
+    }
+
     /// Adds a campaign behind the others.
     pub(crate) fn push(&mut self, campaign: Campaign) -> Result<(), OutOfMemory>
         requires room { length self.old < MOST_CAMPAIGNS }
@@ -107,6 +115,18 @@ fn has_pair_in(campaigns: &[Campaign], order: &[u32], seat: &str, cid: &str) -> 
     match search(campaigns, order, seat, cid) {
         Ok(_at) => true,
         Err(_at) => false,
+    }
+}
+
+/// The place of the campaign with that pair. None exactly where there is none.
+fn place_of_pair_in(campaigns: &[Campaign], order: &[u32], seat: &str, cid: &str) -> Option<usize>
+    requires sorted { IsOrder (map pair_of campaigns.now) order.now }
+    ensures value { result ≡ position (has_pair_by seat.now cid.now) campaigns.now }
+    ensures below { IfSome result (λ place. place < length campaigns.now) }
+{
+    match search(campaigns, order, seat, cid) {
+        Ok(at) => Some(read(order, at)),
+        Err(_at) => None,
     }
 }
 

@@ -139,7 +139,7 @@ const OUTCOMES: [Outcome; 2] = [
             Some(Answer::Unknown),
             None,
         ],
-        bytes: 15,
+        bytes: 9,
         entries: 2,
         faults: 0,
     },

@@ -74,7 +74,7 @@ fn journal_of_two(alloc: Global, roster: &Roster) -> Result<Vec<u8>, DeskFault>
 
 /// What the front of so many bytes of a journal of two entries is, whose bill stands at that place.
 fn cut_at(len: usize, bill: usize) -> Result<u64, DeskFault> {
-    let end = bill.saturating_add(10);
+    let end = bill.saturating_add(7);
     if len <= 1 {
         Ok(0)
     } else if len < 9 {
@@ -94,7 +94,7 @@ fn cut_at(len: usize, bill: usize) -> Result<u64, DeskFault> {
 
 /// How many fronts of a journal of two entries are told wrong, or are written to though they are refused.
 fn wrong_cuts(alloc: Global, roster: &Roster, whole: &[u8]) -> Result<u64, DeskFault> {
-    let bill = whole.len().saturating_sub(11);
+    let bill = whole.len().saturating_sub(8);
     let mut wrong: u64 = 0;
     for len in 0..=whole.len() {
         let told = told(alloc, roster, &whole[..len])?;
@@ -209,27 +209,17 @@ fn rows() -> [Row; 8] {
             Err(DeskFault::OtherRoster { kept: OF_X }),
         ),
         (
-            &[
-                &[Piece::Digest],
-                &[Piece::Ask],
-                &[Piece::Bytes(b"\x03\0\0\0\0")],
-            ],
+            &[&[Piece::Digest], &[Piece::Ask], &[Piece::Bytes(b"\x03\0")]],
             Ok(2),
         ),
         // More than one entry in a record.
         (
-            &[
-                &[Piece::Digest],
-                &[Piece::Ask, Piece::Bytes(b"\x03\0\0\0\0")],
-            ],
+            &[&[Piece::Digest], &[Piece::Ask, Piece::Bytes(b"\x03\0")]],
             Ok(2),
         ),
         // A rest behind two entries, and no entry at all.
         (
-            &[
-                &[Piece::Digest],
-                &[Piece::Ask, Piece::Bytes(b"\x03\0\0\0\0\x09")],
-            ],
+            &[&[Piece::Digest], &[Piece::Ask, Piece::Bytes(b"\x03\0\x09")]],
             Err(DeskFault::BadEntry { at: 2 }),
         ),
         (
@@ -238,14 +228,14 @@ fn rows() -> [Row; 8] {
         ),
         // A bill of no award, and a second one of the same.
         (
-            &[&[Piece::Digest], &[Piece::Bytes(b"\x03\x07\0\0\0")]],
+            &[&[Piece::Digest], &[Piece::Bytes(b"\x03\x07")]],
             Err(DeskFault::BadEntry { at: 0 }),
         ),
         (
             &[
                 &[Piece::Digest],
-                &[Piece::Ask, Piece::Bytes(b"\x03\0\0\0\0")],
-                &[Piece::Bytes(b"\x03\0\0\0\0")],
+                &[Piece::Ask, Piece::Bytes(b"\x03\0")],
+                &[Piece::Bytes(b"\x03\0")],
             ],
             Err(DeskFault::BadEntry { at: 2 }),
         ),
@@ -256,7 +246,7 @@ fn rows() -> [Row; 8] {
 fn told_of(alloc: Global, payloads: &[&[Piece]]) -> Result<Outcome, DeskFault> {
     let roster = roster(alloc, 0)?;
     let two = journal_of_two(alloc, &roster)?;
-    let bill = two.as_slice().len().saturating_sub(11);
+    let bill = two.as_slice().len().saturating_sub(8);
     let own = Own {
         digest: &roster.digest,
         ask: two.get(51..bill).unwrap_or(&[]),
@@ -270,6 +260,32 @@ fn a_journal_whose_entries_may_not_stand_there(rt: HostRuntime) {
     for (payloads, found) in rows() {
         assert_eq!(rt;
             told_of(rt.alloc(), payloads),
+            Ok(Outcome { found, stays: true })
+        );
+    }
+}
+
+/// What a desk finds in a journal of two entries whose head has another digit.
+fn told_of_digit(alloc: Global, digit: u8) -> Result<Outcome, DeskFault> {
+    let roster = roster(alloc, 0)?;
+    let mut file = journal_of_two(alloc, &roster)?;
+    if let Some(there) = file.get_mut(8) {
+        *there = digit;
+    }
+    told(alloc, &roster, file.as_slice())
+}
+
+#[test]
+fn the_digit_of_a_head(rt: HostRuntime) {
+    for (digit, found) in [
+        (b'2', Ok(2)),
+        // The entries of format 2 are none of format 1.
+        (b'1', Err(DeskFault::BadEntry { at: 0 })),
+        (b'3', Err(DeskFault::NotAJournal { at: 8 })),
+        (b'0', Err(DeskFault::NotAJournal { at: 8 })),
+    ] {
+        assert_eq!(rt;
+            told_of_digit(rt.alloc(), digit),
             Ok(Outcome { found, stays: true })
         );
     }

@@ -10,8 +10,6 @@ mod law;
 mod macros;
 mod place;
 mod template;
-#[cfg(test)]
-mod tests;
 mod values;
 
 pub use expand::{expand_markup, expand_url};

@@ -6,6 +6,7 @@ use Rattle.std.proofs.lemmas.Grind.{flat_map-append}
 use Rattle.std.proofs.lemmas.List.{map-append}
 use Rattle.std.proofs.lemmas.Option.{slice_get-map}
 use Rattle.adx_units.specs.declared.offer.Offer.{Offer}
+use Rattle.adx_units.specs.declared.units.Units.{Units}
 use Rattle.allocator_core.specs.declared.reason.TheConstants.{AWARDED}
 use Rattle.notice_book.specs.declared.award.Award.{Award}
 use Rattle.notice_book.specs.declared.kind.NoticeKind.{NoticeKind}
@@ -19,7 +20,7 @@ use Rattle.day_rules.specs.Legal.{IsLegal}
 use Rattle.day_rules.specs.Terms.{Terms}
 use Rattle.day_rules.proofs.Lists.{get_numbered}
 use Rattle.day_rules.proofs.Pushing.{awards_moment, awards_notice, makes_none}
-use Rattle.day_rules.proofs.Asking.{awards_ask, awards_length}
+use Rattle.day_rules.proofs.Asking.{awards_ask, awards_budget, awards_length}
 use Rattle.outbox.specs.Bids.{Bid, awarded, awarded_bids, awarded_by, bid_of, is_award, texts_at}
 use Rattle.outbox.specs.Rows.{row_made, rows_made}
 
@@ -113,6 +114,7 @@ made_many place (Entry.Win n) = refl
 made_many place (Entry.Bill n) = refl
 made_many place (Entry.Loss n) = refl
 made_many place (Entry.Expire now) = refl
+made_many place (Entry.Budget campaign change budget) = refl
 
 as_many_from : (place : ℕ) (es : List Entry) → length (flat_map bids_by es) ≡ length (flat_map (λ (p : ℕ × Entry). made_by p.0 p.1) (enumerate_from place es))
 as_many_from place [] = refl
@@ -163,6 +165,13 @@ bids_moment history now q =
     ∙ (ap (both (slice_get (awarded history) q)) awards
     ∙ (both_map f (slice_get (awarded history) q) (slice_get (awards_of history) q)
     ∙ ap (option_map (moment_bid now)) (sym (get_zip (awarded history) (awards_of history) q)))))
+
+-- a change of a budget leaves them as they are
+pub bids_change : (history : List Entry) (campaign change : ℕ) (budget : Units) → awarded_bids (history ++ Entry.Budget campaign change budget ∷ []) ≡ awarded_bids history
+bids_change history campaign change budget =
+    let h : List Entry = history ++ Entry.Budget campaign change budget ∷ [] in
+    let bids : awarded h ≡ awarded history = awarded_push history (Entry.Budget campaign change budget) ∙ append-nil (awarded history) in
+    ap (λ (bs : List Bid). zip bs (awards_of h)) bids ∙ ap (λ (ws : List Award). zip (awarded history) ws) (awards_budget history campaign change budget)
 
 -- behind an ask its own stand behind the others
 abbrev pub new_bid : ℕ → Ask → ℕ × Offer → Bid × Award

@@ -10,6 +10,7 @@ use Rattle.std.proofs.lemmas.Bool.Decides.{nat_tests}
 use Rattle.std.proofs.lemmas.List.Elements.{All-append, All-cons, All-filter, All-head, All-nil, All-tail, All-weaker}
 use Rattle.std.proofs.lemmas.Option.{slice_get-map, slice_get_past, slice_get_within}
 use Rattle.adx_units.specs.declared.offer.Offer.{Offer}
+use Rattle.adx_units.specs.declared.units.Units.{Units}
 use Rattle.adx_units.specs.declared.memory.OutOfMemory.{OutOfMemory}
 use Rattle.allocator_core.specs.declared.reason.TheConstants.{LOST_TO_HIGHER}
 use Rattle.notice_book.specs.declared.award.Award.{Award}
@@ -38,7 +39,7 @@ use Rattle.outbox.specs.Rows.{deadline_of, row_bill, row_loss, row_made, row_of,
 use Rattle.outbox.specs.Following.{AreRowsOf, HasFollowed, OutboxState, RowsState, deadline_in, row_in}
 use Rattle.outbox.specs.Keeping.{EndsAll, IsForgotten, IsMade, added, beside, billed_row, due_numbers, made_deadline, made_row, put_at, won_row}
 use Rattle.outbox.specs.Steps.{AsksFor, Continues, due_in, post_in}
-use Rattle.outbox.proofs.Sold.{as_many, bids_ask, bids_length, bids_moment, bids_notice, both, changed_bid, get_zip, moment_bid, new_bid, rows_are, winners, winners_for}
+use Rattle.outbox.proofs.Sold.{as_many, bids_ask, bids_change, bids_length, bids_moment, bids_notice, both, changed_bid, get_zip, moment_bid, new_bid, rows_are, winners, winners_for}
 use Rattle.outbox.proofs.Cases.{bill_posts, bill_row, due_posts, has_end_url, has_win_url, is_kept_due, loss_posts, lost_row, moment_deadline, moment_row, stays_by, win_deadline, win_posts, win_row}
 use Rattle.outbox.proofs.Keyed.{ascends, at_is, due_has, keyed, keyed_is, or-not}
 
@@ -271,6 +272,16 @@ posts_moment history now place old are sorted =
     ∙ due_flat (post_in (row_loss place OPPORTUNITY_EXPIRED) old) now place 0 (awarded_bids history)
     (λ k p e. ap (λ (o : Option Row). option_map_or (row_loss place OPPORTUNITY_EXPIRED) o []) (ap (row_in old) (omega arith) ∙ (are.rows k ∙ ap (option_and_then row_of) e)))
 
+-- ---- a change of a budget
+
+rows_change : (history : List Entry) (campaign change : ℕ) (budget : Units) (old new : RowsState) → AreRowsOf history old → new ≡ old → AreRowsOf (history ++ Entry.Budget campaign change budget ∷ []) new
+rows_change history campaign change budget old new are same =
+    let behind : awarded_bids history ≡ awarded_bids (history ++ Entry.Budget campaign change budget ∷ []) = sym (bids_change history campaign change budget) in
+    record {
+      rows = λ q. ap (λ (k : RowsState). row_in k q) same ∙ (are.rows q ∙ ap (λ (bs : List (Bid × Award)). option_and_then row_of (slice_get bs q)) behind);
+      deadlines = λ q. ap (λ (k : RowsState). deadline_in k q) same ∙ (are.deadlines q ∙ ap (λ (bs : List (Bid × Award)). option_and_then deadline_of (slice_get bs q)) behind);
+    }
+
 -- ---- every entry
 
 abbrev pub counted_on : OutboxState → OutboxState
@@ -354,6 +365,13 @@ continues_ok terms history (Entry.Expire now) done old mid followed day asks = (
       ∙ (ap (λ k. old.pending ++ flat_map (post_in (row_loss k OPPORTUNITY_EXPIRED) old.kept) (due_in now old.kept)) followed.count
       ∙ ap (λ (ps : List Post). old.pending ++ ps) (posts_moment history now (length history) old.kept followed.rows asks.1.0)),
 )
+continues_ok terms history (Entry.Budget campaign change budget) done old mid followed day asks = (
+  record {
+    count = count_on terms history (Entry.Budget campaign change budget) old mid followed day asks.2;
+    rows = rows_change history campaign change budget old.kept mid.kept followed.rows asks.1;
+  },
+  asks.0,
+)
 
 again : (history : List Entry) (e : Entry) (old new : OutboxState) (wanting : OutOfMemory) → HasFollowed history old → AreRowsOf history new.kept → new.pending ≡ old.pending → new.followed ≡ old.followed → Continues history e (Err wanting) old new
 again history e old new wanting followed rows pending count = (record { count = count ∙ followed.count; rows = rows }, pending)
@@ -371,3 +389,4 @@ continues_err terms history (Entry.Win n) wanting old new followed day asks = ag
 continues_err terms history (Entry.Bill n) wanting old new followed day asks = again history (Entry.Bill n) old new wanting followed (as_before history old.kept new.kept followed.rows asks.1) asks.0 asks.2
 continues_err terms history (Entry.Loss n) wanting old new followed day asks = again history (Entry.Loss n) old new wanting followed (as_before history old.kept new.kept followed.rows asks.1) asks.0 asks.2
 continues_err terms history (Entry.Expire now) wanting old new followed day asks = again history (Entry.Expire now) old new wanting followed (as_before history old.kept new.kept followed.rows asks.1) asks.0 asks.2
+continues_err terms history (Entry.Budget campaign change budget) wanting old new followed day asks = again history (Entry.Budget campaign change budget) old new wanting followed (as_before history old.kept new.kept followed.rows asks.1) asks.0 asks.2

@@ -67,13 +67,15 @@ abbrev pub award_post : (Bid → List Post) → List Entry → ℕ → List Post
 award_post post before n = option_map_or post (slice_get (awarded before) n) []
 
 -- the posts that an entry asks for, behind the entries before it: an ask those of the bids that it lost, in their order,
--- a win, a bill or a loss that of its award, and a moment those of the awards that it ends, in their order
+-- a win, a bill or a loss that of its award, a moment those of the awards that it ends, in their order, and a change of a
+-- budget none
 abbrev pub posts_by : List Entry → Entry → List Post
 posts_by before (Entry.Ask a) = flat_map (lost_post (length before) a) a.kept
 posts_by before (Entry.Win n) = award_post (win_post (length before)) before n
 posts_by before (Entry.Bill n) = award_post (bill_post (length before)) before n
 posts_by before (Entry.Loss n) = award_post (loss_post (length before) LOST_TO_HIGHER) before n
 posts_by before (Entry.Expire now) = flat_map (due_post (length before) now) (awarded_bids before)
+posts_by before (Entry.Budget campaign change budget) = []
 
 -- the posts of some entries behind others, one entry after the other
 abbrev pub posts_behind : List Entry → List Entry → List Post

@@ -32,6 +32,7 @@ posts_in o (Entry.Bill n) = post_in (row_bill o.followed) o.kept n
 posts_in o (Entry.Loss n) = post_in (row_loss o.followed LOST_TO_HIGHER) o.kept n
 posts_in o (Entry.Expire now) =
     flat_map (post_in (row_loss o.followed OPPORTUNITY_EXPIRED) o.kept) (due_in now o.kept)
+posts_in o (Entry.Budget campaign change budget) = []
 
 -- what the rows are behind an entry
 abbrev pub RowsBehind : Entry → RowsState → RowsState → Type 0
@@ -40,6 +41,7 @@ RowsBehind (Entry.Win n) old new = IsWon n old new
 RowsBehind (Entry.Bill n) old new = IsBilled n old new
 RowsBehind (Entry.Loss n) old new = Ends n old new
 RowsBehind (Entry.Expire now) old new = IsStrictlySortedBy nat_cmp (keys_of old.deadlines) × EndsAll (due_in now old) old new
+RowsBehind (Entry.Budget campaign change budget) old new = new ≡ old
 
 -- what the rows are where memory is wanting
 abbrev pub RowsAgain : Entry → RowsState → RowsState → Type 0
@@ -48,6 +50,7 @@ RowsAgain (Entry.Win n) old new = new ≡ old
 RowsAgain (Entry.Bill n) old new = new ≡ old
 RowsAgain (Entry.Loss n) old new = new ≡ old
 RowsAgain (Entry.Expire now) old new = new ≡ old
+RowsAgain (Entry.Budget campaign change budget) old new = new ≡ old
 
 -- the posts of an entry are put behind the others, and the rows are as it leaves them; nothing of it is done where
 -- memory is wanting

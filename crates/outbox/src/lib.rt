@@ -9,8 +9,6 @@ mod pushing;
 mod report;
 mod row;
 mod rows;
-#[cfg(test)]
-mod tests;
 mod trying;
 
 pub use calling::{Call, HTTP_PORT};

@@ -157,6 +157,7 @@ impl Outbox {
             Entry::Bill { award } => self.take_bill(u64::from(*award)),
             Entry::Loss { award } => self.take_loss(u64::from(*award)),
             Entry::Expire { now } => self.take_moment(*now),
+            Entry::Budget { .. } => Ok(()),
         }
     }
 

@@ -16,8 +16,6 @@ mod imp_reader;
 mod members;
 mod offered_imps;
 mod request_reader;
-#[cfg(test)]
-mod tests;
 
 pub use asked::for_bidders;
 pub use bid_request::{BidRequest, MOST_IMPS};

@@ -15,8 +15,6 @@ mod exchange_answer;
 mod fault;
 mod notice;
 mod sold;
-#[cfg(test)]
-mod tests;
 
 pub use bid::{Bid, MOST_BIDS, MOST_SECONDS};
 pub use bid_answer::{BidAnswer, SeatBid};

@@ -60,7 +60,7 @@ pub price_ranges : (v : Option Tree) → is_in_range (price_in v) ≡ true
 price_ranges v = price_text_ranges (number_in v)
 
 -- a budget
-abbrev IsBudget : Units → Type 0
+abbrev pub IsBudget : Units → Type 0
 IsBudget u = (1 ≤ u.0) × (u.0 ≤ BUDGET_LIMIT)
 
 budget_chain : (p q r s : Bool) (a b c d : PriceFault) (u : Units) → (q ≡ false → r ≡ false → s ≡ false → IsBudget u) → is_ok (cond (not p) (Err a) (cond q (Err b) (cond r (Err c) (cond s (Err d) (Ok u))))) ≡ true → IsBudget (units_or_zero (cond (not p) (Err a) (cond q (Err b) (cond r (Err c) (cond s (Err d) (Ok u))))))
@@ -90,7 +90,7 @@ budget_units t some few whole =
     and_true true = refl
     and_true false = refl
 
-budget_text_is : (o : Option (List ℕ)) → is_ok (budget_by o) ≡ true → IsBudget (units_or_zero (budget_by o))
+pub budget_text_is : (o : Option (List ℕ)) → is_ok (budget_by o) ≡ true → IsBudget (units_or_zero (budget_by o))
 budget_text_is None h = absurd (cc h)
 budget_text_is (Some n) h =
     budget_chain (is_number n) (has_minus n || numerator n == 0) (nat_lt (10 ^ 15 * denominator n) (numerator n * 10 ^ 9)) (not (numerator n * 10 ^ 9 % denominator n == 0)) _ _ _ _ (units (numerator n * 10 ^ 9 / denominator n))

@@ -1,17 +1,21 @@
 -- The call that a line means is one that a day takes.
-use Rattle.std.proofs.Common.{◌≡◌, inl, inr, ℕ, ◌+◌, ◌*◌, ◌≤◌, List, [], ◌∷◌, map, length, Bool, true, false, cond, ◌&&◌, nat_le, codes, Option, Some, None, get_or, refl, sym, subst, arith}
+use Rattle.std.proofs.Common.{◌≡◌, inl, inr, ℕ, ◌+◌, ◌*◌, ◌≤◌, List, [], ◌∷◌, map, length, Bool, true, false, cond, ◌&&◌, ◌==◌, nat_le, codes, is_ok, Option, Some, None, Result, Ok, Err, get_or, refl, sym, ap, subst, arith}
 use Rattle.std.specs.List.{list_all, flat_map, enumerate_from}
 use Rattle.std.proofs.lemmas.Bool.{leb-true}
 use Rattle.std.proofs.lemmas.List.{length-map, length-append}
 use Rattle.std.proofs.lemmas.Slice.Zip.{AllZip-long}
 use Rattle.adx_json.specs.Named.{member_in}
 use Rattle.adx_json.specs.Tree.{Tree, null, boolean, number, text, list, object}
-use Rattle.tree_view.specs.Values.{list_items, number_in}
+use Rattle.adx_units.specs.Money.{budget_of}
+use Rattle.adx_units.specs.declared.price.PriceFault.{PriceFault}
+use Rattle.adx_units.specs.declared.units.Units.{Units}
+use Rattle.rtb_request.specs.Amounts.{units_or_zero}
+use Rattle.tree_view.specs.Values.{list_items, number_in, text_in, whole_by}
 use Rattle.notice_book.specs.declared.kind.NoticeKind.{NoticeKind}
 use Rattle.rtb_request.proofs.Distinct.{and_true}
 use Rattle.rtb_request.specs.declared.bid_request.BidRequest.{BidRequest}
 use Rattle.rtb_response.specs.declared.bid_answer.BidAnswer.{BidAnswer}
-use Rattle.day_rules.specs.Replies.{Call, ask, notice, tick}
+use Rattle.day_rules.specs.Replies.{Call, ask, notice, tick, set_budget}
 use Rattle.day_rules.specs.Runs.{IsCall}
 use Rattle.deal_floor.specs.declared.campaign.Campaign.{Campaign}
 use Rattle.deal_floor.specs.declared.roster.Roster.{Roster}
@@ -19,10 +23,11 @@ use Rattle.ask_making.specs.Making.{bids_of, all_bids, offer_of, kept_of, ask_of
 use Rattle.ask_making.specs.Parts.{AreOf}
 use Rattle.ask_making.proofs.Formed.{well_formed, undecided}
 use Rattle.ask_making.proofs.Taking.{count_is}
-use Rattle.script_lines.specs.Members.{answers_in, is_null_or_object, ask_moment, moment_in}
-use Rattle.script_lines.specs.Meanings.{Meaning, calls, refused, GivesAnswer, RequestMeans, AskMeans, MeansBy, LineMeans, notice_meaning, tick_meaning}
-use Rattle.script_lines.specs.declared.limits.TheConstants.{LATEST_MOMENT}
-use Rattle.script_lines.proofs.Bounds.{whole_by_low}
+use Rattle.script_lines.specs.Changes.{change_by, change_in, pair_place}
+use Rattle.script_lines.specs.Members.{answers_in, is_null_or_object, ask_moment, change_number, from_one, moment_in}
+use Rattle.script_lines.specs.Meanings.{Meaning, calls, refused, GivesAnswer, RequestMeans, AskMeans, MeansBy, LineMeans, change_meaning, notice_meaning, tick_meaning}
+use Rattle.script_lines.specs.declared.limits.TheConstants.{LATEST_MOMENT, LAST_CHANGE}
+use Rattle.script_lines.proofs.Bounds.{IsBudget, budget_text_is, not_zero, whole_by_low}
 use Rattle.script_lines.proofs.BidsFit.{fits_day}
 
 -- the bids of so many answers are at most 64 times as many
@@ -84,6 +89,7 @@ request_taken r t ts now (ask a) few soon h =
     subst (λ b. IsCall (length r.campaigns) (ask b)) (sym h.made) (asked_taken h.asked r.campaigns h.answered now (omega (arith, long, few, bidders)) soon)
 request_taken r t ts now (notice kind auction award) few soon h = absurd h
 request_taken r t ts now (tick moment) few soon h = absurd h
+request_taken r t ts now (set_budget change) few soon h = absurd h
 
 ask_taken : (r : Roster) (t : Tree) (answers : Option (List Tree)) (now : Option ℕ) (c : Call) → ((ts : List Tree) → answers ≡ Some ts → length ts ≤ length r.bidders) → ((n : ℕ) → now ≡ Some n → n ≤ LATEST_MOMENT) → AskMeans r t answers now (calls c) → IsCall (length r.campaigns) c
 ask_taken r t None now c few soon h = absurd (cc h)
@@ -105,12 +111,38 @@ tick_taken : (n : ℕ) (moment : Option ℕ) → ((k : ℕ) → moment ≡ Some 
 tick_taken n None soon = tt
 tick_taken n (Some k) soon = let low = soon k refl in omega (arith, low)
 
-taken_by : (r : Roster) (t : Tree) (request kind moment : Option Tree) (c : Call) → MeansBy r t request kind moment (calls c) → IsCall (length r.campaigns) c
-taken_by r t (Some request) kind moment c h = ask_taken r request (answers_in (length r.bidders) (member_in (codes "answers") t)) (ask_moment (member_in (codes "now") t)) c (λ ts e. answers_few (length r.bidders) (member_in (codes "answers") t) ts e) (λ n e. ask_soon (member_in (codes "now") t) n e) h
-taken_by r t None (Some kind) moment c h = subst (TakenIf (length r.campaigns)) (sym h) (notice_taken (length r.campaigns) _ _ _)
-taken_by r t None None (Some moment) c h = subst (TakenIf (length r.campaigns)) (sym h) (tick_taken (length r.campaigns) (moment_in (Some moment)) (λ k e. moment_soon (Some moment) k e))
-taken_by r t None None None c h = absurd (cc h)
+-- a number of a change is at least 1, and a budget is in its range
+number_taken : (k : Option ℕ) (n : ℕ) → from_one k ≡ Some n → 1 ≤ n
+number_taken None n h = absurd (cc h)
+number_taken (Some k) n h = by (k == 0) refl h
+  where
+    by : (b : Bool) → (k == 0) ≡ b → cond b None (Some k) ≡ Some n → 1 ≤ n
+    by true zero is = absurd (cc is)
+    by false other is = let same : k ≡ n = cc is in let some = not_zero k other in omega arith
+
+change_taken : (n campaign : ℕ) (change : Option ℕ) (budget : Result Units PriceFault) → ((k : ℕ) → change ≡ Some k → 1 ≤ k) → ((u : Units) → budget ≡ Ok u → IsBudget u) → TakenIf n (change_meaning (change_by campaign change budget))
+change_taken n campaign None budget some range = tt
+change_taken n campaign (Some k) (Err fault) some range = tt
+change_taken n campaign (Some k) (Ok u) some range = (some k refl, range u refl)
+
+named_taken : (n : ℕ) (campaigns : List Campaign) (seat cid change budget : Option (List ℕ)) → TakenIf n (change_meaning (change_in campaigns seat cid change budget))
+named_taken n campaigns None cid change budget = tt
+named_taken n campaigns (Some seat) None change budget = tt
+named_taken n campaigns (Some seat) (Some cid) None budget = tt
+named_taken n campaigns (Some seat) (Some cid) (Some change) None = tt
+named_taken n campaigns (Some seat) (Some cid) (Some change) (Some budget) =
+    change_taken n (pair_place campaigns seat cid) (change_number change) (budget_of budget)
+    (λ k e. number_taken (whole_by LAST_CHANGE (Some change)) k e)
+    (λ u e. subst (λ r. IsBudget (units_or_zero r)) e (budget_text_is (Some budget) (ap is_ok e)))
+
+taken_by : (r : Roster) (t : Tree) (request kind moment budget : Option Tree) (c : Call) → MeansBy r t request kind moment budget (calls c) → IsCall (length r.campaigns) c
+taken_by r t (Some request) kind moment budget c h = ask_taken r request (answers_in (length r.bidders) (member_in (codes "answers") t)) (ask_moment (member_in (codes "now") t)) c (λ ts e. answers_few (length r.bidders) (member_in (codes "answers") t) ts e) (λ n e. ask_soon (member_in (codes "now") t) n e) h
+taken_by r t None (Some kind) moment budget c h = subst (TakenIf (length r.campaigns)) (sym h) (notice_taken (length r.campaigns) _ _ _)
+taken_by r t None None (Some moment) budget c h = subst (TakenIf (length r.campaigns)) (sym h) (tick_taken (length r.campaigns) (moment_in (Some moment)) (λ k e. moment_soon (Some moment) k e))
+taken_by r t None None None (Some budget) c h =
+    subst (TakenIf (length r.campaigns)) (sym h) (named_taken (length r.campaigns) r.campaigns (text_in (member_in (codes "seat") t)) (text_in (member_in (codes "cid") t)) (number_in (member_in (codes "change") t)) (number_in (Some budget)))
+taken_by r t None None None None c h = absurd (cc h)
 
 pub call_taken : (r : Roster) (line : List ℕ) (c : Call) → LineMeans r line (calls c) → IsCall (length r.campaigns) c
-call_taken r line c (inl (t, is, h)) = taken_by r t _ _ _ c h
+call_taken r line c (inl (t, is, h)) = taken_by r t _ _ _ _ c h
 call_taken r line c (inr (f, other, fault, e)) = absurd (cc e)

@@ -12,7 +12,7 @@ use Rattle.rtb_response.specs.Answers.{answer_in}
 use Rattle.rtb_response.specs.Seen.{seen_answer}
 use Rattle.rtb_response.specs.declared.bid_answer.BidAnswer.{BidAnswer}
 use Rattle.day_rules.specs.declared.ask.Ask.{Ask}
-use Rattle.day_rules.specs.Replies.{ask, notice, tick}
+use Rattle.day_rules.specs.Replies.{ask, notice, tick, set_budget}
 use Rattle.deal_floor.specs.Rosters.{roster_in}
 use Rattle.deal_floor.specs.Seen.{seen_roster}
 use Rattle.deal_floor.specs.declared.roster.Roster.{Roster}
@@ -64,12 +64,15 @@ request_one : (r : Roster) (t : Tree) (ts : List Tree) (now : ℕ) (m n : Meanin
 request_one r t ts now (calls (ask a)) (calls (ask b)) x y = ap (λ c. calls (ask c)) (makes_same r t ts now a b x y)
 request_one r t ts now (calls (ask a)) (calls (notice k q w)) x y = absurd y
 request_one r t ts now (calls (ask a)) (calls (tick k)) x y = absurd y
+request_one r t ts now (calls (ask a)) (calls (set_budget k)) x y = absurd y
 request_one r t ts now (calls (ask a)) (refused why) x (f, is, e) = absurd (never_both (request_in t) (seen_request x.asked) f x.request is)
 request_one r t ts now (calls (notice k q w)) n x y = absurd x
 request_one r t ts now (calls (tick k)) n x y = absurd x
+request_one r t ts now (calls (set_budget k)) n x y = absurd x
 request_one r t ts now (refused why) (calls (ask b)) (f, is, e) y = absurd (never_both (request_in t) (seen_request y.asked) f y.request is)
 request_one r t ts now (refused why) (calls (notice k q w)) x y = absurd y
 request_one r t ts now (refused why) (calls (tick k)) x y = absurd y
+request_one r t ts now (refused why) (calls (set_budget k)) x y = absurd y
 request_one r t ts now (refused why) (refused other) (f, is, e) (g, is', e') =
     ap refused (e ∙ ap Request (err_same (request_in t) f g is is') ∙ sym e')
 
@@ -78,14 +81,15 @@ ask_one r t None now m n a b = a ∙ sym b
 ask_one r t (Some ts) None m n a b = a ∙ sym b
 ask_one r t (Some ts) (Some now) m n a b = request_one r t ts now m n a b
 
-means_one : (r : Roster) (t : Tree) (request kind moment : Option Tree) (m n : Meaning) → MeansBy r t request kind moment m → MeansBy r t request kind moment n → m ≡ n
-means_one r t (Some request) kind moment m n a b = ask_one r request _ _ m n a b
-means_one r t None (Some kind) moment m n a b = a ∙ sym b
-means_one r t None None (Some moment) m n a b = a ∙ sym b
-means_one r t None None None m n a b = a ∙ sym b
+means_one : (r : Roster) (t : Tree) (request kind moment budget : Option Tree) (m n : Meaning) → MeansBy r t request kind moment budget m → MeansBy r t request kind moment budget n → m ≡ n
+means_one r t (Some request) kind moment budget m n a b = ask_one r request _ _ m n a b
+means_one r t None (Some kind) moment budget m n a b = a ∙ sym b
+means_one r t None None (Some moment) budget m n a b = a ∙ sym b
+means_one r t None None None (Some budget) m n a b = a ∙ sym b
+means_one r t None None None None m n a b = a ∙ sym b
 
 value_one : (r : Roster) (t : Tree) (m n : Meaning) → ValueMeans r t m → ValueMeans r t n → m ≡ n
-value_one r t m n a b = means_one r t _ _ _ m n a b
+value_one r t m n a b = means_one r t _ _ _ _ m n a b
 
 -- bytes that are JSON have no fault
 json_no_fault : (line : List ℕ) (t : Tree) (f : JsonFault) → IsJson line t → f ≢ JsonFault.OutOfMemory → IsFault line f → ⊥

@@ -54,14 +54,15 @@ some_ask r t None now none = none (refused NoCall) refl
 some_ask r t (Some ts) None none = none (refused NoCall) refl
 some_ask r t (Some ts) (Some now) none = request_by r t ts now (first_fault (request_checks t)) refl none
 
-some_by : (r : Roster) (t : Tree) (request kind moment : Option Tree) → ((m : Meaning) → MeansBy r t request kind moment m → ⊥) → ⊥
-some_by r t (Some request) kind moment none = some_ask r request _ _ none
-some_by r t None (Some kind) moment none = none _ refl
-some_by r t None None (Some moment) none = none _ refl
-some_by r t None None None none = none _ refl
+some_by : (r : Roster) (t : Tree) (request kind moment budget : Option Tree) → ((m : Meaning) → MeansBy r t request kind moment budget m → ⊥) → ⊥
+some_by r t (Some request) kind moment budget none = some_ask r request _ _ none
+some_by r t None (Some kind) moment budget none = none _ refl
+some_by r t None None (Some moment) budget none = none _ refl
+some_by r t None None None (Some budget) none = none _ refl
+some_by r t None None None None none = none _ refl
 
 some_value : (r : Roster) (t : Tree) → ((m : Meaning) → ValueMeans r t m → ⊥) → ⊥
-some_value r t none = some_by r t _ _ _ none
+some_value r t none = some_by r t _ _ _ _ none
 
 -- among so many first bytes there is a longest front of a text
 module _ (line : List ℕ) (unread : (t : Tree) → IsJson line t → ⊥) (nowhere : (at : ℕ) → IsFaultPlace line at → ⊥) where

@@ -6,9 +6,10 @@ use Rattle.rtb_request.specs.Seen.{seen_request}
 use Rattle.rtb_request.specs.declared.bid_request.BidRequest.{BidRequest}
 use Rattle.rtb_request.specs.declared.fault.RequestFault.{RequestFault}
 use Rattle.deal_floor.specs.declared.roster.Roster.{Roster}
-use Rattle.day_rules.specs.Replies.{Call, ask, notice, tick}
+use Rattle.day_rules.specs.Replies.{Call, ask, notice, tick, set_budget}
 use Rattle.day_rules.specs.Runs.{IsCall}
 use Rattle.day_rules.specs.declared.ask.Ask.{Ask}
+use Rattle.script_lines.specs.Changes.{change_told}
 use Rattle.script_lines.specs.Meanings.{Meaning, calls, refused, AskMeans, ValueMeans, LineMeans}
 use Rattle.script_lines.specs.declared.line.ScriptLine.{ScriptLine}
 use Rattle.script_lines.specs.declared.notice.Notice.{Notice}
@@ -20,6 +21,7 @@ abbrev pub call_of : ScriptLine → Call
 call_of (ScriptLine.Ask a) = ask a
 call_of (ScriptLine.Notice n) = notice n.kind n.auction n.award
 call_of (ScriptLine.Tick now) = tick now
+call_of (ScriptLine.Budget change) = set_budget (change_told change)
 
 abbrev pub meaning_of : ScriptLine → Meaning
 meaning_of found = calls (call_of found)

@@ -1,4 +1,5 @@
 pub mod Members
+pub mod Changes
 pub mod Meanings
 pub mod Rosters
 pub mod Found

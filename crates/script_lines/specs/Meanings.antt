@@ -6,7 +6,7 @@ use Rattle.adx_json.specs.Grammar.{IsJson}
 use Rattle.adx_json.specs.Faults.{IsFault}
 use Rattle.adx_json.specs.Named.{member_in}
 use Rattle.adx_json.specs.declared.fault.JsonFault.{JsonFault}
-use Rattle.tree_view.specs.Values.{text_in}
+use Rattle.tree_view.specs.Values.{number_in, text_in}
 use Rattle.rtb_request.specs.Requests.{request_in}
 use Rattle.rtb_request.specs.Seen.{seen_request}
 use Rattle.rtb_request.specs.declared.bid_request.BidRequest.{BidRequest}
@@ -18,8 +18,10 @@ use Rattle.rtb_response.specs.declared.fault.AnswerFault.{AnswerFault}
 use Rattle.notice_book.specs.declared.kind.NoticeKind.{NoticeKind}
 use Rattle.deal_floor.specs.declared.roster.Roster.{Roster}
 use Rattle.day_rules.specs.declared.ask.Ask.{Ask}
-use Rattle.day_rules.specs.Replies.{Call, ask, notice, tick}
+use Rattle.day_rules.specs.Entries.{BudgetChange}
+use Rattle.day_rules.specs.Replies.{Call, ask, notice, tick, set_budget}
 use Rattle.ask_making.specs.Making.{ask_of}
+use Rattle.script_lines.specs.Changes.{change_in}
 use Rattle.script_lines.specs.Members.{answers_in, ask_moment, moment_in, kind_in, award_in}
 use Rattle.script_lines.specs.declared.refusal.Refusal.{Refusal}
 use Rattle.script_lines.specs.declared.refusal.Refusal.TheVariants.{Json, NoCall, Request}
@@ -47,6 +49,7 @@ abbrev pub RequestMeans : Roster → Tree → List Tree → ℕ → Meaning → 
 RequestMeans r request answers now (calls (ask a)) = MakesAsk r request answers now a
 RequestMeans r request answers now (calls (notice kind auction award)) = ⊥
 RequestMeans r request answers now (calls (tick moment)) = ⊥
+RequestMeans r request answers now (calls (set_budget change)) = ⊥
 RequestMeans r request answers now (refused why) = (f : RequestFault) × (request_in request ≡ Err f) × (why ≡ Request f)
 
 -- a line with a request; answers and moment are looked at first
@@ -66,19 +69,26 @@ abbrev pub tick_meaning : Option ℕ → Meaning
 tick_meaning None = refused NoCall
 tick_meaning (Some moment) = calls (tick moment)
 
+abbrev pub change_meaning : Option BudgetChange → Meaning
+change_meaning None = refused NoCall
+change_meaning (Some change) = calls (set_budget change)
+
 module _ (r : Roster) (t : Tree) where
-  -- the first member that is there, of `ask`, `notice` and `tick`, tells which kind of line it is
-  abbrev pub MeansBy : Option Tree → Option Tree → Option Tree → Meaning → Type 0
-  MeansBy (Some request) kind moment m =
+  -- the first member that is there, of `ask`, `notice`, `tick` and `budget`, tells which kind of line it is
+  abbrev pub MeansBy : Option Tree → Option Tree → Option Tree → Option Tree → Meaning → Type 0
+  MeansBy (Some request) kind moment budget m =
       AskMeans r request (answers_in (length r.bidders) (member_in (codes "answers") t)) (ask_moment (member_in (codes "now") t)) m
-  MeansBy None (Some kind) moment m =
+  MeansBy None (Some kind) moment budget m =
       m ≡ notice_meaning (kind_in kind) (text_in (member_in (codes "auction") t)) (award_in (member_in (codes "bid") t))
-  MeansBy None None (Some moment) m = m ≡ tick_meaning (moment_in (Some moment))
-  MeansBy None None None m = m ≡ refused NoCall
+  MeansBy None None (Some moment) budget m = m ≡ tick_meaning (moment_in (Some moment))
+  MeansBy None None None (Some budget) m =
+      m ≡ change_meaning (change_in r.campaigns (text_in (member_in (codes "seat") t)) (text_in (member_in (codes "cid") t)) (number_in (member_in (codes "change") t)) (number_in (Some budget)))
+  MeansBy None None None None m = m ≡ refused NoCall
 
   -- what a line's value means
   abbrev pub ValueMeans : Meaning → Type 0
-  ValueMeans m = MeansBy (member_in (codes "ask") t) (member_in (codes "notice") t) (member_in (codes "tick") t) m
+  ValueMeans m =
+      MeansBy (member_in (codes "ask") t) (member_in (codes "notice") t) (member_in (codes "tick") t) (member_in (codes "budget") t) m
 
 -- what a line means on a day with this roster, in any spelling of its value; bytes that are no value are refused by
 -- their fault

@@ -1,12 +1,12 @@
--- What the members of a script line say. Such a line is an object (RFC 8259) of one of three kinds; a member that is
+-- What the members of a script line say. Such a line is an object (RFC 8259) of one of four kinds; a member that is
 -- null is there and isn't of its form; further members are ignored. This project's own.
-use Rattle.std.specs.Prelude.{ℕ, List, [], length, Bool, true, false, nat_le, ◌&&◌, if◌then◌else◌, codes, Option, Some, None}
+use Rattle.std.specs.Prelude.{ℕ, List, [], length, Bool, true, false, nat_le, ◌&&◌, ◌==◌, if◌then◌else◌, codes, Option, Some, None}
 use Rattle.std.specs.List.{list_all}
 use Rattle.std.specs.Str.{bytes_eq}
 use Rattle.adx_json.specs.Tree.{Tree, null, boolean, number, text, list, object}
 use Rattle.tree_view.specs.Values.{list_items, text_in, number_in, whole_by}
 use Rattle.notice_book.specs.declared.kind.NoticeKind.{NoticeKind}
-use Rattle.script_lines.specs.declared.limits.TheConstants.{LATEST_MOMENT, LAST_AWARD}
+use Rattle.script_lines.specs.declared.limits.TheConstants.{LATEST_MOMENT, LAST_AWARD, LAST_CHANGE}
 
 -- null, or an object
 abbrev pub is_null_or_object : Tree → Bool
@@ -57,3 +57,12 @@ kind_in t = kind_by (text_in (Some t))
 -- the number of an award, below 2^32
 abbrev pub award_in : Option Tree → Option ℕ
 award_in v = whole_by LAST_AWARD (number_in v)
+
+-- a number that isn't 0
+abbrev pub from_one : Option ℕ → Option ℕ
+from_one None = None
+from_one (Some n) = if n == 0 then None else Some n
+
+-- the number of a change, as a text: 1 to 2^32 - 1
+abbrev pub change_number : List ℕ → Option ℕ
+change_number digits = from_one (whole_by LAST_CHANGE (Some digits))

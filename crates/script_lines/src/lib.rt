@@ -6,17 +6,17 @@
 #![tactic(auto)]
 
 mod ask;
+mod budget;
 mod limits;
 mod line;
 mod members;
 mod notice;
 mod refusal;
 mod roster;
-#[cfg(test)]
-mod tests;
 mod why;
 
-pub use limits::{LAST_AWARD, LATEST_MOMENT};
+pub use budget::{Change, read_change};
+pub use limits::{LAST_AWARD, LAST_CHANGE, LATEST_MOMENT};
 pub use line::{ScriptLine, read_line};
 pub use notice::Notice;
 pub use refusal::{LineFault, Refusal, RosterLineFault, RosterRefusal};

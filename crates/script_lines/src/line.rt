@@ -6,6 +6,7 @@ ghost use Rattle.adx_json.specs.View.{tree_of};
 ghost use Rattle.script_lines.specs.Found.{FindsLine, FindsValue, IsReadyLine};
 
 use crate::ask::ask_line;
+use crate::budget::{Change, change_of};
 use crate::limits::LATEST_MOMENT;
 use crate::members::{line_members, whole_in};
 use crate::notice::{Notice, notice_of};
@@ -32,6 +33,11 @@ pub enum ScriptLine {
     Tick {
         /// The moment, in seconds.
         now: u64,
+    },
+    /// A change of a campaign's budget.
+    Budget {
+        /// The change.
+        change: Change,
     },
 }
 
@@ -65,11 +71,23 @@ fn line_of(alloc: Global, roster: &Roster, value: &Json) -> Result<ScriptLine, L
             None => Err(no_call()),
         };
     }
-    if members.tick.is_none() {
+    if members.tick.is_some() {
+        return match whole_in(members.tick, LATEST_MOMENT) {
+            Some(now) => Ok(ScriptLine::Tick { now }),
+            None => Err(no_call()),
+        };
+    }
+    if members.budget.is_none() {
         return Err(no_call());
     }
-    match whole_in(members.tick, LATEST_MOMENT) {
-        Some(now) => Ok(ScriptLine::Tick { now }),
+    match change_of(
+        roster,
+        members.seat,
+        members.cid,
+        members.change,
+        members.budget,
+    ) {
+        Some(change) => Ok(ScriptLine::Budget { change }),
         None => Err(no_call()),
     }
 }

@@ -21,6 +21,10 @@ pub(crate) struct LineMembers<'a> {
     pub(crate) auction: Option<&'a Json>,
     pub(crate) bid: Option<&'a Json>,
     pub(crate) tick: Option<&'a Json>,
+    pub(crate) budget: Option<&'a Json>,
+    pub(crate) seat: Option<&'a Json>,
+    pub(crate) cid: Option<&'a Json>,
+    pub(crate) change: Option<&'a Json>,
 }
 
 /// The members of a line's value. A value that is no object has none.
@@ -32,6 +36,10 @@ pub(crate) fn line_members(value: &Json) -> LineMembers<'_>
     ensures auction { option_map (λ t. tree_of t.now) result.auction ≡ member_in (codes "auction") (tree_of value.now) }
     ensures bid { option_map (λ t. tree_of t.now) result.bid ≡ member_in (codes "bid") (tree_of value.now) }
     ensures tick { option_map (λ t. tree_of t.now) result.tick ≡ member_in (codes "tick") (tree_of value.now) }
+    ensures budget { option_map (λ t. tree_of t.now) result.budget ≡ member_in (codes "budget") (tree_of value.now) }
+    ensures seat { option_map (λ t. tree_of t.now) result.seat ≡ member_in (codes "seat") (tree_of value.now) }
+    ensures cid { option_map (λ t. tree_of t.now) result.cid ≡ member_in (codes "cid") (tree_of value.now) }
+    ensures change { option_map (λ t. tree_of t.now) result.change ≡ member_in (codes "change") (tree_of value.now) }
 {
     let mut ask: Option<&Json> = None;
     let mut answers: Option<&Json> = None;
@@ -40,6 +48,10 @@ pub(crate) fn line_members(value: &Json) -> LineMembers<'_>
     let mut auction: Option<&Json> = None;
     let mut bid: Option<&Json> = None;
     let mut tick: Option<&Json> = None;
+    let mut budget: Option<&Json> = None;
+    let mut seat: Option<&Json> = None;
+    let mut cid: Option<&Json> = None;
+    let mut change: Option<&Json> = None;
     for member in members_in(value) {
         ask = met(ask, "ask", member);
         answers = met(answers, "answers", member);
@@ -48,6 +60,10 @@ pub(crate) fn line_members(value: &Json) -> LineMembers<'_>
         auction = met(auction, "auction", member);
         bid = met(bid, "bid", member);
         tick = met(tick, "tick", member);
+        budget = met(budget, "budget", member);
+        seat = met(seat, "seat", member);
+        cid = met(cid, "cid", member);
+        change = met(change, "change", member);
     }
     LineMembers {
         ask,
@@ -57,6 +73,10 @@ pub(crate) fn line_members(value: &Json) -> LineMembers<'_>
         auction,
         bid,
         tick,
+        budget,
+        seat,
+        cid,
+        change,
     }
 }
 

@@ -16,7 +16,7 @@ pub enum Refusal {
         /// What breaks the text, and where.
         fault: JsonFault,
     },
-    /// The value is neither an ask, a notice nor a tick of its form.
+    /// The value is neither an ask, a notice, a tick nor a change of a budget of its form.
     NoCall,
     /// The request for bids is none. The fault isn't want of memory.
     Request {

@@ -1,7 +1,8 @@
 use Rattle.std.proofs.Common.{arith, List, ℕ, ◌∷◌, [], length, Err, sym, ◌∙◌, ap, subst}
 use Rattle.std.specs.List.{sum_by}
+use Rattle.day_journal.specs.declared.start.TheConstants.{NEW_FORMAT}
 use Rattle.day_journal.specs.Openings.{StandsBehind}
-use Rattle.notice_batches.specs.Held.{record_size}
+use Rattle.notice_batches.specs.Held.{longest_record}
 use Rattle.adx_desk.specs.Histories.{DeskTerms}
 use Rattle.adx_desk.specs.Openings.{RefusesDesk}
 use Rattle.adx_desk.proofs.OpenedDays.{opened_one}
@@ -24,9 +25,9 @@ returns-in-Ok-read_records-clause-size g c =
       c.requires.start,
       ap length same,
       moved,
-      opened_one c.args.digest.now,
+      opened_one NEW_FORMAT c.args.digest.now,
       c.in-Ok-read_records.ensures.moved,
-      ap (sum_by record_size) c.requires.empty,
+      ap (sum_by longest_record) c.requires.empty,
     )
 
 pub returns-in-Ok-clause-refused : goal.returns-in-Ok-clause-refused

@@ -3,7 +3,7 @@ use Rattle.day_rules.specs.DayState.{IsDay}
 use Rattle.day_rules.specs.Legal.{IsLegal}
 use Rattle.day_rules.specs.Terms.{Terms}
 use Rattle.adx_desk.specs.Loading.{RefusesRecord, TakesFront}
-use Rattle.adx_desk.specs.Histories.{DeskTerms}
+use Rattle.adx_desk.specs.Histories.{AreRecords, DeskTerms}
 use Rattle.adx_desk.specs.Openings.{RefusesDesk}
 use Rattle.adx_desk.proofs.ReadRecords.{later_refused, no_reads, read_all, reads_on, record_read, record_refused, still_shorter}
 use Rattle.adx_desk.proofs.Sizes.{moved_on}
@@ -18,6 +18,7 @@ records-init g c =
       read = λ digest file told read. read;
       only = no_reads D.reads D.may_leave D.moment D.left_since c.args.disk.now (g.met.D.Disk.only_now c.args.disk.now);
       count = refl;
+      format = refl;
       lasts = g.met.D.Disk.lasts_same c.args.disk.now;
       moved = omega arith;
     }
@@ -30,7 +31,9 @@ records-preserved g c =
     let new = c.take_record.new.day in
     let bytes = c.next_into.new.payload.items in
     let inv = c.records.invariant in
-    let taken = subst (λ (t : Terms). TakesFront t mid.history new.history bytes []) inv.terms (subst (λ (l : List ℕ). TakesFront mid.terms mid.history new.history l []) c.as_slice.ensures.value c.in-Ok.ensures.taken) in
+    let format = c.next_into.new.self.format in
+    let here = subst (λ (f : ℕ). TakesFront f mid.terms mid.history new.history c.as_slice.result.now []) c.format.ensures c.in-Ok.ensures.taken in
+    let taken = subst (λ (t : Terms). TakesFront format t mid.history new.history bytes []) inv.terms (subst (λ (l : List ℕ). TakesFront format mid.terms mid.history new.history l []) c.as_slice.ensures.value here) in
     let found = rw c.in-Ok-true.field-0-test at c.in-Ok-true.ensures.found in
     let moved = rw c.in-Ok-true.field-0-test at c.in-Ok-true.ensures.moved in
     record {
@@ -38,11 +41,12 @@ records-preserved g c =
       legal = record { terms_ok = c.requires.terms_ok; legal = taken.legal };
       read = λ digest file told read.
           let had = inv.read digest file told read in
-          record_read digest file day.terms c.next_into.new.self had.rest mid.history new.history bytes had.records (found file (digest ∷ had.rest) (inv.only.same ∙ told) had.behind) taken;
+          record_read digest file day.terms c.next_into.new.self had.rest mid.history new.history bytes (subst (λ (f : ℕ). AreRecords f had.rest mid.history) (sym c.next_into.ensures.format) had.records) (found file (digest ∷ had.rest) (inv.only.same ∙ told) had.behind) taken;
       only = reads_on D.reads D.may_leave D.moment D.left_since c.args.disk.now c.records.disk c.next_into.new.disk inv.only c.next_into.ensures.only_reads;
       count = c.in-Ok-true.ensures.ends ∙ inv.count;
+      format = c.next_into.ensures.format ∙ inv.format;
       lasts = g.met.D.Disk.lasts_on c.args.disk.now c.records.disk c.next_into.new.disk inv.lasts c.next_into.ensures.lasts;
-      moved = moved_on day.terms mid.history new.history bytes day.history c.args.opening.now.window.at c.records.opening.window.at c.next_into.new.self.window.at taken moved inv.moved;
+      moved = moved_on format day.terms mid.history new.history bytes day.history c.args.opening.now.window.at c.records.opening.window.at c.next_into.new.self.window.at taken moved inv.moved;
     }
 
 pub records-smaller : goal.records-smaller
@@ -59,7 +63,7 @@ returns-in-Ok-false-clause-read g c digest file told read =
     let inv = c.records.invariant in
     let had = inv.read digest file told read in
     let found = rw c.in-Ok-false.field-0-test at c.in-Ok-false.ensures.found in
-    read_all digest file c.records.opening c.next_into.new.self c.records.day.history had (found file (digest ∷ had.rest) (inv.only.same ∙ told) had.behind)
+    read_all digest file c.records.opening c.next_into.new.self c.records.day.history had c.next_into.ensures.format (found file (digest ∷ had.rest) (inv.only.same ∙ told) had.behind)
 
 pub returns-in-Ok-false-clause-closed : goal.returns-in-Ok-false-clause-closed
 returns-in-Ok-false-clause-closed g c = c.in-Ok-false.ensures.closed (ap Ok c.in-Ok-false.field-0-test)
@@ -76,9 +80,11 @@ returns-in-Err-take_record-clause-refused g c digest file told read =
     let bytes = c.next_into.new.payload.items in
     let had = inv.read digest file told read in
     let found = rw c.in-Ok-true.field-0-test at c.in-Ok-true.ensures.found in
-    let refused = subst (λ (l : List ℕ). RefusesRecord mid.terms mid.history l c.in-Err-take_record.fault) c.as_slice.ensures.value c.in-Err-take_record.ensures.refused in
-    record_refused terms file c.next_into.new.self had.rest mid.history bytes c.in-Err-take_record.fault had.records (found file (digest ∷ had.rest) (inv.only.same ∙ told) had.behind)
-    (subst (λ (t : Terms). RefusesRecord t mid.history bytes c.in-Err-take_record.fault) inv.terms refused)
+    let format = c.next_into.new.self.format in
+    let here = subst (λ (f : ℕ). RefusesRecord f mid.terms mid.history c.as_slice.result.now c.in-Err-take_record.fault) c.format.ensures c.in-Err-take_record.ensures.refused in
+    let refused = subst (λ (l : List ℕ). RefusesRecord format mid.terms mid.history l c.in-Err-take_record.fault) c.as_slice.ensures.value here in
+    record_refused terms file c.next_into.new.self had.rest mid.history bytes c.in-Err-take_record.fault (subst (λ (f : ℕ). AreRecords f had.rest mid.history) (sym c.next_into.ensures.format) had.records) (found file (digest ∷ had.rest) (inv.only.same ∙ told) had.behind)
+    (subst (λ (t : Terms). RefusesRecord format t mid.history bytes c.in-Err-take_record.fault) inv.terms refused)
 
 pub returns-in-Err-clause-refused : goal.returns-in-Err-clause-refused
 returns-in-Err-clause-refused g c digest file told read =

@@ -3,7 +3,7 @@ use Rattle.std.proofs.Common.{◌≡◌, ◌+◌, ◌-◌, ◌^◌, ◌≤◌, �
 use Rattle.std.specs.List.{sum_by}
 use Rattle.day_journal.specs.Openings.{OnlyReads}
 use Rattle.day_rules.specs.DayState.{IsDay}
-use Rattle.notice_batches.specs.Held.{record_size}
+use Rattle.notice_batches.specs.Held.{longest_record}
 use Rattle.adx_desk.specs.Loading.{HasRead}
 use Rattle.adx_desk.proofs.loading.read_records.Given as goal
 
@@ -14,8 +14,9 @@ invariant-records g l = record {
   read : (digest file : List ℕ) → g.D.Disk.reads l.fn.disk ≡ Some file → HasRead digest file l.fn.opening l.fn.day.history → HasRead digest file l.opening l.day.history;
   only : OnlyReads g.D.Disk.reads g.D.Disk.may_leave g.D.Disk.moment g.D.Disk.left_since l.fn.disk l.disk;
   count : g.D.Disk.faults l.disk ≡ g.D.Disk.faults l.fn.disk;
+  format : l.opening.format ≡ l.fn.opening.format;
   lasts : g.D.Disk.lasts l.fn.disk l.disk;
-  moved : l.opening.window.at + sum_by record_size l.fn.day.history ≤ l.fn.opening.window.at + sum_by record_size l.day.history;
+  moved : l.opening.window.at + sum_by longest_record l.fn.day.history ≤ l.fn.opening.window.at + sum_by longest_record l.day.history;
 }
 
 abbrev pub decreases-records : goal.decreases-records

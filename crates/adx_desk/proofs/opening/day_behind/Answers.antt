@@ -42,7 +42,7 @@ returns-in-Err-of-clause-refused g c file told behind durable =
     let disk = c.journal_of.new.disk in
     let full = c.in-Err-of.ensures.full in
     let short : length c.args.digest.now ≡ 32 = first_of (omega arith, search rules) in
-    let size = min (size_of c.in-Ok.journal + held new.history) last_count in
+    let size = min (size_of c.in-Ok.journal + held c.in-Ok.journal.format new.history) last_count in
     subst (RefusesDesk terms file) (sym full.1)
     (opened_full terms file (D.reads disk) (D.may_leave disk) c.in-Ok.journal new.history size (c.in-Ok.ensures.opened file told behind durable) legal short full.0 refl).0
 
@@ -55,5 +55,5 @@ returns-in-Err-of-clause-untouched g c file told behind durable is =
     let disk = c.journal_of.new.disk in
     let full = c.in-Err-of.ensures.full in
     let short : length c.args.digest.now ≡ 32 = first_of (omega arith, search rules) in
-    let size = min (size_of c.in-Ok.journal + held new.history) last_count in
+    let size = min (size_of c.in-Ok.journal + held c.in-Ok.journal.format new.history) last_count in
     (opened_full terms file (D.reads disk) (D.may_leave disk) c.in-Ok.journal new.history size (c.in-Ok.ensures.opened file told behind durable) legal short full.0 refl).1

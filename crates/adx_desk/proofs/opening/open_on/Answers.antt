@@ -16,7 +16,6 @@ returns-in-Ok-day_behind-clause-opens g c =
       behind = c.in-Ok.ensures.behind;
       durable = c.in-Ok.ensures.durable;
       run = c.open.ensures.any_moment;
-      left = λ f told. g.met.D.Disk.counts_now mid (D.moment old) f c.open.ensures.any_moment.later (g.met.D.Disk.read_is_left mid f told);
     } in
     opens_on D.reads D.may_leave D.moment D.left_since terms old mid c.day_behind.new.disk c.in-Ok.opening c.in-Ok-day_behind.kept.desk began
     c.in-Ok-day_behind.ensures.terms c.in-Ok-day_behind.ensures.faults c.in-Ok-day_behind.ensures.history c.in-Ok-day_behind.ensures.keeps c.day_behind.ensures.any_moment
@@ -32,7 +31,6 @@ returns-in-Err-day_behind-clause-gives_up g c =
       behind = c.in-Ok.ensures.behind;
       durable = c.in-Ok.ensures.durable;
       run = c.open.ensures.any_moment;
-      left = λ f told. g.met.D.Disk.counts_now mid (D.moment old) f c.open.ensures.any_moment.later (g.met.D.Disk.read_is_left mid f told);
     } in
     gives_up_on D.reads D.may_leave D.moment D.left_since terms old mid c.day_behind.new.disk c.in-Ok.opening c.in-Err-day_behind.fault began
     c.in-Err-day_behind.ensures.refused c.in-Err-day_behind.ensures.untouched c.day_behind.ensures.any_moment

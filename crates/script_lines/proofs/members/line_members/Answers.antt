@@ -17,6 +17,10 @@ loop-member-preserved c =
       auction = met_step _ _ _ _ items i _ low c.member-item.is c.met-auction.ensures before.auction;
       bid = met_step _ _ _ _ items i _ low c.member-item.is c.met-bid.ensures before.bid;
       tick = met_step _ _ _ _ items i _ low c.member-item.is c.met-tick.ensures before.tick;
+      budget = met_step _ _ _ _ items i _ low c.member-item.is c.met-budget.ensures before.budget;
+      seat = met_step _ _ _ _ items i _ low c.member-item.is c.met-seat.ensures before.seat;
+      cid = met_step _ _ _ _ items i _ low c.member-item.is c.met-cid.ensures before.cid;
+      change = met_step _ _ _ _ items i _ low c.member-item.is c.met-change.ensures before.change;
     }
 
 pub returns-clause-ask : goal.returns-clause-ask
@@ -67,3 +71,31 @@ returns-clause-tick c =
     let tree = tree_of c.args.value.now in
     let end : length items ≤ c.loop-member.member-index = omega arith in
     all_met (codes "tick") tree items _ _ end c.members_in-member-items.ensures c.loop-member.invariant.tick
+
+pub returns-clause-budget : goal.returns-clause-budget
+returns-clause-budget c =
+    let items = c.members_in-member-items.result.now in
+    let tree = tree_of c.args.value.now in
+    let end : length items ≤ c.loop-member.member-index = omega arith in
+    all_met (codes "budget") tree items _ _ end c.members_in-member-items.ensures c.loop-member.invariant.budget
+
+pub returns-clause-seat : goal.returns-clause-seat
+returns-clause-seat c =
+    let items = c.members_in-member-items.result.now in
+    let tree = tree_of c.args.value.now in
+    let end : length items ≤ c.loop-member.member-index = omega arith in
+    all_met (codes "seat") tree items _ _ end c.members_in-member-items.ensures c.loop-member.invariant.seat
+
+pub returns-clause-cid : goal.returns-clause-cid
+returns-clause-cid c =
+    let items = c.members_in-member-items.result.now in
+    let tree = tree_of c.args.value.now in
+    let end : length items ≤ c.loop-member.member-index = omega arith in
+    all_met (codes "cid") tree items _ _ end c.members_in-member-items.ensures c.loop-member.invariant.cid
+
+pub returns-clause-change : goal.returns-clause-change
+returns-clause-change c =
+    let items = c.members_in-member-items.result.now in
+    let tree = tree_of c.args.value.now in
+    let end : length items ≤ c.loop-member.member-index = omega arith in
+    all_met (codes "change") tree items _ _ end c.members_in-member-items.ensures c.loop-member.invariant.change

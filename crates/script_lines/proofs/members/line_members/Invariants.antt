@@ -18,4 +18,8 @@ invariant-loop-member l =
       auction : found_or (codes "auction") (option_map (λ t. tree_of t.now) l.auction) left ≡ value_of (codes "auction") all;
       bid : found_or (codes "bid") (option_map (λ t. tree_of t.now) l.bid) left ≡ value_of (codes "bid") all;
       tick : found_or (codes "tick") (option_map (λ t. tree_of t.now) l.tick) left ≡ value_of (codes "tick") all;
+      budget : found_or (codes "budget") (option_map (λ t. tree_of t.now) l.budget) left ≡ value_of (codes "budget") all;
+      seat : found_or (codes "seat") (option_map (λ t. tree_of t.now) l.seat) left ≡ value_of (codes "seat") all;
+      cid : found_or (codes "cid") (option_map (λ t. tree_of t.now) l.cid) left ≡ value_of (codes "cid") all;
+      change : found_or (codes "change") (option_map (λ t. tree_of t.now) l.change) left ≡ value_of (codes "change") all;
     }

@@ -2,43 +2,48 @@
 use Rattle.std.proofs.Common.{◌≡◌, Option, Some, sym, ap, subst}
 use Rattle.std.specs.Prelude.{IfErr, IfOk}
 use Rattle.day_rules.specs.declared.ask.Ask.{Ask}
+use Rattle.day_rules.specs.declared.entry.Entry.{Entry}
 use Rattle.day_rules.specs.Legal.{MayFollow}
 use Rattle.adx_desk.specs.declared.fault.DeskFault.{DeskFault}
 use Rattle.adx_desk.specs.Desks.{DeskState}
 use Rattle.adx_desk.specs.Endings.{EndsAsk}
-use Rattle.adx_desk.specs.Journaled.{on_disk}
+use Rattle.adx_desk.specs.Journaled.{on_disk, unopened}
 use Rattle.adx_desk.specs.Serving.{Serves}
 use Rattle.adx_desk.proofs.Serving.{refused}
 use Rattle.adx_desk.proofs.journaled_day.JournaledDay.add_ask.Goals as goal
 
 pub append_as-requires-clause-follows : goal.append_as-requires-clause-follows
-append_as-requires-clause-follows g c = subst (λ (d : DeskState). MayFollow d.terms.day d.history c.args.entry) (sym c.make_room.ensures.desk) c.requires
+append_as-requires-clause-follows g c =
+    subst (λ (d : DeskState). MayFollow d.terms.day d.history c.swapped-exact.result.0) (sym c.make_room.ensures.desk)
+    (subst (λ (e : Entry). MayFollow c.args.self.now.desk.terms.day c.args.self.now.desk.history e) (sym c.swapped-exact.ensures.kept) c.requires)
 
 pub returns-in-Ok-clause-copy : goal.returns-in-Ok-clause-copy
-returns-in-Ok-clause-copy g c = subst (λ (o : Option Ask). IfOk c.append_as.result (λ d. d.ask ≡ o)) c.in-Ok.ensures.copy c.append_as.ensures.copy
+returns-in-Ok-clause-copy g c = subst (λ (o : Option Ask). IfOk c.append_as.result (λ d. d.ask ≡ o)) c.swapped-exact.ensures.ask c.append_as.ensures.copy
 
 pub returns-in-Ok-clause-serves : goal.returns-in-Ok-clause-serves
 returns-in-Ok-clause-serves g c =
     let D = g.D.Disk in
-    subst (λ (d : DeskState). Serves D.may_leave D.moment D.left_since (record { desk = d; disk = c.args.disk.now; since = 0 }) (on_disk c.append_as.new.self c.append_as.new.disk) (Some c.args.entry) c.append_as.result) c.make_room.ensures.desk c.append_as.ensures.serves
+    subst (λ (e : Entry). Serves D.may_leave D.moment D.left_since (on_disk c.args.self.now c.args.disk.now) (on_disk c.append_as.new.self c.append_as.new.disk) (Some e) c.append_as.result) c.swapped-exact.ensures.kept
+    (subst (λ (d : DeskState). Serves D.may_leave D.moment D.left_since (record { desk = d; disk = c.args.disk.now; since = unopened }) (on_disk c.append_as.new.self c.append_as.new.disk) (Some c.swapped-exact.result.0) c.append_as.result) c.make_room.ensures.desk c.append_as.ensures.serves)
 
 pub returns-in-Ok-clause-ends : goal.returns-in-Ok-clause-ends
 returns-in-Ok-clause-ends g c =
     let D = g.D.Disk in
-    subst (λ (d : DeskState). EndsAsk (D.faults c.args.disk.now) (D.faults c.append_as.new.disk) d c.append_as.new.self.desk (Some c.args.entry) c.append_as.result) c.make_room.ensures.desk c.append_as.ensures.ends
+    subst (λ (e : Entry). EndsAsk (D.faults c.args.disk.now) (D.faults c.append_as.new.disk) c.args.self.now.desk c.append_as.new.self.desk (Some e) c.append_as.result) c.swapped-exact.ensures.kept
+    (subst (λ (d : DeskState). EndsAsk (D.faults c.args.disk.now) (D.faults c.append_as.new.disk) d c.append_as.new.self.desk (Some c.swapped-exact.result.0) c.append_as.result) c.make_room.ensures.desk c.append_as.ensures.ends)
 
 pub returns-in-Ok-clause-refused : goal.returns-in-Ok-clause-refused
 returns-in-Ok-clause-refused g c =
-    subst (λ (d : DeskState). IfErr c.append_as.result (λ e. (e ≡ DeskFault.DiskFault → ⊥) → on_disk c.append_as.new.self c.append_as.new.disk ≡ record { desk = d; disk = c.args.disk.now; since = 0 })) c.make_room.ensures.desk c.append_as.ensures.refused
+    subst (λ (d : DeskState). IfErr c.append_as.result (λ e. (e ≡ DeskFault.DiskFault → ⊥) → on_disk c.append_as.new.self c.append_as.new.disk ≡ record { desk = d; disk = c.args.disk.now; since = unopened })) c.make_room.ensures.desk c.append_as.ensures.refused
 
 pub returns-in-Err-clause-serves : goal.returns-in-Err-clause-serves
 returns-in-Err-clause-serves g c =
     let D = g.D.Disk in
     refused D.may_leave D.moment D.left_since DeskFault.OutOfMemory (on_disk c.args.self.now c.args.disk.now) (on_disk c.make_room.new.self c.args.disk.now) (Some c.args.entry)
-    (λ i. record { desk = c.make_room.ensures.desk i; disk = c.args.disk.now; since = 0 }) (g.met.D.Disk.only_now c.args.disk.now)
+    (λ i. record { desk = c.make_room.ensures.desk i; disk = c.args.disk.now; since = unopened }) (g.met.D.Disk.only_now c.args.disk.now)
 
 pub returns-in-Err-clause-ends : goal.returns-in-Err-clause-ends
 returns-in-Err-clause-ends g c = record { disk = λ i. g.D.Disk.faults c.args.disk.now; desk = ap (λ (d : DeskState). d.faults) c.make_room.ensures.desk }
 
 pub returns-in-Err-clause-refused : goal.returns-in-Err-clause-refused
-returns-in-Err-clause-refused g c = λ other i. record { desk = c.make_room.ensures.desk i; disk = c.args.disk.now; since = 0 }
+returns-in-Err-clause-refused g c = λ other i. record { desk = c.make_room.ensures.desk i; disk = c.args.disk.now; since = unopened }

@@ -2,19 +2,19 @@
 use Rattle.std.proofs.Common.{◌≡◌, Option, sym, ◌∙◌, ap, subst}
 use Rattle.std.specs.Prelude.{IfOk, IfSome}
 use Rattle.day_rules.specs.declared.answer.Answer.{Answer}
-use Rattle.day_entries.specs.Spelling.{IsNoAsk}
+use Rattle.day_entries.specs.Entries.{IsNoticeOrMoment}
 use Rattle.day_rules.specs.declared.entry.Entry.{Entry}
 use Rattle.day_rules.specs.Replies.{tick_reply}
 use Rattle.adx_desk.specs.Journaled.{JournaledState, on_disk}
 use Rattle.adx_desk.specs.Serving.{Serves}
 use Rattle.adx_desk.proofs.Asked.{for_some}
-use Rattle.notice_batches.proofs.NoAsks.{tick_no_ask}
+use Rattle.notice_batches.proofs.NoticeEntries.{tick_kind}
 use Rattle.adx_desk.proofs.journaled_day.JournaledDay.tick.Goals as goal
 
 pub add_notice-requires-clause-no_ask : goal.add_notice-requires-clause-no_ask
 add_notice-requires-clause-no_ask g c =
-    for_some IsNoAsk c.plan_tick-answer.result.1
-    (subst (λ (o : Option Entry). IfSome o IsNoAsk) (sym c.plan_tick-answer.ensures.entry) (tick_no_ask c.self.inside.day.history c.args.now))
+    for_some IsNoticeOrMoment c.plan_tick-answer.result.1
+    (subst (λ (o : Option Entry). IfSome o IsNoticeOrMoment) (sym c.plan_tick-answer.ensures.entry) (tick_kind c.self.inside.day.history c.args.now))
 
 pub returns-clause-serves : goal.returns-clause-serves
 returns-clause-serves g c =
