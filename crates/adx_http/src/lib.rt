@@ -11,8 +11,6 @@
 mod gathered;
 mod reply;
 mod target;
-#[cfg(test)]
-mod tests;
 
 pub use http_connection::{Conn, ConnEnd, HttpFault, Message, Response, Verb};
 pub use reply::{Reply, WriteFault, write_reply};

@@ -5,7 +5,7 @@ ghost use Rattle.fan_out.specs.Requests.{host_and_port, request_head, request_li
 
 use adx_units::OutOfMemory;
 use deal_floor::Place;
-use line_parts::push_number;
+use formats::push_number;
 use std::alloc::Global;
 
 /// Puts the request line.

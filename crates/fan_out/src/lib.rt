@@ -11,10 +11,6 @@ mod auction;
 mod gathering;
 mod head;
 mod lane;
-#[cfg(test)]
-mod link_tests;
-#[cfg(test)]
-mod tests;
 
 pub use answer::{ANSWER_LIMIT, BidderAnswer, Refusal};
 pub use gathering::{gather, gather_in_turn};

@@ -50,9 +50,10 @@ impl Buffer {
         })
     }
 
-    /// What was read of the message in progress.
+    /// What was read of the message in progress. With the pending bytes it is at most the room.
     pub fn kept(&self) -> &[u8]
-        ensures { result.now ≡ self.now.kept }
+        ensures value { result.now ≡ self.now.kept }
+        ensures fits { length self.now.kept + length self.now.pending ≤ self.now.room }
     {
         between(&self.bytes, self.offsets.start, self.offsets.joined)
     }

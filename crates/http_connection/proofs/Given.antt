@@ -69,6 +69,7 @@ message_refused before buffer start end limit old new fault is release a w =
       sound = λ e. refl;
       unread = λ e. unread_given RefusesRequest IsUnfinishedRequest limit (record buffer { kept = [] }) old new fault (subst (λ (s : BufferState). FaultGives RefusesRequest IsUnfinishedRequest limit s old new fault) release w) cc;
       told = λ e. refusal_given limit (record buffer { kept = [] }) end old new fault a (subst (λ (s : BufferState). FaultGives RefusesRequest IsUnfinishedRequest limit s old new fault) release w);
+      fits = λ m e. absurd (cc (e));
       advances = a;
     })
 

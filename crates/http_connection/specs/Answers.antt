@@ -1,10 +1,10 @@
 -- What the calls of a connection answer.
-use Rattle.std.specs.Prelude.{◌≡◌, ℕ, List, [], ◌++◌, true, false, Option, Some, None, Result, Ok, Err, is_err, ⊤}
+use Rattle.std.specs.Prelude.{◌≡◌, ℕ, ◌≤◌, List, [], ◌++◌, length, true, false, Option, Some, None, Result, Ok, Err, is_err, ⊤}
 use Rattle.adx_io.specs.Streams.{Tape, WhereTold}
 use Rattle.http_grammar.specs.Requests.{verb_of_method, is_kept}
 use Rattle.http_grammar.specs.declared.fault.HttpFault.{HttpFault}
 use Rattle.httparse.specs.Grammar.{status_code}
-use Rattle.http_connection.specs.State.{ConnState}
+use Rattle.http_connection.specs.State.{ConnState, room_of}
 use Rattle.http_connection.specs.Ready.{IsReady}
 use Rattle.http_bodies.specs.Steps.{Advances}
 use Rattle.http_connection.specs.Messages.{Request, IsRequestThen, RefusesRequest, IsUnfinishedRequest, ResponseRead, IsResponseThen, RefusesResponse, IsUnfinishedResponse}
@@ -26,22 +26,25 @@ GivesMessage limit bytes (Err HttpFault.ReadFault) rest = ⊤
 GivesMessage limit bytes (Err fault) rest = RefusesRequest limit bytes fault
 
 -- The next message, where no fault stands and the bytes held begin with a whole request: it shows that one, and what
--- stands behind it is held. None where they don't, or a fault stands; then nothing changes.
+-- stands behind it is held, which is at most what a connection has room for. None where they don't, or a fault stands;
+-- then nothing changes.
 abbrev pub AnswersHeld : ConnState → ConnState → Option Message → Type 0
 AnswersHeld before now (Some m) =
-    (before.failed ≡ false) × (now ≡ record before { held = now.held })
+    (before.failed ≡ false) × (now ≡ record before { held = now.held }) × (length now.held ≤ room_of before.limit)
     × ((r : Request) × IsRequestThen before.limit before.held r now.held × Shows m r)
 AnswersHeld before now None = (IsReady before → ⊥) × (now ≡ before)
 
 -- After a fault the answer is `Cut`, and nothing changes. Else the answer is a function of the bytes held and those that
 -- the source has left, where it tells them. Where the source fails, the bytes held and those that it gave are unfinished:
--- no whole message stands in them, and none that is refused.
+-- no whole message stands in them, and none that is refused. What was taken beyond a message is at most what a
+-- connection has room for.
 pub record AnswersMessage (before now : ConnState) (old new : Option Tape) (result : Result (Option Message) HttpFault) : Type 0 where
   pub limit : now.limit ≡ before.limit
   pub failed : before.failed ≡ true → (result ≡ Err HttpFault.Cut) × (now ≡ before) × (new ≡ old)
   pub sound : before.failed ≡ false → now.failed ≡ is_err result
   pub told : before.failed ≡ false → WhereTold old new (λ o n. GivesMessage before.limit (before.held ++ o.left) result (now.held ++ n.left))
   pub unread : result ≡ Err HttpFault.ReadFault → WhereTold old new (λ o n. (given : List ℕ) × (o.left ≡ given ++ n.left) × IsUnfinishedRequest before.limit (before.held ++ given))
+  pub fits : (m : Message) → result ≡ Ok (Some m) → length now.held ≤ room_of before.limit
   pub advances : Advances old new
 
 pub record ShowsResponse (m : Response) (r : ResponseRead) : Type 0 where

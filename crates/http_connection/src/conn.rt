@@ -19,8 +19,8 @@ use httparse::spans::{EMPTY_HEADER_SPAN, HeaderSpan, Span};
 use std::alloc::Global;
 use std::marker::Model;
 
-/// How many bytes are asked of a source beyond the longest message.
-pub(crate) const PIECE: usize = 65_536;
+/// For how many bytes a connection has room beyond the longest message.
+pub const PIECE: usize = 65_536;
 
 /// A request that was read.
 #[derive(Clone, Copy, Debug)]
@@ -217,6 +217,7 @@ fn lend(buffer: &Buffer, found: Found) -> Message<'_>
     ensures target { result.target.now ≡ span_bytes (take found.head buffer.now.kept) found.target }
     ensures body { result.body.now ≡ drop found.head buffer.now.kept }
     ensures keep { result.keep ≡ found.keep }
+    ensures fits { length buffer.now.pending ≤ buffer.now.room }
 {
     let (head, body) = buffer.kept().split_at(found.head);
     Message {

@@ -11,10 +11,8 @@ mod at_end;
 mod conn;
 mod laws;
 mod request;
-#[cfg(test)]
-mod tests;
 mod whole;
 
-pub use conn::{Conn, ConnEnd, Message, Response};
+pub use conn::{Conn, ConnEnd, Message, PIECE, Response};
 pub use http_grammar::{HttpFault, Verb};
 pub use laws::{fronts_stay, one_answer};

@@ -14,8 +14,6 @@ mod host;
 mod judge;
 mod lengths;
 mod parts;
-#[cfg(test)]
-mod tests;
 mod verb;
 mod words;
 

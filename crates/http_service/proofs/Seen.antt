@@ -1,10 +1,10 @@
 -- A service over a value that is lent: what is said of the one is said of the other.
-use Rattle.std.proofs.Common.{inl, inr, ℕ, List, [], ◌∷◌, ◌++◌, Option, ap}
+use Rattle.std.proofs.Common.{inl, inr, ℕ, List, [], ◌∷◌, Option, ap}
 use Rattle.adx_io.specs.Streams.{Tape}
 use Rattle.http_connection.specs.Messages.{Request}
 use Rattle.http_connection.specs.declared.conn.ConnEnd.{ConnEnd}
 use Rattle.http_grammar.specs.declared.fault.HttpFault.{HttpFault}
-use Rattle.http_service.specs.Connections.{Answering, GivingUp, Replies, Served, Refuses, FailsWriting, GaveUp, EndsWith}
+use Rattle.http_service.specs.Connections.{Answering, GivingUp, Replies, Served, Refuses, FailsRefusing, GaveUp, EndsWith}
 use Rattle.http_service.specs.declared.answer.Answer.{Answer}
 
 -- the answers of the one are those of the other, by what is seen of its state
@@ -27,17 +27,31 @@ served_seen see from to f ms held held_now s now served = record {
 }
 
 refuses_seen : {S T : Type 0} (see : S → T) (from : Answering S) (to : Answering T) → SeesAnswers see from to
-    → (Takes : Option (List ℕ) → Option (List ℕ) → List ℕ → Type 0) (limit : ℕ) (tape tape_now : Option Tape) (held held_now : Option (List ℕ)) (s now : S) (fault : HttpFault)
-    → Refuses from Takes limit tape tape_now held held_now s now fault → Refuses to Takes limit tape tape_now held held_now (see s) (see now) fault
-refuses_seen see from to f Takes limit tape tape_now held held_now s now fault r = record {
-  ms = Refuses.ms r;
-  out = Refuses.out r;
-  status = Refuses.status r;
-  go_on = Refuses.go_on r;
-  replies = replies_seen see from to f s (Refuses.ms r) (Refuses.out r) now (Refuses.replies r);
-  answered = Refuses.answered r;
-  took = Refuses.took r;
-  brings = Refuses.brings r;
+    → (limit : ℕ) (tape tape_now : Option Tape) (held held_now : Option (List ℕ)) (s now : S) (fault : HttpFault)
+    → Refuses from limit tape tape_now held held_now s now fault → Refuses to limit tape tape_now held held_now (see s) (see now) fault
+refuses_seen see from to f limit tape tape_now held held_now s now fault r = record {
+  ms = r.ms;
+  out = r.out;
+  status = r.status;
+  go_on = r.go_on;
+  replies = replies_seen see from to f s r.ms r.out now r.replies;
+  answered = r.answered;
+  took = r.took;
+  brings = r.brings;
+}
+
+fails_seen : {S T : Type 0} (see : S → T) (from : Answering S) (to : Answering T) → SeesAnswers see from to
+    → (limit : ℕ) (tape tape_now : Option Tape) (held held_now : Option (List ℕ)) (s now : S) (fault : HttpFault)
+    → FailsRefusing from limit tape tape_now held held_now s now fault → FailsRefusing to limit tape tape_now held held_now (see s) (see now) fault
+fails_seen see from to f limit tape tape_now held held_now s now fault r = record {
+  ms = r.ms;
+  out = r.out;
+  status = r.status;
+  go_on = r.go_on;
+  replies = replies_seen see from to f s r.ms r.out now r.replies;
+  answered = r.answered;
+  took = r.took;
+  brings = r.brings;
 }
 
 gave_up_seen : {S T : Type 0} (see : S → T) (from : GivingUp S) (to : GivingUp T) → SeesGivingUp see from to → (limit : ℕ) (tape tape_now : Option Tape) (ms : List Request) (s now : S) → GaveUp from limit tape tape_now ms s now → GaveUp to limit tape tape_now ms (see s) (see now)
@@ -50,20 +64,24 @@ pub ends_seen : {S T : Type 0} (see : S → T) (from : Answering S) (to : Answer
     → EndsWith from given limit tape tape_now held held_now s now end → EndsWith to given_to limit tape tape_now held held_now (see s) (see now) end
 ends_seen see from to given given_to f g limit tape tape_now held held_now s now ConnEnd.Closed e = (e.0, served_seen see from to f e.0 held held_now s now e.1, e.2)
 ends_seen see from to given given_to f g limit tape tape_now held held_now s now ConnEnd.Cut e = (e.0, served_seen see from to f e.0 held held_now s now e.1, e.2, e.3)
-ends_seen see from to given given_to f g limit tape tape_now held held_now s now (ConnEnd.Refused fault) e = refuses_seen see from to f _ limit tape tape_now held held_now s now fault e
+ends_seen see from to given given_to f g limit tape tape_now held held_now s now (ConnEnd.Refused fault) e = refuses_seen see from to f limit tape tape_now held held_now s now fault e
 ends_seen see from to given given_to f g limit tape tape_now held held_now s now ConnEnd.ReadFault e = (e.0, served_seen see from to f e.0 held held_now s now e.1, e.2, e.3)
 ends_seen see from to given given_to f g limit tape tape_now held held_now s now ConnEnd.WriteFault (inl e) =
     inl
     (record {
-      before = FailsWriting.before e;
-      last = FailsWriting.last e;
-      out = FailsWriting.out e;
-      go_on = FailsWriting.go_on e;
-      replies = replies_seen see from to f s (FailsWriting.before e ++ FailsWriting.last e ∷ []) (FailsWriting.out e) now (FailsWriting.replies e);
-      took = FailsWriting.took e;
-      brings = FailsWriting.brings e;
+      before = e.before;
+      last = e.last;
+      between = see e.between;
+      out = e.out;
+      answer = e.answer;
+      body = e.body;
+      go_on = e.go_on;
+      replies = replies_seen see from to f s e.before e.out e.between e.replies;
+      answered = f e.between e.last e.answer e.body now e.answered;
+      took = e.took;
+      brings = e.brings;
     })
-ends_seen see from to given given_to f g limit tape tape_now held held_now s now ConnEnd.WriteFault (inr e) = inr (e.0, refuses_seen see from to f _ limit tape tape_now held held_now s now e.0 e.1)
+ends_seen see from to given given_to f g limit tape tape_now held held_now s now ConnEnd.WriteFault (inr e) = inr (e.0, fails_seen see from to f limit tape tape_now held held_now s now e.0 e.1)
 ends_seen see from to given given_to f g limit tape tape_now held held_now s now ConnEnd.Spent e = (e.0, served_seen see from to f e.0 held held_now s now e.1, e.2, e.3)
 ends_seen see from to given given_to f g limit tape tape_now held held_now s now ConnEnd.OutOfMemory e =
     (e.0, see e.1, served_seen see from to f e.0 held held_now s e.1 e.2, e.3, gave_up_seen see given given_to g limit tape tape_now e.0 e.1 now e.4)

@@ -1,11 +1,11 @@
 -- What one step of a connection gives, of what its calls say.
-use Rattle.std.proofs.Common.{◌≡◌, inl, inr, ℕ, List, [], ◌++◌, Bool, true, false, Option, Some, None, Result, Ok, Err, refl, sym, ap, ◌∙◌, subst}
+use Rattle.std.proofs.Common.{◌≡◌, ◌≤◌, inl, inr, ℕ, List, [], ◌++◌, length, Bool, true, false, Option, Some, None, Result, Ok, Err, refl, sym, ap, ◌∙◌, subst}
 use Rattle.adx_io.specs.Streams.{Tape, WhereTold}
 use Rattle.http_buffer.specs.State.{Passes}
 use Rattle.http_bodies.specs.Steps.{Advances}
 use Rattle.http_connection.specs.Answers.{AnswersMessage, GivesMessage, Shows}
 use Rattle.http_connection.specs.Messages.{Request, RefusesRequest}
-use Rattle.http_connection.specs.State.{ConnState}
+use Rattle.http_connection.specs.State.{ConnState, room_of}
 use Rattle.http_connection.specs.declared.conn.ConnEnd.{ConnEnd}
 use Rattle.http_connection.specs.declared.conn.Message.{Message}
 use Rattle.http_grammar.specs.Requests.{is_kept, verb_of_method}
@@ -52,13 +52,13 @@ shows_some m = (request_for m, record { verb = verb_back m.verb; target = refl; 
 
 -- a message was read: it is the one that the bytes bring, where they are told
 message_step : {S : Type 0} (answers : Answering S) (gives_up : GivingUp S) (limit : ℕ) (ahead ahead_now : List ℕ) (tape tape_now : Option Tape) (held held_now : Option (List ℕ)) (s now : S) (m : Message) (end : Option ConnEnd)
-    → WhereTold tape tape_now (λ o n. GivesMessage limit (ahead ++ o.left) (Ok (Some m)) (ahead_now ++ n.left))
+    → length ahead_now ≤ room_of limit → WhereTold tape tape_now (λ o n. GivesMessage limit (ahead ++ o.left) (Ok (Some m)) (ahead_now ++ n.left))
     → ((r : Request) → Shows m r → MessageEnds answers gives_up held held_now s now r end)
     → (r : Request) × BringsOne limit ahead ahead_now tape tape_now r × MessageEnds answers gives_up held held_now s now r end
-message_step answers gives_up limit ahead ahead_now None tape_now held held_now s now m end told ends =
-    let some = shows_some m in (some.0, told, ends some.0 some.1)
-message_step answers gives_up limit ahead ahead_now (Some o) None held held_now s now m end told ends = absurd told
-message_step answers gives_up limit ahead ahead_now (Some o) (Some n) held held_now s now m end told ends = (told.0, told.1, ends told.0 told.2)
+message_step answers gives_up limit ahead ahead_now None tape_now held held_now s now m end fits told ends =
+    let some = shows_some m in (some.0, record { fits = fits; is = told }, ends some.0 some.1)
+message_step answers gives_up limit ahead ahead_now (Some o) None held held_now s now m end fits told ends = absurd told
+message_step answers gives_up limit ahead ahead_now (Some o) (Some n) held held_now s now m end fits told ends = (told.0, record { fits = fits; is = told.1 }, ends told.0 told.2)
 
 -- the step of a message that was read
 step_of : {S : Type 0} (answers : Answering S) (gives_up : GivingUp S) (limit : ℕ) (ahead ahead_now : List ℕ) (tape tape_now : Option Tape) (held held_now : Option (List ℕ)) (s now : S) (end : Option ConnEnd)
@@ -79,7 +79,7 @@ pub served_step : {S : Type 0} (answers : Answering S) (gives_up : GivingUp S) (
     → StepGives answers gives_up c.limit c.held c_now.held tape tape_now held held_now s now end
 served_step answers gives_up c c_now tape tape_now held held_now s now m end sound a ends =
     step_of answers gives_up c.limit c.held c_now.held tape tape_now held held_now s now end
-    (message_step answers gives_up c.limit c.held c_now.held tape tape_now held held_now s now m end (AnswersMessage.told a sound) ends)
+    (message_step answers gives_up c.limit c.held c_now.held tape tape_now held held_now s now m end (AnswersMessage.fits a m refl) (AnswersMessage.told a sound) ends)
 
 -- what is so of all bytes, where some of those that come were taken
 finds : (ahead : List ℕ) (old new : Option Tape) (P : List ℕ → List ℕ → Type 0) (Rest : List ℕ → Type 0) (after : Tape → List ℕ)

@@ -4,6 +4,7 @@
 use Rattle.std.specs.Prelude.{◌≡◌, ◌≢◌, ◌⊎◌, ℕ, ◌<◌, ◌≤◌, List, [], ◌∷◌, ◌++◌, length, All, true, false, Option, Some}
 use Rattle.adx_io.specs.Streams.{Tape, WhereTold, Took, Rises}
 use Rattle.http_connection.specs.Messages.{Request, AreRequests, RefusesRequest, IsUnfinishedRequest}
+use Rattle.http_connection.specs.State.{room_of}
 use Rattle.http_connection.specs.declared.conn.ConnEnd.{ConnEnd}
 use Rattle.http_grammar.specs.Requests.{is_kept}
 use Rattle.http_grammar.specs.declared.fault.HttpFault.{HttpFault}
@@ -50,15 +51,17 @@ abbrev pub Brings : ℕ → Option Tape → Option Tape → List Request → (Li
 Brings limit tape tape_now ms Rest =
     WhereTold tape tape_now (λ before now. (beyond : List ℕ) × AreRequests limit before.left ms (beyond ++ now.left) × Rest (beyond ++ now.left))
 
+-- the bytes that come, where the source tells them, begin with these messages; what was taken beyond them is at most what
+-- a connection has room for
+abbrev pub BringsLast : ℕ → Option Tape → Option Tape → List Request → Type 0
+BringsLast limit tape tape_now ms =
+    WhereTold tape tape_now (λ before now. (beyond : List ℕ) × (length beyond ≤ room_of limit) × AreRequests limit before.left ms (beyond ++ now.left))
+
 -- the bytes that the source gave, where it tells them, are these messages, and then a rest of which this is so; what is
 -- left comes behind that
 abbrev pub Gave : ℕ → Option Tape → Option Tape → List Request → (List ℕ → Type 0) → Type 0
 Gave limit tape tape_now ms Rest =
     WhereTold tape tape_now (λ before now. (given : List ℕ) × (rest : List ℕ) × (before.left ≡ given ++ now.left) × AreRequests limit given ms rest × Rest rest)
-
--- nothing is said of the rest
-abbrev pub IsAny : List ℕ → Type 0
-IsAny rest = Unit {0}
 
 -- these messages were replied, and the sink took the replies
 pub record Served {S : Type 0} (answers : Answering S) (ms : List Request) (held held_now : Option (List ℕ)) (s now : S) : Type 0 where
@@ -70,50 +73,69 @@ pub record Served {S : Type 0} (answers : Answering S) (ms : List Request) (held
 abbrev pub TookFront : Option (List ℕ) → Option (List ℕ) → List ℕ → Type 0
 TookFront held held_now bytes = (front back : List ℕ) × (bytes ≡ front ++ back) × Took held held_now front
 
--- a message is refused for this fault, and its reply is written behind those to the messages before it, or a front of
--- all of them is
-pub record Refuses {S : Type 0} (answers : Answering S) (Takes : Option (List ℕ) → Option (List ℕ) → List ℕ → Type 0) (limit : ℕ) (tape tape_now : Option Tape) (held held_now : Option (List ℕ)) (s now : S) (fault : HttpFault) : Type 0 where
+-- behind these bytes the sink took some front of those
+abbrev pub TookWithFront : Option (List ℕ) → Option (List ℕ) → List ℕ → List ℕ → Type 0
+TookWithFront held held_now out bytes = (front back : List ℕ) × (bytes ≡ front ++ back) × Took held held_now (out ++ front)
+
+-- a message is refused for this fault, and its reply is written behind those to the messages before it
+pub record Refuses {S : Type 0} (answers : Answering S) (limit : ℕ) (tape tape_now : Option Tape) (held held_now : Option (List ℕ)) (s now : S) (fault : HttpFault) : Type 0 where
   pub ms : List Request
   pub out : List ℕ
   pub status : ℕ
   pub go_on : GoOn ms
   pub replies : Replies answers s ms out now
   pub answered : fault_status fault ≡ Some status
-  pub took : Takes held held_now (out ++ refusal_bytes status)
+  pub took : Took held held_now (out ++ refusal_bytes status)
   pub brings : Brings limit tape tape_now ms (λ rest. RefusesRequest limit rest fault)
 
--- the sink failed within the replies, the last of them at the latest
+-- the sink failed within the reply to a message that is refused for this fault; it took the replies to all before it
+pub record FailsRefusing {S : Type 0} (answers : Answering S) (limit : ℕ) (tape tape_now : Option Tape) (held held_now : Option (List ℕ)) (s now : S) (fault : HttpFault) : Type 0 where
+  pub ms : List Request
+  pub out : List ℕ
+  pub status : ℕ
+  pub go_on : GoOn ms
+  pub replies : Replies answers s ms out now
+  pub answered : fault_status fault ≡ Some status
+  pub took : TookWithFront held held_now out (refusal_bytes status)
+  pub brings : Brings limit tape tape_now ms (λ rest. RefusesRequest limit rest fault)
+
+-- the sink failed within the reply to the last message; it took the replies to all before it
 pub record FailsWriting {S : Type 0} (answers : Answering S) (limit : ℕ) (tape tape_now : Option Tape) (held held_now : Option (List ℕ)) (s now : S) : Type 0 where
   pub before : List Request
   pub last : Request
+  pub between : S
   pub out : List ℕ
+  pub answer : Answer
+  pub body : List ℕ
   pub go_on : GoOn before
-  pub replies : Replies answers s (before ++ last ∷ []) out now
-  pub took : TookFront held held_now out
-  pub brings : Brings limit tape tape_now (before ++ last ∷ []) IsAny
+  pub replies : Replies answers s before out between
+  pub answered : answers between last answer body now
+  pub took : TookWithFront held held_now out (reply_to last answer body)
+  pub brings : BringsLast limit tape tape_now (before ++ last ∷ [])
 
 -- memory was refused before any message came, or while one was answered, whose reply wasn't begun
 abbrev pub GaveUp : {S : Type 0} → GivingUp S → ℕ → Option Tape → Option Tape → List Request → S → S → Type 0
 GaveUp gives_up limit tape tape_now ms s now =
-    ((ms ≡ []) × (now ≡ s) × (tape_now ≡ tape)) ⊎ ((m : Request) × gives_up s m now × Brings limit tape tape_now (ms ++ m ∷ []) IsAny)
+    ((ms ≡ []) × (now ≡ s) × (tape_now ≡ tape)) ⊎ ((m : Request) × gives_up s m now × BringsLast limit tape tape_now (ms ++ m ∷ []))
 
 -- How a connection ended, what its source brought, what its sink took, and in which state the service was left. Where the
 -- source failed, all whole messages that it gave were answered, and what it gave behind them is the front of one or nothing.
+-- Where the sink failed, it took all replies but the last, and a front of that one.
 abbrev pub EndsWith : {S : Type 0} → Answering S → GivingUp S → ℕ → Option Tape → Option Tape → Option (List ℕ) → Option (List ℕ) → S → S → ConnEnd → Type 0
 EndsWith answers gives_up limit tape tape_now held held_now s now ConnEnd.Closed =
     (ms : List Request) × Served answers ms held held_now s now
-    × ((GoOn ms × Brings limit tape tape_now ms (λ rest. rest ≡ [])) ⊎ (CloseLast ms × Brings limit tape tape_now ms IsAny))
+    × ((GoOn ms × Brings limit tape tape_now ms (λ rest. rest ≡ [])) ⊎ (CloseLast ms × BringsLast limit tape tape_now ms))
 EndsWith answers gives_up limit tape tape_now held held_now s now ConnEnd.Cut =
     (ms : List Request) × Served answers ms held held_now s now × GoOn ms × Brings limit tape tape_now ms (λ rest. RefusesRequest limit rest HttpFault.Cut)
 EndsWith answers gives_up limit tape tape_now held held_now s now (ConnEnd.Refused fault) =
-    Refuses answers Took limit tape tape_now held held_now s now fault
+    Refuses answers limit tape tape_now held held_now s now fault
 EndsWith answers gives_up limit tape tape_now held held_now s now ConnEnd.ReadFault =
     (ms : List Request) × Served answers ms held held_now s now × GoOn ms × Gave limit tape tape_now ms (IsUnfinishedRequest limit)
 EndsWith answers gives_up limit tape tape_now held held_now s now ConnEnd.WriteFault =
     FailsWriting answers limit tape tape_now held held_now s now
-    ⊎ ((fault : HttpFault) × Refuses answers TookFront limit tape tape_now held held_now s now fault)
+    ⊎ ((fault : HttpFault) × FailsRefusing answers limit tape tape_now held held_now s now fault)
 EndsWith answers gives_up limit tape tape_now held held_now s now ConnEnd.Spent =
-    (ms : List Request) × Served answers ms held held_now s now × AreSpent ms × Brings limit tape tape_now ms IsAny
+    (ms : List Request) × Served answers ms held held_now s now × AreSpent ms × BringsLast limit tape tape_now ms
 EndsWith {S = S} answers gives_up limit tape tape_now held held_now s now ConnEnd.OutOfMemory =
     (ms : List Request) × (between : S) × Served answers ms held held_now s between × GoOn ms × GaveUp gives_up limit tape tape_now ms between now
 

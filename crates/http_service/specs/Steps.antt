@@ -1,7 +1,8 @@
 -- What one step of serving a connection does; private clauses alone cite this file.
-use Rattle.std.specs.Prelude.{◌≡◌, ◌⊎◌, ℕ, List, [], ◌++◌, length, All, true, false, Option, Some, None, Err}
+use Rattle.std.specs.Prelude.{◌≡◌, ◌⊎◌, ℕ, ◌≤◌, List, [], ◌++◌, length, All, true, false, Option, Some, None, Err}
 use Rattle.adx_io.specs.Streams.{Tape, WhereTold, Took}
 use Rattle.http_bodies.specs.Steps.{ReadsBy}
+use Rattle.http_connection.specs.State.{room_of}
 use Rattle.http_connection.specs.declared.conn.Message.{Message}
 use Rattle.http_connection.specs.Messages.{Request, IsRequestThen, AreRequests, RefusesRequest, IsUnfinishedRequest}
 use Rattle.http_connection.specs.declared.conn.ConnEnd.{ConnEnd}
@@ -45,9 +46,11 @@ FaultEnds held held_now fault ConnEnd.WriteFault = WritesRefusal TookFront held 
 FaultEnds held held_now fault ConnEnd.Spent = ⊥
 FaultEnds held held_now fault ConnEnd.OutOfMemory = ⊥
 
--- the bytes that were held and those that come, where the source tells them, begin with this message
-abbrev pub BringsOne : ℕ → List ℕ → List ℕ → Option Tape → Option Tape → Request → Type 0
-BringsOne limit ahead ahead_now tape tape_now m = WhereTold tape tape_now (λ before now. IsRequestThen limit (ahead ++ before.left) m (ahead_now ++ now.left))
+-- the bytes that were held and those that come, where the source tells them, begin with this message; those held then are
+-- at most what a connection has room for
+pub record BringsOne (limit : ℕ) (ahead ahead_now : List ℕ) (tape tape_now : Option Tape) (m : Request) : Type 0 where
+  pub fits : length ahead_now ≤ room_of limit
+  pub is : WhereTold tape tape_now (λ before now. IsRequestThen limit (ahead ++ before.left) m (ahead_now ++ now.left))
 
 -- of the bytes that were held and those that come this is so, and some of those that come were taken
 abbrev pub Finds : List ℕ → Option Tape → Option Tape → (List ℕ → Type 0) → Type 0
@@ -83,6 +86,7 @@ pub record Runs {S : Type 0} (answers : Answering S) (limit count : ℕ) (ahead 
   pub many : length ms ≡ count
   pub kept : All (λ (m : Request). is_kept m.head ≡ true) ms
   pub served : Served answers ms held held_now s now
+  pub fits : length ahead ≤ room_of limit
   pub brings : WhereTold tape tape_now (λ before after. AreRequests limit before.left ms (ahead ++ after.left))
 
 -- the causes of a step's end: more may come only where nothing failed

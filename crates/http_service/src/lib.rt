@@ -18,6 +18,6 @@ pub use answer::{Answer, Methods};
 pub use bodies::{disallowed, plain, push_body, push_refused};
 pub use limits::{MESSAGE_LIMIT, REQUEST_LIMIT};
 pub use refusal::write_refusal;
-pub use reply::write_answer;
+pub use reply::{asks_no_body, write_answer};
 pub use service::Service;
 pub use serving::serve_messages;

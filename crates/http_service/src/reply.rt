@@ -1,11 +1,23 @@
 //! The reply to a message that was answered.
 ghost use Rattle.std.specs.Prelude.{◌≡◌};
 ghost use Rattle.adx_http.specs.Written.{Writes, WritesBy};
-ghost use Rattle.http_service.specs.Replies.{answer_bytes};
+ghost use Rattle.http_service.specs.Replies.{answer_bytes, is_head};
 
 use crate::answer::Answer;
-use adx_http::{Reply, WriteFault, write_reply};
+use adx_http::{Reply, Verb, WriteFault, write_reply};
 use adx_io::Sink;
+
+/// Whether a message asks for no body: it is a HEAD (RFC 9110, section 9.3.2).
+pub fn asks_no_body(verb: Verb) -> bool
+    ensures { result ≡ is_head verb }
+{
+    match verb {
+        Verb::Head => true,
+        Verb::Get => false,
+        Verb::Post => false,
+        Verb::Other => false,
+    }
+}
 
 /// Puts the reply with an answer and its body (RFC 9112, section 4) into the sink. The body is JSON or empty. `close`: it
 /// says that the connection closes behind it (RFC 9112, section 9.6). `head`: it answers a HEAD, and its body isn't put

@@ -3,29 +3,17 @@ ghost use Rattle.std.specs.Prelude.{◌≡◌, ℕ, IsNone, Some, false};
 ghost use Rattle.http_connection.specs.Answers.{Shows};
 ghost use Rattle.http_connection.specs.Messages.{Request};
 ghost use Rattle.http_service.specs.Connections.{EndsWith, HasCauses};
-ghost use Rattle.http_service.specs.Replies.{fault_status, is_head};
+ghost use Rattle.http_service.specs.Replies.{fault_status};
 ghost use Rattle.http_service.specs.Steps.{FaultCauses, FaultEnds, MessageEnds, StepCauses, StepGives};
 ghost use Rattle.http_service.specs.declared.limits.TheConstants.{REQUEST_LIMIT as request_limit};
 
 use crate::limits::{MESSAGE_LIMIT, REQUEST_LIMIT};
 use crate::refusal::write_refusal;
-use crate::reply::write_answer;
+use crate::reply::{asks_no_body, write_answer};
 use crate::service::Service;
-use adx_http::{Conn, ConnEnd, HttpFault, Message, Verb};
+use adx_http::{Conn, ConnEnd, HttpFault, Message};
 use adx_io::{Sink, Source};
 use std::alloc::Global;
-
-/// Whether a message asks for no body.
-fn asks_no_body(verb: Verb) -> bool
-    ensures { result ≡ is_head verb }
-{
-    match verb {
-        Verb::Head => true,
-        Verb::Get => false,
-        Verb::Post => false,
-        Verb::Other => false,
-    }
-}
 
 /// Answers a message that was read, and writes its reply. None where the connection goes on.
 fn serve_message<V: Service, K: Sink>(

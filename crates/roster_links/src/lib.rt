@@ -9,8 +9,6 @@
 mod calls;
 mod lanes;
 mod link;
-#[cfg(test)]
-mod tests;
 
 pub use lanes::roster_lanes;
 pub use link::RosterLink;

@@ -1,5 +1,5 @@
 //! Replies and targets, each with its bytes.
-use crate::{Reply, query_value, query_values, read_target, write_reply};
+use adx_http::{Reply, query_value, query_values, read_target, write_reply};
 use adx_io::MemorySink;
 use std::alloc::Global;
 use std::borrow::CowStr;

@@ -1,9 +1,9 @@
 //! Links over the texts of a roster: what they answer, start by start, and the lanes to a roster's bidders.
-use crate::{RosterLink, roster_lanes};
 use adx_json::read;
 use adx_links::{Link, NO_CONTENT};
 use adx_units::{OutOfMemory, Text};
 use deal_floor::Roster;
+use roster_links::{RosterLink, roster_lanes};
 use std::alloc::Global;
 
 /// Texts between bars; behind the arrow what each start answers, between bars too, and `-` where that is `NO_CONTENT`.

@@ -1,7 +1,7 @@
 //! Messages by the rules of RFC 9110 and RFC 9112, each read in pieces and whole.
-use crate::{Conn, HttpFault, Message, Verb};
 use adx_io::MemorySource;
 use adx_units::OutOfMemory;
+use http_connection::{Conn, HttpFault, Message, Verb};
 use std::alloc::Global;
 use std::fmt::Write;
 use std::test::Fail;

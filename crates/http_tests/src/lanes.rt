@@ -1,11 +1,12 @@
 //! Links that fail, and lanes that are worked at the same time.
-use crate::Lane;
-use crate::tests::{
+
+use crate::answers::{
     AUCTION, Wanted, id_of, lane, no_price, planned_lanes, tell_at_once, tell_twice,
 };
 use adx_io::Failed;
 use adx_links::{Link, MemoryLink, Planned};
 use adx_units::{OutOfMemory, Text};
+use fan_out::Lane;
 use std::alloc::Global;
 use std::sync::atomic::{AtomicU64, Ordering};
 use std::test::Fail;

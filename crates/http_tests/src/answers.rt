@@ -1,9 +1,10 @@
 //! Bidders that answer well and badly, asked at the same time and one after the other.
-use crate::{ANSWER_LIMIT, BidderAnswer, Lane, gather, gather_in_turn};
+
 use adx_http::Conn;
 use adx_links::{Link, MemoryLink, Planned};
 use adx_units::{Id, OutOfMemory, Text};
 use deal_floor::Place;
+use fan_out::{ANSWER_LIMIT, BidderAnswer, Lane, gather, gather_in_turn};
 use std::alloc::Global;
 use std::fmt::Write;
 use std::marker::{Send, Sync};
