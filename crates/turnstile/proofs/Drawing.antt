@@ -1,13 +1,18 @@
 -- Drawing a ticket keeps the rule.
-use Rattle.std.proofs.Common.{◌≡◌, ℕ, ◌+◌, ◌%◌, ◌^◌, List, length, get_or, refl, ap, ◌∙◌, arith, Option}
+use Rattle.std.proofs.Common.{eqb, eq-eqb, ne_eqb, sym, subst, List, ◌≡◌, ℕ, ◌+◌, ◌%◌, ◌^◌, length, get_or, refl, ap, ◌∙◌, arith, Option}
 use mathlib.Core.Option.{none}
-use Rattle.atomic_table.specs.Table.{State, Me, step, keeps, Allows}
+use mathlib.Core.Logic.{dite}
+use native.Mathlib.Decide.{ℕ_discrete}
+use prog.Atomic.{either}
+use Rattle.std.proofs.Common.{Bool}
+use Rattle.turnstile.proofs.Looking.{unmoved}
+use Rattle.atomic_table.specs.Table.{State, Me, Act, Valid, step, stepped, keeps, carried_after, Allows}
 use Rattle.atomic_table.proofs.Lists.{set_else}
 use Rattle.turnstile.specs.declared.view.Stage.{Stage}
 use Rattle.turnstile.specs.declared.view.Stage.TheVariants.{Idle, Waits, Holds}
 use Rattle.turnstile.specs.declared.view.SeatView.{SeatView}
 use Rattle.turnstile.specs.Rule.{has_ticket, is_pass, Whole, IsTicket, IsHolder, Knows, Kept}
-use Rattle.turnstile.specs.Steps.{drew}
+use Rattle.turnstile.specs.Steps.{drew, tried}
 use Rattle.turnstile.specs.declared.words.TheConstants.{TICKETS}
 use Rattle.turnstile.proofs.WordLemmas.{shows_ticket}
 use Rattle.turnstile.proofs.Views.{each_set, total_set, put, put_here, put_else}
@@ -66,3 +71,17 @@ module _ {T I F N : Type 0} (items : T → List I) (count_faults : T → ℕ) (f
         },
         (t, r.words.next, refl),
       )
+
+  -- a ticket is drawn where the word shows the number that was said
+  pub tries : (slots id : ℕ) (me : Me (Option T) (SeatView I F N)) (old new : ℕ) → me.0.stage ≡ Idle → is_pass me.0.role ≡ 1 → new ≡ (old + 1) % 2 ^ 64
+      → Allows Rule slots id me TICKETS (λ n. either (eqb n old) new n) (tried (step slots TICKETS old new none) me)
+  tries slots id me old new idle pass next s r deep at fits =
+      let n : ℕ = get_or s.words TICKETS 0 in
+      dite (ℕ_discrete n old)
+      (λ same. let d = draws slots id me idle pass s r deep at fits in
+      subst (λ (b : Bool). (w : SeatView I F N) × (a : Act (Option T)) × Valid s.homes me.1 a × Rule (stepped s TICKETS (either b new n) id me.1 w a) × tried (step slots TICKETS old new none) me n (w, carried_after me.1 a))
+      (sym (eq-eqb n old same))
+      (d.0, d.1, d.2, subst (λ (m : ℕ). Rule (stepped s TICKETS m id me.1 d.0 d.1)) (ap (λ (m : ℕ). (m + 1) % 2 ^ 64) same ∙ sym next) d.3, (λ is. d.4, λ no. absurd (no same))))
+      (λ other. subst (λ (b : Bool). (w : SeatView I F N) × (a : Act (Option T)) × Valid s.homes me.1 a × Rule (stepped s TICKETS (either b new n) id me.1 w a) × tried (step slots TICKETS old new none) me n (w, carried_after me.1 a))
+      (sym (ne_eqb n old other))
+      (me.0, keeps, tt, unmoved items count_faults fixed_of s TICKETS id me.0 r at, (λ is. absurd (other is), λ no. refl)))

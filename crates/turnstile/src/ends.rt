@@ -16,15 +16,15 @@ impl<T: Counted + Drop> Turnstile<T> {
     pub(crate) fn with_table(
         alloc: Global,
         slots: Vec<Option<T>>,
-        about: &Snapshot<T>,
+        about: Snapshot<T>,
         words: &[u64],
     ) -> Result<(Turnstile<T>, TableSeat<T>), OutOfMemory>
-        requires slots { slots.items ≡ Some about.now.value ∷ [] }
-        requires words { Shows words.now 0 0 (length (T.items about.now.value)) (T.fault_count about.now.value) }
-        ensures of { IfOk result (λ r. r.1.table_id ≡ r.0) }
-        ensures first { IfOk result (λ r. r.1.me ≡ (first_view T.items T.fault_count T.fixed about.now.value, [])) }
+        requires slots { slots.items ≡ Some about.value ∷ [] }
+        requires words { Shows words.now 0 0 (length (T.items about.value)) (T.fault_count about.value) }
+        ensures of { IfOk result (λ r. (r.1.table_id ≡ r.0.id) × (r.0.fixed ≡ T.fixed about.value)) }
+        ensures first { IfOk result (λ r. r.1.me ≡ (first_view T.items T.fault_count T.fixed about.value, [])) }
     {
-        match Table::new(alloc, words, slots, about) {
+        match Table::new(alloc, words, slots, &about) {
             Ok((table, seat)) => Ok((Turnstile { table }, seat)),
             Err(Refused { slots: _ }) => Err(OutOfMemory),
         }
@@ -32,7 +32,7 @@ impl<T: Counted + Drop> Turnstile<T> {
 
     /// The value, once no pass is out.
     pub(crate) fn take_apart(self, seat: TableSeat<T>) -> T
-        requires seat { seat.table_id ≡ self }
+        requires seat { seat.table_id ≡ self.id }
         requires first { IsLastSeat seat.me.0 }
         ensures all { IsAllOf T.items T.fault_count T.fixed seat.me.0 result }
     {

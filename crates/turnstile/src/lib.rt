@@ -16,8 +16,6 @@ mod pass;
 mod plays;
 mod running;
 mod seats;
-#[cfg(test)]
-mod tests;
 mod turnstile;
 mod view;
 mod waiting;

@@ -1,4 +1,7 @@
 //! A pass of a turnstile.
+ghost use Rattle.std.specs.Prelude.{◌≡◌, ◌≤◌, length, Some};
+ghost use Rattle.turnstile.specs.Turns.{AreAllRight, Stand};
+
 use crate::view::SeatView;
 use adx_units::Counted;
 use atomic_table::Seat;
@@ -27,5 +30,18 @@ impl<T: Counted> Model for Pass<T> {
 
     ghost view = { λ p. shown p.seat.table_id p.out p.seat.me.0 };
 
-    ghost invariant = { λ p. AtRest T.adds T.is_fault p.out p.seat.me };
+    ghost invariant = { λ p. AtRest T.adds T.is_fault T.legal T.right p.out p.seat.me };
+}
+
+impl<T: Counted> Pass<T> {
+    /// What every pass has, whatever was called: the list that it has seen is legal, each of its turns is right at the
+    /// front of it that has the length of the turn's call, and has its item behind that. It does nothing.
+    pub fn recall(&self)
+        ensures legal { (f : T.Fixed) → self.now.fixed ≡ Some f → T.legal f self.now.seen }
+        ensures right { (f : T.Fixed) → self.now.fixed ≡ Some f → AreAllRight (T.right f) self.now.seen self.now.turns }
+        ensures stand { Stand T.adds self.now.seen self.now.turns }
+        ensures known { length self.now.seen ≤ self.now.known }
+    {
+        let _ = &self.seat;
+    }
 }

@@ -11,29 +11,30 @@ use std::snapshot::Snapshot;
 
 impl<T: Counted + Drop> Turnstile<T> {
     /// Runs the job on the value in hand, raises the front and the faults, gives the value back and serves the next.
-    pub(crate) fn run_in<J: Job<T>>(&self, seat: &mut TableSeat<T>, job: &mut J)
-        requires seat { seat.old.table_id ≡ self.now }
-        requires hand { (x : T) × Begun T.items T.fault_count T.fixed seat.old.me x × J.needs job.old (T.fixed x) }
+    pub(crate) fn run_in<J: Job<T>>(&self, seat: &mut TableSeat<T>, job: &mut J, lent: &mut J::Lent)
+        requires seat { seat.old.table_id ≡ self.now.id }
+        requires hand { (x : T) × Begun T.items T.fault_count T.fixed seat.old.me x × J.needs job.old lent.old (T.fixed x) }
         ensures id { (seat.new.table_id ≡ seat.old.table_id) × (seat.new.id ≡ seat.old.id) }
-        ensures ran { RanOnce T.adds T.is_fault J.ran J.notes job.old job.new seat.old.me seat.new.me }
+        ensures ran { RanOnce T.adds T.is_fault T.legal T.right J.ran J.notes J.risen (job.old, lent.old) (job.new, lent.new) seat.old.me seat.new.me }
     {
         let mut value = self.take_out(seat);
         let before = value.count();
         let faults = value.faults();
-        job.run(&mut value);
+        job.run(lent, &mut value);
+        value.is_legal();
         let added = value.count() - before;
         let risen = value.faults() - faults;
         let shown = Snapshot::of(&value);
         self.put_in(seat, value);
         self.raise_all(seat, &shown, added);
         self.count_all(seat, risen);
-        let served = self.serve::<J, Brand>(seat, job, before);
-        self.wake_next(seat, served);
+        self.serve::<J, Brand>(seat, job, lent, before);
+        self.wake_next(seat);
     }
 
     /// Takes the value out of the slot in hand.
     pub(crate) fn take_out(&self, seat: &mut TableSeat<T>) -> T
-        requires seat { seat.old.table_id ≡ self.now }
+        requires seat { seat.old.table_id ≡ self.now.id }
         requires hand { (x : T) × (seat.old.me.1 ≡ (0, Some x) ∷ []) }
         ensures id { (seat.new.table_id ≡ seat.old.table_id) × (seat.new.id ≡ seat.old.id) }
         ensures value { seat.old.me.1 ≡ (0, Some result) ∷ [] }
@@ -44,7 +45,7 @@ impl<T: Counted + Drop> Turnstile<T> {
 
     /// Puts the value back into the slot in hand.
     pub(crate) fn put_in(&self, seat: &mut TableSeat<T>, value: T)
-        requires seat { seat.old.table_id ≡ self.now }
+        requires seat { seat.old.table_id ≡ self.now.id }
         requires hand { seat.old.me.1 ≡ (0, None) ∷ [] }
         ensures id { (seat.new.table_id ≡ seat.old.table_id) × (seat.new.id ≡ seat.old.id) }
         ensures value { seat.new.me ≡ (seat.old.me.0, (0, Some value) ∷ []) }
@@ -54,7 +55,7 @@ impl<T: Counted + Drop> Turnstile<T> {
 
     /// Raises the front where items were added.
     pub(crate) fn raise_all(&self, seat: &mut TableSeat<T>, _value: &Snapshot<T>, n: u64)
-        requires seat { seat.old.table_id ≡ self.now }
+        requires seat { seat.old.table_id ≡ self.now.id }
         requires hand { (new : List T.Item) × (m : ℕ) × InHand T.items T.fault_count T.fixed seat.old.me _value.now.value new m × (length new ≡ n) }
         ensures id { (seat.new.table_id ≡ seat.old.table_id) × (seat.new.id ≡ seat.old.id) }
         ensures raised { (new : List T.Item) → length new ≡ n → T.items _value.now.value ≡ seat.old.me.0.seen ++ new → seat.old.me.0.known ≡ length seat.old.me.0.seen → seat.new.me ≡ (with_new seat.old.me.0 new, seat.old.me.1) }
@@ -66,7 +67,7 @@ impl<T: Counted + Drop> Turnstile<T> {
 
     /// Raises the faults where there were any.
     pub(crate) fn count_all(&self, seat: &mut TableSeat<T>, n: u64)
-        requires seat { seat.old.table_id ≡ self.now }
+        requires seat { seat.old.table_id ≡ self.now.id }
         requires hand { (x : T) × (new : List T.Item) × InHand T.items T.fault_count T.fixed seat.old.me x new n }
         ensures id { (seat.new.table_id ≡ seat.old.table_id) × (seat.new.id ≡ seat.old.id) }
         ensures counted { seat.new.me ≡ (with_rise seat.old.me.0 n, seat.old.me.1) }

@@ -14,7 +14,7 @@ use adx_units::Counted;
 impl<T: Counted + Drop> Turnstile<T> {
     /// Splits a pass's seat from the first one's, of which so many are out.
     pub(crate) fn split_off(&self, seat: &mut TableSeat<T>, _out: u64) -> TableSeat<T>
-        requires seat { seat.old.table_id ≡ self.now }
+        requires seat { seat.old.table_id ≡ self.now.id }
         requires first { (seat.old.me.0.role ≡ First _out) × (_out < MOST_OUT) }
         requires idle { seat.old.me.0.stage ≡ Idle }
         ensures id { (seat.new.table_id ≡ seat.old.table_id) × (seat.new.id ≡ seat.old.id) × (result.table_id ≡ seat.old.table_id) }
@@ -26,7 +26,7 @@ impl<T: Counted + Drop> Turnstile<T> {
 
     /// Joins a pass's seat into the first one's.
     pub(crate) fn merge(&self, seat: &mut TableSeat<T>, other: TableSeat<T>)
-        requires seat { (seat.old.table_id ≡ self.now) × (other.table_id ≡ self.now) }
+        requires seat { (seat.old.table_id ≡ self.now.id) × (other.table_id ≡ self.now.id) }
         requires first { (n : ℕ) × (seat.old.me.0.role ≡ First n) }
         requires parted { (other.me.0.role ≡ Parted) × (other.me.1 ≡ []) }
         requires idle { (seat.old.me.0.stage ≡ Idle) × (other.me.0.stage ≡ Idle) }
@@ -39,7 +39,7 @@ impl<T: Counted + Drop> Turnstile<T> {
 
     /// Carries what one seat has seen to another.
     pub(crate) fn tell(&self, from: &mut TableSeat<T>, to: &mut TableSeat<T>)
-        requires seats { (from.old.table_id ≡ self.now) × (to.old.table_id ≡ self.now) }
+        requires seats { (from.old.table_id ≡ self.now.id) × (to.old.table_id ≡ self.now.id) }
         requires passes { (is_pass from.old.me.0.role ≡ 1) × (is_pass to.old.me.0.role ≡ 1) }
         requires idle { to.old.me.0.stage ≡ Idle }
         requires short { length to.old.me.0.told ≤ length to.old.me.0.seen }

@@ -1,0 +1,3 @@
+pub mod BookRule
+pub mod Knowing
+pub mod Words

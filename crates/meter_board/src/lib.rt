@@ -1,0 +1,20 @@
+//! Meters that one thread publishes and others read without waiting.
+//!
+//! A `StepBoard` keeps a list of steps, of which readers see a beginning, and each reader has seen a beginning of that.
+//! The contracts say that a read gives the fold of steps that begin with all that this reader saw or was told of.
+//! Stands on adx_units and meter_steps, and on the kit's `left_right` and `logbook`.
+#![tactic(auto)]
+
+mod board;
+mod book;
+mod calls;
+mod origin;
+mod reader;
+mod reading;
+mod shown;
+mod taking;
+mod views;
+
+pub use board::StepBoard;
+pub use origin::Origin;
+pub use reader::MeterReader;
