@@ -3,8 +3,8 @@ use Rattle.std.proofs.Common.{◌≡◌, ℕ, zero, suc, ◌+◌, ◌<◌, ◌�
 use Rattle.std.proofs.lemmas.Option.{none-some}
 use Rattle.adx_units.specs.Number.{begins_with}
 use Rattle.adx_json.specs.Spelling.{escape}
-use Rattle.line_parts.specs.Parts.{◌>>=◌, behind_byte}
-use Rattle.line_parts.proofs.Laws.{byte_takes}
+use Rattle.formats.specs.Parts.{◌>>=◌, behind_byte}
+use Rattle.formats.proofs.PartLaws.{byte_takes}
 use Rattle.bid_record.specs.Texts.{spelled_at, body_at}
 use Rattle.bid_record.proofs.Texts.{byte_spelled, spelling_some}
 

@@ -7,9 +7,8 @@ use Rattle.std.proofs.lemmas.Option.{none-some, same_Some}
 use Rattle.adx_units.specs.Number.{is_digit}
 use Rattle.adx_units.specs.Money.{units}
 use Rattle.adx_json.specs.Spelling.{text_spelling}
-use Rattle.line_parts.specs.Parts.{◌>>=◌, behind_word, behind_byte, none_left, number_at, part}
-use Rattle.line_parts.proofs.Runs.{Stops}
-use Rattle.line_parts.proofs.Laws.{bind_some, tested_some, word_takes, word_again, byte_takes, none_left_is, number_takes, number_again}
+use Rattle.formats.specs.Parts.{◌>>=◌, behind_word, behind_byte, none_left, number_at, part, Stops}
+use Rattle.formats.proofs.PartLaws.{bind_some, tested_some, word_takes, word_again, byte_takes, none_left_is, number_takes, number_again}
 use Rattle.bid_record.specs.declared.rows.CampaignRow.{CampaignRow}
 use Rattle.bid_record.specs.Lines.{changes_part, campaign_line, end_line}
 use Rattle.bid_record.specs.Records.{IsCampaign}

@@ -1,7 +1,7 @@
 -- An impression's line as the reader takes it apart.
 use Rattle.std.proofs.Common.{◌≡◌, ℕ, ◌^◌, ◌<◌, ◌≤◌, List, length, codes, Bool, true, false, ◌&&◌, Option, Some, None, Ok, refl, sym, ap₂, ◌∙◌, subst, arith}
 use Rattle.std.proofs.lemmas.Bool.{and_parts, lt-ltb, le-ltb}
-use Rattle.line_parts.specs.Parts.{behind_word}
+use Rattle.formats.specs.Parts.{behind_word}
 use Rattle.bid_record.specs.declared.fault.Misfit.{Misfit}
 use Rattle.bid_record.specs.declared.fault.Misfit.TheVariants.{Form, Memory}
 use Rattle.bid_record.specs.declared.offers.Offers.{Offers}

@@ -1,17 +1,17 @@
 -- The lines of a record, taken one after the other.
-use Rattle.std.proofs.Common.{◌≡◌, ◌≢◌, ℕ, zero, suc, ◌+◌, ◌-◌, ◌^◌, ◌<◌, ◌≤◌, inl, inr, List, [], ◌∷◌, ◌++◌, length, map, codes, get_or, drop, Bool, true, false, ◌||◌, eqb, ltb, leb, IsTrue, Option, Some, None, Result, Ok, Err, refl, sym, ap, ap₂, ◌∙◌, subst, arith, lit<, append_assoc, append-nil, length-append}
+use Rattle.std.proofs.Common.{◌≡◌, ◌≢◌, ℕ, zero, suc, ◌+◌, ◌-◌, ◌^◌, ◌<◌, ◌≤◌, inl, inr, List, [], ◌∷◌, ◌++◌, length, map, codes, get_or, drop, true, false, ◌||◌, eqb, ltb, leb, IsTrue, Option, Some, None, Result, Ok, Err, refl, sym, ap, ◌∙◌, subst, arith, lit<, append_assoc, append-nil, length-append}
 use Rattle.std.specs.Option.{ForSome}
 use Rattle.std.specs.Prelude.{IfOk, IfErr}
 use Rattle.std.specs.List.{list_all, flat_map, All, AllPairs, enumerate_from}
 use Rattle.std.proofs.Math.Seq.{get_or-append_seam}
 use Rattle.std.proofs.lemmas.Fmt.{decimal_digit}
-use Rattle.std.proofs.lemmas.List.{get_or_append_left, get_or-map, length-map, drop_at}
+use Rattle.std.proofs.lemmas.List.{get_or_append_left, drop_at}
 use Rattle.std.proofs.lemmas.List.Elements.{All-nil, All-cons, All-head, All-tail, All-push, All-get_or, All-from_get_or, All-weaker}
 use Rattle.std.proofs.lemmas.List.Quantifiers.{all_pairs_push}
-use Rattle.line_parts.specs.Parts.{ended, behind_word, IsOneLine}
-use Rattle.line_parts.specs.Documents.{Leads, no_line, line_then, FailsAt, IsCut}
-use Rattle.line_parts.proofs.Documents.{leads_join, leads_more, no_fault, no_cut, one_document, pushed, cut_there}
-use Rattle.line_parts.proofs.Numbered.{numbered_push}
+use Rattle.formats.specs.Parts.{ended, behind_word, IsOneLine}
+use Rattle.formats.specs.Following.{Leads, no_line, line_then, FailsAt, IsCut}
+use Rattle.formats.proofs.Following.{leads_join, leads_more, no_fault, no_cut, one_document, pushed, cut_there}
+use Rattle.formats.proofs.NumberedLines.{numbered_push}
 use Rattle.bid_record.specs.declared.fault.RecordFault.{RecordFault}
 use Rattle.bid_record.specs.declared.fault.RecordFault.TheVariants.{Line, Order, Campaign, Cut, OutOfMemory}
 use Rattle.bid_record.specs.declared.record.Record.{Record}
@@ -19,7 +19,8 @@ use Rattle.bid_record.specs.declared.rows.CampaignRow.{CampaignRow}
 use Rattle.bid_record.specs.declared.rows.Charge.{Charge}
 use Rattle.bid_record.specs.declared.rows.ImpRow.{ImpRow}
 use Rattle.bid_record.specs.Lines.{head_line, day_line, campaign_line, imp_line, end_line, rows_lines, lines, document}
-use Rattle.bid_record.specs.Records.{zeroed, is_day, IsAmount, IsCharge, IsCampaign, IsImp, Differ, IsSound}
+use Rattle.day_form.specs.Days.{zeroed, is_day}
+use Rattle.bid_record.specs.Records.{IsAmount, IsCharge, IsCampaign, IsImp, Differ, IsSound}
 use Rattle.bid_record.specs.Refusals.{Told, nothing, a_head, rows, all, IsNextCampaign, IsLooseImp, HasPlaces, IsNextEnd, Follows, head_first, day_second, campaign_next, imp_next, end_last, IsWhole, IsOfForm, BreaksOrder, BreaksPlaces, IsRefusal, AreSame, GivesRecord}
 use Rattle.bid_record.specs.Taking.{IsTaken, AreRows, IsOpened, AreRead, IsBehindLast, IsFound}
 use Rattle.bid_record.proofs.CampaignLines.{wide32}
@@ -30,7 +31,7 @@ use Rattle.std.proofs.lemmas.Slice.Eq.{bytes_eq-Decides}
 use Rattle.std.proofs.lemmas.Str.{IsUtf8-from_ascii}
 use Rattle.std.specs.Str.{IsUtf8, IsAscii}
 use Rattle.adx_units.specs.Number.{is_digit}
-use Rattle.line_parts.proofs.Laws.{word_again}
+use Rattle.formats.proofs.PartLaws.{word_again}
 use Rattle.bid_record.proofs.Told.{is_end, follows_of_form, order_not, places_not}
 
 -- ---- rows that a document may have follow one another
@@ -323,11 +324,16 @@ same_document r s h =
     ∙ ap (λ (cs : List CampaignRow). flat_map ended (rows_lines s.format s.day cs r.imps ++ end_line (length r.imps) ∷ [])) h.campaigns
     ∙ ap (λ (imps : List ImpRow). flat_map ended (rows_lines s.format s.day s.campaigns imps ++ end_line (length imps) ∷ [])) h.imps
 
-only_found : (bytes : List ℕ) (p : Record × ℕ) (r : Record) (rest : List ℕ) → IsFound bytes p → IsSound r.format r.day r.campaigns r.imps → bytes ≡ document r ++ rest → AreSame p.0 r × (p.1 ≡ length (document r))
-only_found bytes p r rest is sound e =
-    let one = one_document Follows IsWhole is_end nothing (all p.0.format p.0.day p.0.campaigns p.0.imps) (all r.format r.day r.campaigns r.imps) (lines p.0) (lines r) (drop p.1 bytes) rest tt tt (record_leads p.0 is.sound) (record_leads r sound) (sym is.front ∙ e) in
-    let parts = whole_parts p.0.format p.0.day p.0.campaigns p.0.imps r.format r.day r.campaigns r.imps one.0 in
-    let same : AreSame p.0 r = record { format = parts.0; day = parts.1; campaigns = parts.2; imps = parts.3 } in
+-- two records whose documents stand at the front of the same bytes
+pub same_records : (r s : Record) (x y : List ℕ) → document r ++ x ≡ document s ++ y → AreSame r s × (x ≡ y)
+same_records r s x y e =
+    let one = one_document Follows IsWhole is_end nothing (all r.format r.day r.campaigns r.imps) (all s.format s.day s.campaigns s.imps) (lines r) (lines s) x y tt tt (record_leads r r.sound) (record_leads s s.sound) e in
+    let parts = whole_parts r.format r.day r.campaigns r.imps s.format s.day s.campaigns s.imps one.0 in
+    (record { format = parts.0; day = parts.1; campaigns = parts.2; imps = parts.3 }, one.1)
+
+only_found : (bytes : List ℕ) (p : Record × ℕ) (r : Record) (rest : List ℕ) → IsFound bytes p → bytes ≡ document r ++ rest → AreSame p.0 r × (p.1 ≡ length (document r))
+only_found bytes p r rest is e =
+    let same : AreSame p.0 r = (same_records p.0 r (drop p.1 bytes) rest (sym is.front ∙ e)).0 in
     (same, is.len ∙ ap (λ (t : List ℕ). length t) (same_document p.0 r same))
 
 pub only_refused : (bytes : List ℕ) (r : Record) (rest : List ℕ) (fault : RecordFault) → IsRefusal bytes fault → IsSound r.format r.day r.campaigns r.imps → bytes ≡ document r ++ rest → fault ≡ OutOfMemory
@@ -342,7 +348,7 @@ only_refused bytes r rest Cut f sound e =
 only_refused bytes r rest OutOfMemory f sound e = refl
 
 pub only_given : (bytes : List ℕ) (x : Result (Record × ℕ) RecordFault) → IfOk x (λ p. IsFound bytes p) → IfErr x (IsRefusal bytes) → (r : Record) (rest : List ℕ) → bytes ≡ document r ++ rest → GivesRecord r x
-only_given bytes (Ok p) is fault r rest e = only_found bytes p r rest is r.sound e
+only_given bytes (Ok p) is fault r rest e = only_found bytes p r rest is e
 only_given bytes (Err fault) is f r rest e = only_refused bytes r rest fault f r.sound e
 
 -- ---- days
@@ -406,27 +412,3 @@ no_format line first second format known is =
       | inl one ↦ first (is ∙ ap head_line (eqb-true format 1 one) ∙ head_one)
       | inr two ↦ second (is ∙ ap head_line (eqb-true format 2 two) ∙ head_two)
     ]
-
--- ---- the shape of a day
-
-same_by_index : (xs ys : List ℕ) → length xs ≡ length ys → ((k : ℕ) → k < length xs → get_or xs k 0 ≡ get_or ys k 0) → xs ≡ ys
-same_by_index [] [] len h = refl
-same_by_index [] (y ∷ ys) len h = absurd (omega arith)
-same_by_index (x ∷ xs) [] len h = absurd (omega arith)
-same_by_index (x ∷ xs) (y ∷ ys) len h = ap₂ (λ (a : ℕ) (as0 : List ℕ). a ∷ as0) (h 0 (omega arith)) (same_by_index xs ys (omega arith) (λ k below. h (suc k) (omega arith)))
-
-pub is_shaped : (day : List ℕ) → length day ≡ 10 → ((k : ℕ) → k < 10 → zeroed (get_or day k 0) ≡ get_or (codes "0000-00-00") k 0) → is_day day ≡ true
-is_shaped day len h =
-    let mapped = length-map day zeroed in
-    let same : map zeroed day ≡ codes "0000-00-00" = same_by_index (map zeroed day) (codes "0000-00-00") (omega (arith, mapped, len)) (λ k below. get_or-map zeroed day k 0 0 (omega (arith, mapped, below)) ∙ h k (omega (arith, mapped, len, below))) in
-    (bytes_eq-Decides (map zeroed day) (codes "0000-00-00")).1 same
-
-day_false : (day : List ℕ) (b : Bool) → is_day day ≡ b → (map zeroed day ≡ codes "0000-00-00" → ⊥) → is_day day ≡ false
-day_false day true e h = absurd (h ((bytes_eq-Decides (map zeroed day) (codes "0000-00-00")).0 e))
-day_false day false e h = e
-
-pub not_so_long : (day : List ℕ) → (length day ≡ 10 → ⊥) → is_day day ≡ false
-not_so_long day h = day_false day (is_day day) refl (λ same. h (sym (length-map day zeroed) ∙ ap (λ (t : List ℕ). length t) same))
-
-pub not_shaped_at : (day : List ℕ) (k : ℕ) → k < length day → (zeroed (get_or day k 0) ≡ get_or (codes "0000-00-00") k 0 → ⊥) → is_day day ≡ false
-not_shaped_at day k below h = day_false day (is_day day) refl (λ same. h (sym (get_or-map zeroed day k 0 0 below) ∙ ap (λ (t : List ℕ). get_or t k 0) same))

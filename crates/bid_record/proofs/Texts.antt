@@ -12,8 +12,8 @@ use Rattle.adx_units.specs.Number.{begins_with}
 use Rattle.adx_json.specs.Reading.{is_bare}
 use Rattle.adx_json.specs.Spelling.{hex_digit, control_escape, escape, text_spelling}
 use Rattle.adx_json.proofs.Runs.{bare_text}
-use Rattle.line_parts.specs.Parts.{◌>>=◌, behind_byte, part}
-use Rattle.line_parts.proofs.Laws.{bind_some, tested_some, byte_takes}
+use Rattle.formats.specs.Parts.{◌>>=◌, behind_byte, part}
+use Rattle.formats.proofs.PartLaws.{bind_some, tested_some, byte_takes}
 use Rattle.bid_record.specs.Records.{IsName}
 use Rattle.bid_record.specs.Texts.{Fails, hex_value, is_nameless, control_of, marked, two_digits_at, control_at, escaped_at, spelled_at, body_at, is_name, named_of, name_body_at, name_at}
 

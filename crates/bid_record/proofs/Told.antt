@@ -9,10 +9,10 @@ use Rattle.std.proofs.lemmas.Slice.Eq.{bytes_eq-Decides}
 use Rattle.std.proofs.lemmas.List.Concat.{flat_map-cons}
 use Rattle.std.proofs.lemmas.List.Elements.{All-nil}
 use Rattle.adx_json.specs.Spelling.{escape, text_spelling}
-use Rattle.line_parts.specs.Parts.{part, behind_word, IsOneLine}
-use Rattle.line_parts.proofs.Documents.{IsEnd}
-use Rattle.line_parts.proofs.Laws.{word_again}
-use Rattle.line_parts.proofs.OneLines.{is_fine, one_line, one_line_join, one_line_after, one_line_part, one_line_decimal}
+use Rattle.formats.specs.Parts.{part, behind_word, IsOneLine}
+use Rattle.formats.proofs.Following.{IsEnd}
+use Rattle.formats.proofs.PartLaws.{word_again}
+use Rattle.formats.proofs.OneLines.{is_fine, one_line, one_line_join, one_line_after, one_line_part, one_line_decimal}
 use Rattle.bid_record.specs.declared.rows.CampaignRow.{CampaignRow}
 use Rattle.bid_record.specs.declared.rows.Charge.{Charge}
 use Rattle.bid_record.specs.declared.rows.ImpName.{ImpName}
@@ -20,7 +20,8 @@ use Rattle.bid_record.specs.declared.rows.ImpRow.{ImpRow}
 use Rattle.bid_record.specs.declared.rows.End.{End}
 use Rattle.bid_record.specs.declared.rows.End.TheVariants.{Live, Billed, Lost, Expired}
 use Rattle.bid_record.specs.Lines.{changes_part, name_part, place_text, end_text, offer_part, head_line, day_line, campaign_line, imp_line, end_line}
-use Rattle.bid_record.specs.Records.{zeroed, is_day, IsCampaign}
+use Rattle.day_form.specs.Days.{zeroed, is_day}
+use Rattle.bid_record.specs.Records.{IsCampaign}
 use Rattle.bid_record.specs.Reading.{number_part_at, campaign_at, imp_at, end_line_at}
 use Rattle.bid_record.specs.Refusals.{Told, nothing, a_head, rows, all, HasPlaces, Follows, head_first, day_second, campaign_next, imp_next, end_last, IsWhole, IsOfForm, BreaksOrder, BreaksPlaces}
 use Rattle.bid_record.proofs.CampaignLines.{number_part_again, campaign_again, end_line_again, wide32}

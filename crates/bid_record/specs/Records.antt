@@ -1,20 +1,12 @@
 -- What a day's record says: ranges, places, and which parts stand in which format. This project's own.
-use Rattle.std.specs.Prelude.{◌≡◌, ℕ, ◌^◌, ◌<◌, ◌≤◌, List, length, map, codes, All, AllPairs, Bool, ◌==◌, ◌||◌, IsTrue, is_some, if◌then◌else◌}
+use Rattle.std.specs.Prelude.{◌≡◌, ℕ, ◌^◌, ◌<◌, ◌≤◌, List, length, All, AllPairs, ◌==◌, ◌||◌, IsTrue, is_some}
 use Rattle.std.specs.Option.{ForSome}
-use Rattle.std.specs.Str.{is_utf8, bytes_eq}
-use Rattle.adx_units.specs.Number.{is_digit}
+use Rattle.std.specs.Str.{is_utf8}
+use Rattle.day_form.specs.Days.{is_day}
 use Rattle.bid_record.specs.declared.rows.CampaignRow.{CampaignRow}
 use Rattle.bid_record.specs.declared.rows.Charge.{Charge}
 use Rattle.bid_record.specs.declared.rows.ImpName.{ImpName}
 use Rattle.bid_record.specs.declared.rows.ImpRow.{ImpRow}
-
--- a byte, where each digit counts as 0
-abbrev pub zeroed : ℕ → ℕ
-zeroed b = if is_digit b then 48 else b
-
--- a day: four digits, two and two, with dashes between them
-abbrev pub is_day : List ℕ → Bool
-is_day day = bytes_eq (map zeroed day) (codes "0000-00-00")
 
 -- a name of 1 to 128 bytes of UTF-8
 pub record IsName (name : List ℕ) : Type 0 where

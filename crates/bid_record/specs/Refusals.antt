@@ -1,14 +1,15 @@
 -- Which bytes are no record's document, and which line is the first that fails. This project's own.
 use Rattle.std.specs.Prelude.{◌≡◌, ◌≢◌, ℕ, ◌+◌, ◌^◌, ◌<◌, ◌≤◌, ◌⊎◌, List, [], ◌∷◌, ◌++◌, length, All, ◌==◌, ◌||◌, is_some, IsTrue, Result, Ok, Err}
 use Rattle.std.specs.Option.{ForSome}
-use Rattle.line_parts.specs.Documents.{FailsAt, IsCut}
+use Rattle.formats.specs.Following.{FailsAt, IsCut}
 use Rattle.bid_record.specs.declared.fault.RecordFault.{RecordFault}
 use Rattle.bid_record.specs.declared.fault.RecordFault.TheVariants.{Line, Order, Campaign, Cut, OutOfMemory}
 use Rattle.bid_record.specs.declared.record.Record.{Record}
 use Rattle.bid_record.specs.declared.rows.CampaignRow.{CampaignRow}
 use Rattle.bid_record.specs.declared.rows.ImpRow.{ImpRow}
 use Rattle.bid_record.specs.Lines.{head_line, day_line, campaign_line, imp_line, end_line, document}
-use Rattle.bid_record.specs.Records.{is_day, IsAmount, IsCampaign, IsImpName, Differ}
+use Rattle.day_form.specs.Days.{is_day}
+use Rattle.bid_record.specs.Records.{IsAmount, IsCampaign, IsImpName, Differ}
 
 -- what the lines so far have told
 pub data Told : Type 0 where

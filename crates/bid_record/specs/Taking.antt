@@ -3,7 +3,7 @@ use Rattle.std.specs.Prelude.{◌≡◌, ℕ, ◌+◌, ◌^◌, ◌<◌, ◌≤�
 use Rattle.std.specs.List.{list_all, list_any, flat_map}
 use Rattle.std.specs.Borrow.{Bor}
 use Rattle.std.specs.Str.{bytes_eq}
-use Rattle.line_parts.specs.Parts.{ended}
+use Rattle.formats.specs.Parts.{ended}
 use Rattle.bid_record.specs.declared.fault.Misfit.{Misfit}
 use Rattle.bid_record.specs.declared.fault.Misfit.TheVariants.{Form, Memory}
 use Rattle.bid_record.specs.declared.record.Record.{Record}
@@ -16,7 +16,8 @@ use Rattle.bid_record.specs.declared.rows.Charge.{Charge}
 use Rattle.bid_record.specs.declared.rows.ImpName.{ImpName}
 use Rattle.bid_record.specs.declared.rows.ImpRow.{ImpRow}
 use Rattle.bid_record.specs.Lines.{head_line, day_line, end_line, rows_lines, document}
-use Rattle.bid_record.specs.Records.{is_day, IsCampaign, IsImp, Differ, IsSound}
+use Rattle.day_form.specs.Days.{is_day}
+use Rattle.bid_record.specs.Records.{IsCampaign, IsImp, Differ, IsSound}
 use Rattle.bid_record.specs.Refusals.{rows, all, Follows, IsOfForm, BreaksOrder, BreaksPlaces, IsRefusal}
 use Rattle.bid_record.specs.Reading.{is_listed, has_places, charge_of, offers_at, imp_row_at, imp_at}
 use Rattle.bid_record.specs.Texts.{Fails}

@@ -2,7 +2,7 @@
 use Rattle.std.specs.Prelude.{◌≡◌, ℕ, zero, suc, ◌+◌, ◌*◌, ◌-◌, List, [], ◌∷◌, length, drop, Bool, Option, Some, None, ◌==◌, ◌||◌, ◌&&◌, not, nat_le, nat_lt, if◌then◌else◌, Result, Ok, Err}
 use Rattle.std.specs.Str.{is_utf8}
 use Rattle.adx_units.specs.Number.{begins_with}
-use Rattle.line_parts.specs.Parts.{◌>>=◌, behind_byte}
+use Rattle.formats.specs.Parts.{◌>>=◌, behind_byte}
 use Rattle.bid_record.specs.declared.fault.Misfit.{Misfit}
 use Rattle.bid_record.specs.declared.fault.Misfit.TheVariants.{Form, Memory}
 

@@ -1,16 +1,12 @@
 //! The line of a record's day.
-ghost use Rattle.std.specs.Prelude.{◌≡◌, codes};
-ghost use Rattle.bid_record.specs.Records.{zeroed as zeroed_byte, is_day as is_day_text};
 ghost use Rattle.bid_record.specs.Taking.{IsDayOf};
 
 use crate::fault::Misfit;
 use adx_units::Text;
-use line_parts::behind;
+use day_form::is_day;
+use formats::behind;
 use std::alloc::Global;
 use std::str;
-
-/// The shape of a day, with 0 for each digit.
-const SHAPE: &[u8; 10] = b"0000-00-00";
 
 /// The day that a line says.
 pub(crate) fn day_of(alloc: Global, line: &[u8]) -> Result<Text, Misfit>
@@ -28,31 +24,5 @@ pub(crate) fn day_of(alloc: Global, line: &[u8]) -> Result<Text, Misfit>
     match Text::of(alloc, text) {
         Ok(text) => Ok(text),
         Err(_) => Err(Misfit::Memory),
-    }
-}
-
-/// Whether bytes are four digits, two and two, with dashes between them.
-fn is_day(day: &[u8]) -> bool
-    ensures { result ≡ is_day_text day.now }
-{
-    if day.len() != SHAPE.len() {
-        return false;
-    }
-    for (i, byte) in day.iter().enumerate() {
-        if zeroed(*byte) != SHAPE[i] {
-            return false;
-        }
-    }
-    true
-}
-
-/// The byte, or 0 for a digit.
-fn zeroed(byte: u8) -> u8
-    ensures { result ≡ zeroed_byte byte }
-{
-    if byte >= b'0' && byte <= b'9' {
-        b'0'
-    } else {
-        byte
     }
 }

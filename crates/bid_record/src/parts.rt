@@ -1,10 +1,10 @@
 //! The parts of a record's lines that want no memory.
 ghost use Rattle.std.specs.Prelude.{◌≡◌, ◌<◌, ◌≤◌, ◌^◌, length, Some};
-ghost use Rattle.line_parts.specs.Parts.{Finds};
+ghost use Rattle.formats.specs.Parts.{Finds};
 ghost use Rattle.bid_record.specs.Reading.{number_part_at, amount_at, changes_at, end_at, chosen_at, ending_at, charge_of, offer_at, end_line_at};
 
 use crate::rows::End;
-use line_parts::{behind, byte_behind, is_done, number};
+use formats::{behind, byte_behind, is_done, number};
 
 /// The largest budget, in units.
 pub(crate) const BUDGET_LIMIT: u64 = 1_000_000_000_000_000;

@@ -1,6 +1,6 @@
 //! Reads a record.
 ghost use Rattle.std.specs.Prelude.{◌≡◌, ◌↔◌, ◌++◌, ◌∷◌, [], codes, ◌||◌, ◌==◌, List, ℕ, IfOk, IfErr, IsTrue, drop};
-ghost use Rattle.line_parts.specs.Parts.{ended};
+ghost use Rattle.formats.specs.Parts.{ended};
 ghost use Rattle.bid_record.specs.declared.record.Record.{Record};
 ghost use Rattle.bid_record.specs.Lines.{head_line, day_line, document};
 ghost use Rattle.std.specs.List.{flat_map};
@@ -12,7 +12,7 @@ use crate::fault::{Misfit, RecordFault};
 use crate::record::Record;
 use crate::take::{Rows, take_line};
 use adx_units::{Sequence, Text};
-use line_parts::first_line;
+use formats::first_line;
 use std::alloc::Global;
 
 /// The record whose document stands at the front of these bytes, and the number of that document's

@@ -10,7 +10,7 @@ use crate::parts::{BUDGET_LIMIT, amount, changes, ending_part, number_part};
 use crate::rows::{CampaignRow, ImpName, ImpRow};
 use crate::text::name_part;
 use adx_units::{Sequence, Units};
-use line_parts::{behind, is_done};
+use formats::{behind, is_done};
 use std::alloc::Global;
 
 /// An impression's line: its index, and its row where all its places are there.

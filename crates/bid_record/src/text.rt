@@ -2,12 +2,12 @@
 ghost use Rattle.std.specs.Prelude.{◌≡◌, ◌++◌, ◌∷◌, IsTrue, length};
 ghost use Rattle.std.specs.List.{list_all, prefix_len};
 ghost use Rattle.adx_json.specs.Reading.{is_bare as is_bare_byte, Stops};
-ghost use Rattle.line_parts.specs.Parts.{Finds};
+ghost use Rattle.formats.specs.Parts.{Finds};
 ghost use Rattle.bid_record.specs.Texts.{Gives, hex_value as hex_value_of, is_nameless as is_nameless_byte, control_of, marked as marked_byte, two_digits_at, control_at, escaped_at, spelled_at, body_at, named_of, name_body_at, name_at};
 
 use crate::fault::Misfit;
 use adx_units::Id;
-use line_parts::byte_behind;
+use formats::byte_behind;
 use std::alloc::Global;
 use std::str;
 

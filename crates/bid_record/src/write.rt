@@ -3,14 +3,14 @@ ghost use Rattle.std.specs.Prelude.{◌≡◌, ℕ, ◌++◌, ◌∷◌, ◌<◌
 ghost use Rattle.std.specs.List.{flat_map, enumerate_from};
 ghost use Rattle.std.specs.Fmt.{decimal};
 ghost use Rattle.adx_json.specs.Spelling.{text_spelling};
-ghost use Rattle.line_parts.specs.Parts.{ended, part};
+ghost use Rattle.formats.specs.Parts.{ended, part};
 ghost use Rattle.bid_record.specs.Lines.{changes_part, name_part, place_text, end_text, offer_part, head_line, day_line, campaign_line, imp_line, end_line, document};
 
 use crate::record::Record;
 use crate::rows::{CampaignRow, Charge, End, ImpName, ImpRow};
 use adx_json::push_text;
 use adx_units::{Id, OutOfMemory, Text};
-use line_parts::{push_number, push_part};
+use formats::{push_number, push_part};
 use std::alloc::Global;
 
 /// The document of the record: its lines, each with a newline.

@@ -5,11 +5,11 @@ use Rattle.std.specs.Fmt.{decimal}
 use Rattle.std.specs.Prelude.{IfOk, IfErr}
 use Rattle.std.proofs.lemmas.Option.{same_Some}
 use Rattle.std.proofs.lemmas.List.Elements.{All-nil, All-head, All-tail, All-push}
-use Rattle.line_parts.specs.Parts.{ended, part, IsOneLine}
-use Rattle.line_parts.specs.Documents.{Leads, no_line, line_then, FailsAt, IsCut}
-use Rattle.line_parts.proofs.Documents.{IsEnd, leads_join, leads_more, no_fault, no_cut, one_document, pushed, cut_there}
-use Rattle.line_parts.proofs.Numbered.{numbered_push}
-use Rattle.line_parts.proofs.OneLines.{one_line, one_line_join, one_line_part, one_line_decimal}
+use Rattle.formats.specs.Parts.{ended, part, IsOneLine}
+use Rattle.formats.specs.Following.{Leads, no_line, line_then, FailsAt, IsCut}
+use Rattle.formats.proofs.Following.{IsEnd, leads_join, leads_more, no_fault, no_cut, one_document, pushed, cut_there}
+use Rattle.formats.proofs.NumberedLines.{numbered_push}
+use Rattle.formats.proofs.OneLines.{one_line, one_line_join, one_line_part, one_line_decimal}
 use Rattle.dual_cert.specs.declared.cert.Cert.{Cert}
 use Rattle.dual_cert.specs.declared.fault.CertFault.{CertFault}
 use Rattle.dual_cert.specs.declared.fault.CertFault.TheVariants.{Line, Cut, OutOfMemory}

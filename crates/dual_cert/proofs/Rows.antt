@@ -5,9 +5,9 @@ use Rattle.std.specs.Fmt.{decimal}
 use Rattle.std.proofs.lemmas.Bool.{eqb-true}
 use Rattle.std.proofs.lemmas.List.{nil_from_length}
 use Rattle.std.proofs.lemmas.Option.{none-some, same_Some}
-use Rattle.line_parts.specs.Parts.{◌>>=◌, behind_word, behind_byte, none_left, number_at, part}
-use Rattle.line_parts.proofs.Laws.{bind_some, word_takes, word_again, byte_takes, none_left_is, number_takes, number_again}
-use Rattle.line_parts.proofs.Options.{map_none, map_some, behind_none, or_some}
+use Rattle.formats.specs.Parts.{◌>>=◌, behind_word, behind_byte, none_left, number_at, part}
+use Rattle.formats.proofs.PartLaws.{bind_some, word_takes, word_again, byte_takes, none_left_is, number_takes, number_again}
+use Rattle.formats.proofs.Options.{map_none, map_some, behind_none, or_some}
 use Rattle.dual_cert.specs.declared.row.Row.{Row}
 use Rattle.dual_cert.specs.declared.row.Row.TheVariants.{Alpha, Beta, Bound}
 use Rattle.dual_cert.specs.Lines.{bound_line}

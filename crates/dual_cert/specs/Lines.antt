@@ -2,7 +2,7 @@
 use Rattle.std.specs.Prelude.{ℕ, List, [], ◌∷◌, ◌++◌, map, codes}
 use Rattle.std.specs.List.{flat_map, enumerate_from}
 use Rattle.std.specs.Fmt.{decimal}
-use Rattle.line_parts.specs.Parts.{ended, part}
+use Rattle.formats.specs.Parts.{ended, part}
 use Rattle.dual_cert.specs.declared.cert.Cert.{Cert}
 
 abbrev pub head_line : List ℕ

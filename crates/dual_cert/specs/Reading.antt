@@ -2,7 +2,7 @@
 use Rattle.std.specs.Prelude.{ℕ, ◌+◌, ◌^◌, List, [], ◌∷◌, ◌++◌, codes, Option, Some, None, option_map, ◌==◌, if◌then◌else◌}
 use Rattle.std.specs.Option.{option_or}
 use Rattle.std.specs.Fmt.{decimal}
-use Rattle.line_parts.specs.Parts.{◌>>=◌, behind_word, behind_byte, none_left, number_at}
+use Rattle.formats.specs.Parts.{◌>>=◌, behind_word, behind_byte, none_left, number_at}
 use Rattle.dual_cert.specs.declared.row.Row.{Row}
 use Rattle.dual_cert.specs.declared.row.Row.TheVariants.{Alpha, Beta, Bound}
 use Rattle.dual_cert.specs.Refusals.{Told, rows, all}

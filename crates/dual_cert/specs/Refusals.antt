@@ -1,8 +1,8 @@
 -- Which bytes are no certificate's document, and which line is the first that fails. This project's own.
 use Rattle.std.specs.Prelude.{◌≡◌, ℕ, ◌+◌, ◌^◌, ◌<◌, ◌⊎◌, List, [], ◌∷◌, ◌++◌, length, Result, Ok, Err}
 use Rattle.std.specs.List.{flat_map, All}
-use Rattle.line_parts.specs.Parts.{ended}
-use Rattle.line_parts.specs.Documents.{Leads, FailsAt, IsCut}
+use Rattle.formats.specs.Parts.{ended}
+use Rattle.formats.specs.Following.{Leads, FailsAt, IsCut}
 use Rattle.dual_cert.specs.declared.cert.Cert.{Cert}
 use Rattle.dual_cert.specs.declared.fault.CertFault.{CertFault}
 use Rattle.dual_cert.specs.declared.fault.CertFault.TheVariants.{Line, Cut, OutOfMemory}

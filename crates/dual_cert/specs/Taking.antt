@@ -2,7 +2,7 @@
 use Rattle.std.specs.Prelude.{◌≡◌, ℕ, ◌+◌, ◌^◌, ◌<◌, ◌≤◌, List, [], ◌∷◌, ◌++◌, length, Option, Some, None, Result, Ok, Err}
 use Rattle.std.specs.List.{flat_map, All}
 use Rattle.std.specs.Borrow.{Bor}
-use Rattle.line_parts.specs.Parts.{ended}
+use Rattle.formats.specs.Parts.{ended}
 use Rattle.dual_cert.specs.declared.fault.CertFault.{CertFault}
 use Rattle.dual_cert.specs.declared.fault.CertFault.TheVariants.{Line, Cut, OutOfMemory}
 use Rattle.dual_cert.specs.Lines.{head_line, bound_line, rows_lines}

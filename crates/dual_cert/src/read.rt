@@ -1,6 +1,6 @@
 //! Reads a certificate.
 ghost use Rattle.std.specs.Prelude.{◌≡◌, ◌↔◌, ◌++◌, IsTrue, IfOk, IfErr};
-ghost use Rattle.line_parts.specs.Parts.{ended};
+ghost use Rattle.formats.specs.Parts.{ended};
 ghost use Rattle.dual_cert.specs.declared.cert.Cert.{Cert};
 ghost use Rattle.dual_cert.specs.Lines.{head_line, document};
 ghost use Rattle.dual_cert.specs.Refusals.{IsRanged, GivesCert, IsRefusal};
@@ -10,7 +10,7 @@ use crate::cert::Cert;
 use crate::fault::CertFault;
 use crate::row::{Row, row_of};
 use adx_units::Sequence;
-use line_parts::first_line;
+use formats::first_line;
 use std::alloc::Global;
 
 /// The certificate whose document these bytes are, all of them.

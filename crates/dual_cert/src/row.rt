@@ -1,10 +1,10 @@
 //! The row that a line of a certificate has.
 ghost use Rattle.std.specs.Prelude.{◌≡◌};
-ghost use Rattle.line_parts.specs.Parts.{Finds};
+ghost use Rattle.formats.specs.Parts.{Finds};
 ghost use Rattle.dual_cert.specs.Reading.{indexed_at, bound_at as read_bound_at, row_at as read_row_at};
 
+use formats::{behind, byte_behind, is_done, number, wide_number};
 use itoa::Buffer;
-use line_parts::{behind, byte_behind, is_done, number, wide_number};
 
 /// A line of a certificate behind the first.
 #[derive(Clone, Copy, Debug, PartialEq, Eq)]

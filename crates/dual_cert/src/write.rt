@@ -2,13 +2,13 @@
 ghost use Rattle.std.specs.Prelude.{◌≡◌, ℕ, ◌++◌, ◌∷◌, [], List, map, IfOk, OnOk, string_bytes};
 ghost use Rattle.std.specs.List.{flat_map, enumerate_from};
 ghost use Rattle.std.specs.Fmt.{decimal};
-ghost use Rattle.line_parts.specs.Parts.{ended};
+ghost use Rattle.formats.specs.Parts.{ended};
 ghost use Rattle.dual_cert.specs.Lines.{alpha_line, beta_line, bound_line, document};
 
 use crate::cert::Cert;
 use adx_units::{OutOfMemory, Text};
+use formats::{push_number, push_part};
 use itoa::Buffer;
-use line_parts::{push_number, push_part};
 use std::alloc::Global;
 
 /// The document of the certificate: its lines, each with a newline.

@@ -32,6 +32,7 @@ AskIsSettled campaigns (Entry.Win n) = Unit {0}
 AskIsSettled campaigns (Entry.Bill n) = Unit {0}
 AskIsSettled campaigns (Entry.Loss n) = Unit {0}
 AskIsSettled campaigns (Entry.Expire now) = Unit {0}
+AskIsSettled campaigns (Entry.Budget k change budget) = Unit {0}
 
 award_parts : (imp : ℕ) (o : Offer) → is_award imp o ≡ true → (o.reason ≡ AWARDED) × (o.imp ≡ imp)
 award_parts imp o h =
@@ -74,6 +75,7 @@ entry_settled terms before (Entry.Win n) legal follows = tt
 entry_settled terms before (Entry.Bill n) legal follows = tt
 entry_settled terms before (Entry.Loss n) legal follows = tt
 entry_settled terms before (Entry.Expire now) legal follows = tt
+entry_settled terms before (Entry.Budget k change budget) legal follows = tt
 
 -- each ask of a legal history is formed, and sells each impression once at most
 pub all_settled : (terms : Terms) (history : List Entry) → IsLegal terms history → All (AskIsSettled (length terms.budgets)) history

@@ -14,7 +14,7 @@ use Rattle.day_rules.specs.Books.{award_of, awarded_offers, awards_of, left_by, 
 use Rattle.day_rules.specs.DayState.{IsDay}
 use Rattle.day_rules.specs.Legal.{IsLegal, MayFollow}
 use Rattle.day_rules.specs.Terms.{Terms}
-use Rattle.day_rules.proofs.Asking.{awards_ask}
+use Rattle.day_rules.proofs.Asking.{awards_ask, awards_budget}
 use Rattle.day_rules.proofs.Counting.{day_awards}
 use Rattle.day_rules.proofs.Histories.{legal_front, legal_last}
 use Rattle.day_rules.proofs.Pushing.{awards_moment, awards_notice}
@@ -46,6 +46,7 @@ awards_push terms history (Entry.Win n) legal follows = awards_notice history No
 awards_push terms history (Entry.Bill n) legal follows = awards_notice history NoticeKind.Bill n follows
 awards_push terms history (Entry.Loss n) legal follows = awards_notice history NoticeKind.Loss n follows
 awards_push terms history (Entry.Expire now) legal follows = awards_moment history now
+awards_push terms history (Entry.Budget k change budget) legal follows = awards_budget history k change budget
 
 -- the awards of the first entries, one entry more
 
@@ -122,6 +123,7 @@ entry_fits terms history (Entry.Win n) day follows = follows
 entry_fits terms history (Entry.Bill n) day follows = follows
 entry_fits terms history (Entry.Loss n) day follows = follows
 entry_fits terms history (Entry.Expire now) day follows = tt
+entry_fits terms history (Entry.Budget k change budget) day follows = tt
 
 -- what an award charges, and whom
 abbrev pub award_charge : Award → Charge
@@ -140,6 +142,7 @@ charges_by (Entry.Win n) = []
 charges_by (Entry.Bill n) = []
 charges_by (Entry.Loss n) = []
 charges_by (Entry.Expire now) = []
+charges_by (Entry.Budget k change budget) = []
 
 abbrev pub charges_in : List Entry → List Charge
 charges_in es = flat_map charges_by es
@@ -160,6 +163,7 @@ made_charges campaigns place (Entry.Win n) s = refl
 made_charges campaigns place (Entry.Bill n) s = refl
 made_charges campaigns place (Entry.Loss n) s = refl
 made_charges campaigns place (Entry.Expire now) s = refl
+made_charges campaigns place (Entry.Budget k change budget) s = refl
 
 all_made : (campaigns place : ℕ) (es : List Entry) → All (AskIsSettled campaigns) es → map award_charge (flat_map (λ (p : ℕ × Entry). made_by p.0 p.1) (enumerate_from place es)) ≡ charges_in es
 all_made campaigns place [] s = refl
@@ -199,6 +203,7 @@ entry_long (Entry.Win n) = refl
 entry_long (Entry.Bill n) = refl
 entry_long (Entry.Loss n) = refl
 entry_long (Entry.Expire now) = refl
+entry_long (Entry.Budget k change budget) = refl
 
 pub sold_in_long : (es : List Entry) → sold_in es ≡ length (charges_in es)
 sold_in_long [] = refl

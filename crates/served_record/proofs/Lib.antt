@@ -3,5 +3,12 @@ pub mod Asked
 pub mod Awards
 pub mod RowLists
 pub mod Told
-pub mod Openings
+pub mod Campaigns
+pub mod Headings
 pub mod Whole
+pub mod FirstPlaces
+pub mod RowsFrom
+pub mod KeptAwards
+pub mod Selections
+pub mod ByRule
+pub mod OneRecord

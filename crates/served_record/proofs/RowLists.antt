@@ -41,6 +41,7 @@ mapped_by f g awards one n (Entry.Win m) = refl
 mapped_by f g awards one n (Entry.Bill m) = refl
 mapped_by f g awards one n (Entry.Loss m) = refl
 mapped_by f g awards one n (Entry.Expire now) = refl
+mapped_by f g awards one n (Entry.Budget k change budget) = refl
 
 pub mapped : {X : Type 0} (f : ImpRow → X) (g : Ask → ℕ → X) (awards : List Award) → ((n : ℕ) (a : Ask) (imp : ℕ) → f (row_by awards n a imp) ≡ g a imp) → (n : ℕ) (es : List Entry) → map f (rows_in awards n es) ≡ each_in g es
 mapped f g awards one n [] = refl
@@ -128,6 +129,7 @@ filled_by campaigns awards n (Entry.Win m) s = All-nil (IsFilled campaigns)
 filled_by campaigns awards n (Entry.Bill m) s = All-nil (IsFilled campaigns)
 filled_by campaigns awards n (Entry.Loss m) s = All-nil (IsFilled campaigns)
 filled_by campaigns awards n (Entry.Expire now) s = All-nil (IsFilled campaigns)
+filled_by campaigns awards n (Entry.Budget k change budget) s = All-nil (IsFilled campaigns)
 
 pub all_filled : (campaigns : ℕ) (awards : List Award) (n : ℕ) (es : List Entry) → All (AskIsSettled campaigns) es → All (IsFilled campaigns) (rows_in awards n es)
 all_filled campaigns awards n [] s = All-nil (IsFilled campaigns)
@@ -152,6 +154,7 @@ few_by campaigns awards n (Entry.Win m) s = omega arith
 few_by campaigns awards n (Entry.Bill m) s = omega arith
 few_by campaigns awards n (Entry.Loss m) s = omega arith
 few_by campaigns awards n (Entry.Expire now) s = omega arith
+few_by campaigns awards n (Entry.Budget k change budget) s = omega arith
 
 pub few_rows : (campaigns : ℕ) (awards : List Award) (n : ℕ) (es : List Entry) → All (AskIsSettled campaigns) es → length (rows_in awards n es) ≤ 16 * ask_count es
 few_rows campaigns awards n [] s = omega arith
@@ -257,6 +260,7 @@ told_by awards n (Entry.Win m) mine h at = none_left mine h
 told_by awards n (Entry.Bill m) mine h at = none_left mine h
 told_by awards n (Entry.Loss m) mine h at = none_left mine h
 told_by awards n (Entry.Expire now) mine h at = none_left mine h
+told_by awards n (Entry.Budget k change budget) mine h at = none_left mine h
 
 -- the rows of entries, beside the awards that they tell
 pub told_in : (awards : List Award) (n : ℕ) (es : List Entry) (mine : List Award) → map award_charge mine ≡ charges_in es → At awards n mine → Told (rows_in awards n es) mine

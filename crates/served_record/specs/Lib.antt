@@ -1,3 +1,3 @@
-pub mod Opened
+pub mod Days
 pub mod Served
 pub mod Steps

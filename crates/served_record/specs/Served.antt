@@ -5,6 +5,7 @@ use Rattle.std.specs.Prelude.{◌≡◌, ℕ, min, List, [], map, length, filter
 use Rattle.std.specs.List.{enumerate_from, flat_map, range_with_len, sum_by}
 use Rattle.std.specs.Option.{option_map_or}
 use Rattle.adx_units.specs.declared.offer.Offer.{Offer}
+use Rattle.deal_floor.specs.declared.campaign.Campaign.{Campaign}
 use Rattle.allocator_core.specs.declared.reason.TheConstants.{AWARDED}
 use Rattle.notice_book.specs.declared.award.End.{End as AwardEnd}
 use Rattle.day_rules.specs.declared.ask.Ask.{Ask}
@@ -21,6 +22,7 @@ use Rattle.bid_record.specs.declared.rows.ImpName.{ImpName}
 use Rattle.bid_record.specs.declared.rows.ImpRow.{ImpRow}
 use Rattle.hindsight.specs.Assignments.{Assignment, Impression, assigned, impressions}
 use Rattle.day_close.specs.Closing.{money_in}
+use Rattle.served_record.specs.Days.{campaign_rows}
 
 -- the offer was admitted for that impression: it was awarded, it lost to another, or its budget didn't hold it
 abbrev pub is_admitted : ℕ → Offer → Bool
@@ -75,11 +77,12 @@ has_chosen row = is_some row.chosen
 abbrev pub ends_of : List ImpRow → List (Option End)
 ends_of rows = map (λ (row : ImpRow). row.end) (filter has_chosen rows)
 
--- the record is that of a day with these campaigns and this history
-pub record IsRecordOf (day : List ℕ) (campaigns : List CampaignRow) (history : List Entry) (r : Record) : Type 0 where
+-- the record is that of a day with these campaigns of a roster and this history
+pub record IsRecordOf (day : List ℕ) (campaigns : List Campaign) (history : List Entry) (r : Record) : Type 0 where
   pub format : r.format ≡ 2
   pub day_is : r.day ≡ day
-  pub campaigns_are : r.campaigns ≡ campaigns
+  -- with the budgets at the end of the history, and how often each changed
+  pub campaigns_are : r.campaigns ≡ campaign_rows campaigns history
   pub names : map (λ (row : ImpRow). row.name) r.imps ≡ each_in name_of history
   pub impressions_are : impressions r ≡ impressions_in history
   pub chosen : map (λ (row : ImpRow). row.chosen) r.imps ≡ each_in chosen_of history
@@ -88,7 +91,7 @@ pub record IsRecordOf (day : List ℕ) (campaigns : List CampaignRow) (history :
   -- what the awards of the record take from a campaign is its committed money
   pub money : (campaign : ℕ) → money_in r.imps campaign ≡ committed history campaign
 
--- what an assignment of a history's impressions earns: for each campaign the lesser of its budget and its charges
-abbrev pub earned_in : Assignment → List CampaignRow → List Entry → ℕ
+-- what an assignment of a history's impressions earns: for each campaign the lesser of its budget at the end and its charges
+abbrev pub earned_in : Assignment → List Campaign → List Entry → ℕ
 earned_in picks campaigns history =
-    sum_by (λ (p : ℕ × CampaignRow). min p.1.budget.0 (assigned picks (impressions_in history) p.0)) (enumerate_from 0 campaigns)
+    sum_by (λ (p : ℕ × CampaignRow). min p.1.budget.0 (assigned picks (impressions_in history) p.0)) (enumerate_from 0 (campaign_rows campaigns history))

@@ -1,8 +1,13 @@
--- Private, cited by helpers alone: the rows of a record one after another, and the awards of a history entry by entry.
-use Rattle.std.specs.Prelude.{ℕ, ◌+◌, ◌≤◌, ◌<◌, ◌^◌, List, [], ◌∷◌, ◌++◌, length, find, Bool, ◌&&◌, ◌==◌, if◌then◌else◌, Option, is_some, option_map, option_and_then, slice_get}
+-- Private, cited by helpers alone: the rows of a record one after another, and the awards and campaigns of a history entry
+-- by entry.
+use Rattle.std.specs.Prelude.{ℕ, ◌+◌, ◌≤◌, ◌<◌, ◌^◌, List, [], ◌∷◌, ◌++◌, length, find, map, All, Some, Bool, ◌&&◌, ◌==◌, if◌then◌else◌, Option, is_some, option_map, option_and_then, slice_get}
 use Rattle.std.specs.Option.{ForSome}
 use Rattle.std.specs.List.{cons_option, flat_map, range_with_len, sum_by}
+use Rattle.adx_units.specs.Changed.{changed_at}
 use Rattle.adx_units.specs.declared.offer.Offer.{Offer}
+use Rattle.adx_units.specs.declared.units.Units.{Units}
+use Rattle.campaign_book.specs.Accounts.{IsBudget}
+use Rattle.deal_floor.specs.declared.campaign.Campaign.{Campaign}
 use Rattle.allocator_core.specs.declared.reason.TheConstants.{AWARDED}
 use Rattle.notice_book.specs.AwardList.{Counts, expired_by, noticed}
 use Rattle.notice_book.specs.declared.award.Award.{Award}
@@ -12,6 +17,7 @@ use Rattle.day_rules.specs.declared.entry.Entry.{Entry}
 use Rattle.day_rules.specs.Books.{award_of, sale_of}
 use Rattle.day_rules.specs.Entries.{asked}
 use Rattle.bid_record.specs.Records.{IsImpName}
+use Rattle.bid_record.specs.declared.rows.CampaignRow.{CampaignRow}
 use Rattle.bid_record.specs.declared.rows.End.{End}
 use Rattle.bid_record.specs.declared.rows.ImpRow.{ImpRow}
 use Rattle.served_record.specs.Served.{chosen_of, end_told, impression_of, name_of}
@@ -52,6 +58,7 @@ sold_by (Entry.Win n) = 0
 sold_by (Entry.Bill n) = 0
 sold_by (Entry.Loss n) = 0
 sold_by (Entry.Expire now) = 0
+sold_by (Entry.Budget campaign change budget) = 0
 
 abbrev pub rows_by : List Award → ℕ → Entry → List ImpRow
 rows_by awards n (Entry.Ask a) = rows_for awards n a (imps_of a)
@@ -59,6 +66,7 @@ rows_by awards n (Entry.Win m) = []
 rows_by awards n (Entry.Bill m) = []
 rows_by awards n (Entry.Loss m) = []
 rows_by awards n (Entry.Expire now) = []
+rows_by awards n (Entry.Budget campaign change budget) = []
 
 -- the rows of entries, whose first chosen offer is award n
 abbrev pub rows_in : List Award → ℕ → List Entry → List ImpRow
@@ -94,6 +102,7 @@ awards_after place (Entry.Win n) awards = noticed NoticeKind.Win n awards
 awards_after place (Entry.Bill n) awards = noticed NoticeKind.Bill n awards
 awards_after place (Entry.Loss n) awards = noticed NoticeKind.Loss n awards
 awards_after place (Entry.Expire now) awards = expired_by now awards
+awards_after place (Entry.Budget campaign change budget) awards = awards
 
 -- the ask's moment and numbers fit
 pub record AskFits (awards : List Award) (a : Ask) : Type 0 where
@@ -107,3 +116,43 @@ Fits awards (Entry.Win n) = Counts NoticeKind.Win n awards
 Fits awards (Entry.Bill n) = Counts NoticeKind.Bill n awards
 Fits awards (Entry.Loss n) = Counts NoticeKind.Loss n awards
 Fits awards (Entry.Expire now) = Unit {0}
+Fits awards (Entry.Budget campaign change budget) = Unit {0}
+
+-- a campaign of a roster before any change
+abbrev pub opened_row : Campaign → CampaignRow
+opened_row c = record { seat = c.seat; cid = c.cid; budget = c.budget; changes = Some 0 }
+
+abbrev pub opened_rows : List Campaign → List CampaignRow
+opened_rows campaigns = map opened_row campaigns
+
+-- a campaign behind a change of its budget
+abbrev pub rebudgeted : Units → CampaignRow → CampaignRow
+rebudgeted budget row = record row { budget = budget; changes = option_map (λ n. n + 1) row.changes }
+
+-- the campaigns behind an entry
+abbrev pub rows_after : Entry → List CampaignRow → List CampaignRow
+rows_after (Entry.Ask a) rows = rows
+rows_after (Entry.Win n) rows = rows
+rows_after (Entry.Bill n) rows = rows
+rows_after (Entry.Loss n) rows = rows
+rows_after (Entry.Expire now) rows = rows
+rows_after (Entry.Budget campaign change budget) rows = changed_at (rebudgeted budget) campaign rows
+
+-- there is room in the count for one change more
+abbrev pub MayChange : CampaignRow → Type 0
+MayChange row = ForSome row.changes (λ n. n + 1 < 2 ^ 32)
+
+-- a change may come behind these campaigns
+pub record IsChange (rows : List CampaignRow) (campaign : ℕ) (budget : Units) : Type 0 where
+  pub known : campaign < length rows
+  pub budget_is : IsBudget budget
+  pub few : All MayChange rows
+
+-- the entry may come behind these campaigns
+abbrev pub MayCome : List CampaignRow → Entry → Type 0
+MayCome rows (Entry.Ask a) = Unit {0}
+MayCome rows (Entry.Win n) = Unit {0}
+MayCome rows (Entry.Bill n) = Unit {0}
+MayCome rows (Entry.Loss n) = Unit {0}
+MayCome rows (Entry.Expire now) = Unit {0}
+MayCome rows (Entry.Budget campaign change budget) = IsChange rows campaign budget

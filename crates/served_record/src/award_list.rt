@@ -3,7 +3,7 @@ ghost use Rattle.std.specs.Prelude.{◌≡◌, ◌+◌, ◌<◌, ◌≤◌, ◌^
 ghost use Rattle.std.specs.List.{cons_option};
 ghost use Rattle.notice_book.specs.AwardList.{expired_at, expired_by, first_due};
 ghost use Rattle.day_rules.specs.Books.{awards_of};
-ghost use Rattle.served_record.specs.Opened.{IsServed};
+ghost use Rattle.served_record.specs.Days.{IsServed};
 ghost use Rattle.served_record.specs.Steps.{AskFits, Fits, award_for as award_of_imp, awards_after, awards_for, imps_of, is_award as is_award_for};
 
 use adx_units::{Offer, OutOfMemory};
@@ -47,6 +47,7 @@ fn add(awards: &mut Awards, place: u32, entry: &Entry) -> Result<(), OutOfMemory
             expire(awards, *now);
             Ok(())
         }
+        Entry::Budget { .. } => Ok(()),
     }
 }
 

@@ -1,8 +1,10 @@
 //! A day that was served, as an auditor gets it.
-ghost use Rattle.std.specs.Prelude.{◌≡◌, ◌≤◌, IfOk};
+ghost use Rattle.std.specs.Prelude.{◌≡◌, ◌≤◌, IfOk, IsTrue};
 ghost use Rattle.hindsight.specs.Assignments.{Assignment};
-ghost use Rattle.day_close.specs.Closing.{IsClosing};
-ghost use Rattle.served_record.specs.Opened.{IsHistoryOf, campaign_rows};
+ghost use Rattle.hindsight.specs.Certificates.{IsCertificate};
+ghost use Rattle.day_close.specs.Choosing.{IsChosenByRule, is_undisturbed};
+ghost use Rattle.day_close.specs.Closing.{IsClosing, IsWithinBudgets};
+ghost use Rattle.served_record.specs.Days.{IsHistoryOf};
 ghost use Rattle.served_record.specs.Served.{IsRecordOf, earned_in};
 
 use crate::served::record_of;
@@ -28,13 +30,19 @@ pub fn close_day(
     entries: &[Entry],
 ) -> Result<ClosedDay, OutOfMemory>
     // The entries are a legal history of the roster.
-    requires { IsHistoryOf (campaign_rows roster.now.campaigns) entries.now }
+    requires { IsHistoryOf roster.now.campaigns entries.now }
     // The record is that of the history.
-    ensures served { IfOk result (λ d. IsRecordOf roster.entry.now.day (campaign_rows roster.entry.now.campaigns) entries.now d.record) }
+    ensures served { IfOk result (λ d. IsRecordOf roster.entry.now.day roster.entry.now.campaigns entries.now d.record) }
     // The certificate is the closer's of that record.
     ensures closing { IfOk result (λ d. IsClosing d.record d.cert) }
+    // So a checker accepts it.
+    ensures certificate { IfOk result (λ d. IsCertificate d.record d.cert) }
+    // The money of the record's billed and open awards is within each budget.
+    ensures within { IfOk result (λ d. IsWithinBudgets d.record) }
+    // Where no award was lost or expired and no budget changed, each impression went to the rule's choice.
+    ensures chosen { IfOk result (λ d. IsTrue (is_undisturbed d.record) → IsChosenByRule d.record) }
     // No assignment of the history's impressions earns more than its bound.
-    ensures hindsight { IfOk result (λ d. (picks : Assignment) → earned_in picks (campaign_rows roster.entry.now.campaigns) entries.now ≤ d.cert.bound) }
+    ensures hindsight { IfOk result (λ d. (picks : Assignment) → earned_in picks roster.entry.now.campaigns entries.now ≤ d.cert.bound) }
 {
     let record = record_of(alloc, roster, entries)?;
     let cert = close(alloc, &record)?;

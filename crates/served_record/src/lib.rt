@@ -3,18 +3,18 @@
 //! `record_of` gives the record of a legal history: its impressions with all that was admitted for
 //! them, the chosen offers, and how the award of each ended. `close_day` gives the certificate
 //! beside it, whose bound no assignment of the day's impressions passes.
-//! Stands on `deal_floor`, `day_rules`, `notice_book`, `bid_record` and `day_close`; what checks documents never
+//! Stands on `deal_floor`, `day_rules`, `notice_book`, `bid_record`, `day_form` and `day_close`; what checks documents never
 //! stands on it.
 #![tactic(auto)]
 
 mod award_list;
 mod closed;
 mod copies;
-mod opened;
+mod heading;
+mod law;
 mod rows;
 mod served;
-#[cfg(test)]
-mod tests;
 
 pub use closed::{ClosedDay, close_day};
+pub use law::one_record;
 pub use served::record_of;

@@ -54,9 +54,11 @@ fn add(alloc: Global, rows: &mut Rows, entry: &Entry, awards: &Awards) -> Result
 {
     match entry {
         Entry::Ask(ask) => add_ask(alloc, rows, ask, awards),
-        Entry::Win { .. } | Entry::Bill { .. } | Entry::Loss { .. } | Entry::Expire { .. } => Ok(
-            (),
-        ),
+        Entry::Win { .. }
+        | Entry::Bill { .. }
+        | Entry::Loss { .. }
+        | Entry::Expire { .. }
+        | Entry::Budget { .. } => Ok(()),
     }
 }
 

@@ -3,9 +3,9 @@ use Rattle.std.specs.List.{flat_map, enumerate_from}
 use Rattle.std.specs.String.{string_bytes}
 use Rattle.adx_units.specs.Money.{units}
 use Rattle.bid_record.specs.declared.rows.CampaignRow.{CampaignRow}
-use Rattle.line_parts.specs.Parts.{ended}
+use Rattle.formats.specs.Parts.{ended}
 use Rattle.bid_record.specs.Lines.{campaign_line}
-use Rattle.line_parts.proofs.Numbered.{numbered_more, numbered_all, joined, at_default}
+use Rattle.formats.proofs.NumberedLines.{numbered_more, numbered_all, joined, at_default}
 use Rattle.bid_record.proofs.write.push_campaigns.Goals as goal
 
 no_row : CampaignRow

@@ -1,7 +1,7 @@
 use Rattle.std.proofs.Common.{◌≡◌, ◌++◌, take, map}
 use Rattle.std.specs.String.{string_bytes}
 use Rattle.std.specs.List.{flat_map, enumerate_from}
-use Rattle.line_parts.specs.Parts.{ended}
+use Rattle.formats.specs.Parts.{ended}
 use Rattle.bid_record.specs.Lines.{campaign_line}
 use Rattle.bid_record.proofs.write.push_campaigns.Given as goal
 

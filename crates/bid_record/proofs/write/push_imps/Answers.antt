@@ -2,9 +2,9 @@ use Rattle.std.proofs.Common.{ℕ, ◌+◌, ◌++◌, List, [], map, take, get_o
 use Rattle.std.specs.List.{flat_map, enumerate_from}
 use Rattle.std.specs.String.{string_bytes}
 use Rattle.bid_record.specs.declared.rows.ImpRow.{ImpRow}
-use Rattle.line_parts.specs.Parts.{ended}
+use Rattle.formats.specs.Parts.{ended}
 use Rattle.bid_record.specs.Lines.{imp_line}
-use Rattle.line_parts.proofs.Numbered.{numbered_more, numbered_all, joined, at_default}
+use Rattle.formats.proofs.NumberedLines.{numbered_more, numbered_all, joined, at_default}
 use Rattle.bid_record.proofs.write.push_imps.Goals as goal
 
 no_row : ImpRow

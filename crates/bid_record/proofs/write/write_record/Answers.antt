@@ -1,7 +1,7 @@
 use Rattle.std.proofs.Common.{◌≡◌, ℕ, ◌++◌, List, [], length, map, ◌∙◌, rules}
 use Rattle.std.specs.List.{flat_map, enumerate_from}
 use Rattle.std.specs.String.{string_bytes}
-use Rattle.line_parts.specs.Parts.{ended}
+use Rattle.formats.specs.Parts.{ended}
 use Rattle.bid_record.specs.Lines.{head_line, day_line, campaign_line, imp_line, end_line}
 use Rattle.bid_record.proofs.Pieces.{pieces_joined, five}
 use Rattle.bid_record.proofs.write.write_record.Goals as goal

@@ -1,9 +1,9 @@
 use Rattle.std.proofs.Common.{ℕ, ◌+◌, ◌++◌, List, map, take, get_or, ap, ◌∙◌}
 use Rattle.std.specs.List.{flat_map, enumerate_from}
 use Rattle.std.specs.String.{string_bytes}
-use Rattle.line_parts.specs.Parts.{ended}
+use Rattle.formats.specs.Parts.{ended}
 use Rattle.dual_cert.specs.Lines.{alpha_line}
-use Rattle.line_parts.proofs.Numbered.{numbered_more, numbered_all, joined}
+use Rattle.formats.proofs.NumberedLines.{numbered_more, numbered_all, joined}
 use Rattle.dual_cert.proofs.write.push_alphas.Goals as goal
 
 pub loop-i-preserved : goal.loop-i-preserved

@@ -1,7 +1,7 @@
 use Rattle.std.proofs.Common.{◌≡◌, ◌++◌, take, map}
 use Rattle.std.specs.List.{flat_map, enumerate_from}
 use Rattle.std.specs.String.{string_bytes}
-use Rattle.line_parts.specs.Parts.{ended}
+use Rattle.formats.specs.Parts.{ended}
 use Rattle.dual_cert.specs.Lines.{beta_line}
 use Rattle.dual_cert.proofs.write.push_betas.Given as goal
 
