@@ -2,12 +2,14 @@
 use Rattle.std.proofs.Common.{◌≡◌, ◌≢◌, ℕ, suc, ◌+◌, ◌*◌, ◌<◌, ◌≤◌, ◌^◌, List, [], ◌∷◌, ◌++◌, length, Bool, true, false, ◌==◌, nat_lt, max, All, Option, Some, None, IfSome, slice_get, if◌then◌else◌, refl, sym, ap, ◌∙◌, subst, arith, length-append, append_assoc}
 use Rattle.std.specs.List.{flat_map, sum_by}
 use Rattle.std.proofs.lemmas.List.Elements.{All-nil, All-cons, All-head, All-tail}
-use Rattle.notice_batches.specs.Held.{held, record_size}
+use Rattle.notice_batches.specs.Held.{longest_held, longest_record}
 use Rattle.adx_desk.specs.Histories.{DeskTerms, longest_size}
 use Rattle.notice_batches.proofs.Holding.{held_ask, held_falls}
 use Rattle.answer_lines.specs.declared.faults.Fault.{Fault}
 use Rattle.day_journal.specs.Places.{head, open_place}
-use Rattle.day_entries.specs.Spelling.{IsNoAsk}
+use Rattle.day_journal.specs.declared.start.TheConstants.{NEW_FORMAT}
+use Rattle.day_entries.specs.Entries.{IsNoticeOrMoment}
+use Rattle.day_entries.proofs.Lengths.{notice_bytes}
 use Rattle.notice_book.specs.declared.award.Award.{Award}
 use Rattle.notice_book.specs.declared.kind.NoticeKind.{NoticeKind}
 use Rattle.notice_book.specs.declared.ruling.Ruling.{Ruling}
@@ -22,9 +24,10 @@ use Rattle.day_rules.specs.Asks.{settled}
 use Rattle.day_rules.specs.Books.{awards_of, latest}
 use Rattle.day_rules.specs.Entries.{entry_of_notice}
 use Rattle.day_rules.specs.Legal.{IsLegal, MayFollow}
-use Rattle.day_rules.specs.Replies.{Call, Reply, added, answered, ask, ask_reply, ask_reply_by, asks_with, bids_with, full, is_of_auction, known_reply, notice, reply, ruled_reply, seen_in, text_with, tick, ticked, with_entry}
+use Rattle.day_rules.specs.Replies.{Call, Reply, added, answered, ask, ask_reply, ask_reply_by, asks_with, bids_with, full, is_of_auction, known_reply, notice, reply, ruled_reply, seen_in, text_with, set_budget, tick, ticked, with_entry}
 use Rattle.day_rules.specs.Runs.{AreTurns, IsCall, Outcome, Turn, after_turn, done, faulted}
-use Rattle.day_rules.specs.Terms.{Terms}
+use Rattle.day_rules.specs.DayState.{IsDay}
+use Rattle.day_rules.specs.Terms.{AreTerms, Terms}
 use Rattle.day_rules.proofs.Following.{call_follows}
 use Rattle.day_rules.proofs.Histories.{legal_none}
 use Rattle.day_rules.proofs.Running.{run_legal}
@@ -40,6 +43,7 @@ abbrev pub IsOfDay : ℕ → Call → Type 0
 IsOfDay seed (ask a) = (number : ℕ) × (number < MOST_ASKS) × (a ≡ ask_by seed number)
 IsOfDay seed (notice kind auction n) = Unit {0}
 IsOfDay seed (tick now) = Unit {0}
+IsOfDay seed (set_budget x) = ⊥
 
 -- the entry of a reply to an ask is the settled ask
 abbrev AddsAsk : Ask → Reply → Type 0
@@ -67,67 +71,69 @@ ask_entry terms history a = by_seen (seen_in history a.auction a.digest)
     by_seen (Seen.Same place) = λ e is. absurd (cc is)
     by_seen (Seen.Other kept) = λ e is. absurd (cc is)
 
--- that of a notice or a tick is no ask
-abbrev AddsNoAsk : Reply → Type 0
-AddsNoAsk r = (e : Entry) → r.entry ≡ Some e → IsNoAsk e
+-- that of a notice or a tick is a notice's or a moment's
+abbrev AddsNoticeOrMoment : Reply → Type 0
+AddsNoticeOrMoment r = (e : Entry) → r.entry ≡ Some e → IsNoticeOrMoment e
 
-kind_entry : (kind : NoticeKind) (n : ℕ) → IsNoAsk (entry_of_notice kind n)
+kind_entry : (kind : NoticeKind) (n : ℕ) → IsNoticeOrMoment (entry_of_notice kind n)
 kind_entry NoticeKind.Win n = tt
 kind_entry NoticeKind.Bill n = tt
 kind_entry NoticeKind.Loss n = tt
 
-notice_entry : (history : List Entry) (kind : NoticeKind) (auction : List ℕ) (n : ℕ) (w : Option Award) → AddsNoAsk (known_reply history kind auction n w)
+notice_entry : (history : List Entry) (kind : NoticeKind) (auction : List ℕ) (n : ℕ) (w : Option Award) → AddsNoticeOrMoment (known_reply history kind auction n w)
 notice_entry history kind auction n None = λ e is. absurd (cc is)
 notice_entry history kind auction n (Some w) = by (is_of_auction history auction w)
   where
-    ruled : (r : Ruling) → AddsNoAsk (ruled_reply history kind n r)
-    ruled Ruling.Counted e is = let same : entry_of_notice kind n ≡ e = cc is in subst IsNoAsk same (kind_entry kind n)
+    ruled : (r : Ruling) → AddsNoticeOrMoment (ruled_reply history kind n r)
+    ruled Ruling.Counted e is = let same : entry_of_notice kind n ≡ e = cc is in subst IsNoticeOrMoment same (kind_entry kind n)
     ruled Ruling.Repeat e is = absurd (cc is)
     ruled (Ruling.Conflict end) e is = absurd (cc is)
 
-    by : (b : Bool) → AddsNoAsk (if b then ruled_reply history kind n (ruling_of kind w) else answered Answer.Unknown)
+    by : (b : Bool) → AddsNoticeOrMoment (if b then ruled_reply history kind n (ruling_of kind w) else answered Answer.Unknown)
     by true = ruled (ruling_of kind w)
     by false = λ e is. absurd (cc is)
 
-tick_entry : (moment ended : ℕ) → AddsNoAsk (ticked moment ended)
+tick_entry : (moment ended : ℕ) → AddsNoticeOrMoment (ticked moment ended)
 tick_entry moment ended = by (ended == 0)
   where
-    by : (b : Bool) → AddsNoAsk (if b then answered (Answer.Ticked 0) else added (Answer.Ticked ended) (Entry.Expire moment))
+    by : (b : Bool) → AddsNoticeOrMoment (if b then answered (Answer.Ticked 0) else added (Answer.Ticked ended) (Entry.Expire moment))
     by true = λ e is. absurd (cc is)
-    by false = λ e is. let same : Entry.Expire moment ≡ e = cc is in subst IsNoAsk same tt
+    by false = λ e is. let same : Entry.Expire moment ≡ e = cc is in subst IsNoticeOrMoment same tt
 
 -- one call adds at most 1,000 bytes
-falls : (terms : Terms) (history : List Entry) (e : Entry) → MayFollow terms history e → IsNoAsk e → weight (history ++ e ∷ []) ≤ weight history + 1000
-falls terms history e follows none = omega (arith, weight_more history e, held_falls terms history e follows none)
+falls : (terms : Terms) (history : List Entry) (e : Entry) → IsDay terms history → MayFollow terms history e → IsNoticeOrMoment e → weight (history ++ e ∷ []) ≤ weight history + 1000
+falls terms history e day follows none =
+    omega (arith, weight_more history e, held_falls 2 terms history e day follows none, notice_bytes 1 e none, notice_bytes 2 e none)
 
-call_adds : (terms : Terms) (history : List Entry) (seed : ℕ) (c : Call) (e : Entry) → IsLegal terms history → IsCall (length terms.budgets) c → IsOfDay seed c → (reply terms history c).entry ≡ Some e
+call_adds : (terms : Terms) (history : List Entry) (seed : ℕ) (c : Call) (e : Entry) → AreTerms terms → IsLegal terms history → IsCall (length terms.budgets) c → IsOfDay seed c → (reply terms history c).entry ≡ Some e
     → weight (history ++ e ∷ []) ≤ weight history + 1000
-call_adds terms history seed (ask a) e legal well (number, few, is) adds =
+call_adds terms history seed (ask a) e ok legal well (number, few, is) adds =
     let s : Entry = Entry.Ask (settled terms history (ask_by seed number)) in
     let same : e ≡ s = ask_entry terms history a e adds ∙ ap (λ (x : Ask). Entry.Ask (settled terms history x)) is in
     subst (λ (x : Entry). weight (history ++ x ∷ []) ≤ weight history + 1000) (sym same)
-    (omega (arith, weight_more history s, held_ask terms history (settled terms history (ask_by seed number)) legal, ask_adds terms history seed number few))
-call_adds terms history seed (notice kind auction n) e legal well of adds =
-    falls terms history e (subst (λ (o : Option Entry). IfSome o (MayFollow terms history)) adds (call_follows terms history (notice kind auction n) legal well))
+    (omega (arith, weight_more history s, held_ask 2 terms history (settled terms history (ask_by seed number)) legal, ask_adds terms history seed number few))
+call_adds terms history seed (notice kind auction n) e ok legal well of adds =
+    falls terms history e (record { terms_ok = ok; legal = legal }) (subst (λ (o : Option Entry). IfSome o (MayFollow terms history)) adds (call_follows terms history (notice kind auction n) legal well))
     (notice_entry history kind auction n (slice_get (awards_of history) n) e adds)
-call_adds terms history seed (tick now) e legal well of adds =
-    falls terms history e (subst (λ (o : Option Entry). IfSome o (MayFollow terms history)) adds (call_follows terms history (tick now) legal well))
+call_adds terms history seed (tick now) e ok legal well of adds =
+    falls terms history e (record { terms_ok = ok; legal = legal }) (subst (λ (o : Option Entry). IfSome o (MayFollow terms history)) adds (call_follows terms history (tick now) legal well))
     (tick_entry (max now (latest history)) (due_count (max now (latest history)) (awards_of history)) e adds)
+call_adds terms history seed (set_budget x) e ok legal well of adds = absurd of
 
-turn_adds : (terms : Terms) (history : List Entry) (seed : ℕ) (c : Call) (o : Outcome) → IsLegal terms history → IsCall (length terms.budgets) c → IsOfDay seed c
+turn_adds : (terms : Terms) (history : List Entry) (seed : ℕ) (c : Call) (o : Outcome) → AreTerms terms → IsLegal terms history → IsCall (length terms.budgets) c → IsOfDay seed c
     → weight (after_turn terms history (record { call = c; outcome = o })) ≤ weight history + 1000
-turn_adds terms history seed c faulted legal well of = omega arith
-turn_adds terms history seed c done legal well of = by (reply terms history c).entry refl
+turn_adds terms history seed c faulted ok legal well of = omega arith
+turn_adds terms history seed c done ok legal well of = by (reply terms history c).entry refl
   where
     by : (x : Option Entry) → (reply terms history c).entry ≡ x → weight (with_entry history x) ≤ weight history + 1000
     by None is = omega arith
-    by (Some e) is = call_adds terms history seed c e legal well of is
+    by (Some e) is = call_adds terms history seed c e ok legal well of is
 
 -- and so many calls
-pub calls_add : (terms : Terms) (seed : ℕ) (start : List Entry) (told : List Told) → IsLegal terms start → AreTurns (length terms.budgets) (turns_of told) → All (λ (t : Told). IsOfDay seed t.call) told
+pub calls_add : (terms : Terms) (seed : ℕ) (start : List Entry) (told : List Told) → AreTerms terms → IsLegal terms start → AreTurns (length terms.budgets) (turns_of told) → All (λ (t : Told). IsOfDay seed t.call) told
     → weight (history_after terms start told) ≤ weight start + 1000 * length told
-calls_add terms seed start [] legal taken of = omega arith
-calls_add terms seed start (t ∷ told) legal taken of =
+calls_add terms seed start [] ok legal taken of = omega arith
+calls_add terms seed start (t ∷ told) ok legal taken of =
     let P : Turn → Type 0 = λ turn. IsCall (length terms.budgets) turn.call in
     let Q : Told → Type 0 = λ u. IsOfDay seed u.call in
     let well = All-head P (turn_of t) (turns_of told) taken in
@@ -135,14 +141,14 @@ calls_add terms seed start (t ∷ told) legal taken of =
     let legal_next : IsLegal terms next = run_legal terms start (turn_of t ∷ []) legal (All-cons P (turn_of t) [] well (All-nil P)) in
     omega (
       arith,
-      turn_adds terms start seed t.call (outcome_by t.fault) legal well (All-head Q t told of),
-      calls_add terms seed next told legal_next (All-tail P (turn_of t) (turns_of told) taken) (All-tail Q t told of),
+      turn_adds terms start seed t.call (outcome_by t.fault) ok legal well (All-head Q t told of),
+      calls_add terms seed next told ok legal_next (All-tail P (turn_of t) (turns_of told) taken) (All-tail Q t told of),
     )
 
 -- the head of the journal, the roster's digest, and the gate
-head_size : (terms : DeskTerms) (history : List Entry) → length terms.digest ≡ 32 → longest_size terms history ≤ 100 + sum_by record_size history
+head_size : (terms : DeskTerms) (history : List Entry) → length terms.digest ≡ 32 → longest_size terms history ≤ 100 + sum_by longest_record history
 head_size terms history long =
-    omega (arith, length-append head (flat_map open_place (terms.digest ∷ [])), length-append (open_place terms.digest) [], long)
+    omega (arith, length-append (head NEW_FORMAT) (flat_map open_place (terms.digest ∷ [])), length-append (open_place terms.digest) [], long)
 
 -- no journal of a day that begins with no entry is too small for one of so few calls
 all_left : (P : Told → Type 0) (xs ys : List Told) → All P (xs ++ ys) → All P xs
@@ -164,10 +170,10 @@ none_held : weight [] ≡ 0
 unfolding awards_of
 none_held = refl
 
-module _ (terms : DeskTerms) (seed : ℕ) (told : List Told) (long : length terms.digest ≡ 32) (few : length told ≤ 4000000)
+module _ (terms : DeskTerms) (seed : ℕ) (told : List Told) (ok : AreTerms terms.day) (long : length terms.digest ≡ 32) (few : length told ≤ 4000000)
     (taken : AreTurns (length terms.day.budgets) (turns_of told)) (of : All (λ (t : Told). IsOfDay seed t.call) told) where
   has_room : (front : List Told) (one : Told) (back : List Told) (e : Entry) → told ≡ front ++ one ∷ back → (reply terms.day (history_after terms.day [] front) one.call).entry ≡ Some e
-      → longest_size terms (history_after terms.day [] front) + record_size e + held (history_after terms.day [] front ++ e ∷ []) ≤ 2 ^ 32
+      → longest_size terms (history_after terms.day [] front) + longest_record e + longest_held (history_after terms.day [] front ++ e ∷ []) ≤ 2 ^ 32
   has_room front one back e split adds =
       let P : Turn → Type 0 = λ turn. IsCall (length terms.day.budgets) turn.call in
       let Q : Told → Type 0 = λ u. IsOfDay seed u.call in
@@ -175,8 +181,8 @@ module _ (terms : DeskTerms) (seed : ℕ) (told : List Told) (long : length term
       let turns = turns_left P front (one ∷ back) (subst (λ (l : List Told). AreTurns (length terms.day.budgets) (turns_of l)) split taken) in
       let each : All Q (front ++ one ∷ back) = subst (All Q) split of in
       let legal : IsLegal terms.day h = run_legal terms.day [] (turns_of front) (legal_none terms.day) turns.0 in
-      let before : weight h ≤ weight [] + 1000 * length front = calls_add terms.day seed [] front (legal_none terms.day) turns.0 (all_left Q front (one ∷ back) each) in
-      let one_more = call_adds terms.day h seed one.call e legal (All-head P (turn_of one) (turns_of back) turns.1) (All-head Q one back (all_right Q front (one ∷ back) each)) adds in
+      let before : weight h ≤ weight [] + 1000 * length front = calls_add terms.day seed [] front ok (legal_none terms.day) turns.0 (all_left Q front (one ∷ back) each) in
+      let one_more = call_adds terms.day h seed one.call e ok legal (All-head P (turn_of one) (turns_of back) turns.1) (All-head Q one back (all_right Q front (one ∷ back) each)) adds in
       let count : length front + suc (length back) ≡ length told = sym (length-append front (one ∷ back)) ∙ sym (ap (λ l. length l) split) in
       omega (arith, few, before, one_more, count, weight_more h e, head_size terms h long, none_held)
 

@@ -20,6 +20,7 @@ use Rattle.adx_books.specs.Generated.{AreFrom, AreOfAsk, AreOfDay, generated_his
 use Rattle.adx_books.specs.Taking.{calls_of}
 use Rattle.adx_books.specs.declared.generator.TheConstants.{MOST_ASKS}
 use Rattle.adx_books.proofs.DayCalls.{all_done}
+use Rattle.script_day.proofs.Rosters.{roster_terms}
 use Rattle.adx_books.proofs.Line.{digest_long}
 use Rattle.adx_books.proofs.Room.{IsOfDay, all_are_done}
 
@@ -91,5 +92,5 @@ generated_all faults reads may_leave moment left_since r seed asks disk start to
     let full : FullEach (desk_terms r) [] told = subst (λ (s : List Entry). FullEach (desk_terms r) s told) begins runs.full in
     let from : AreOfDay (terms_by r) seed asks [] told = subst (λ (s : List Entry). AreOfDay (terms_by r) seed asks s told) begins of in
     let few = day_few (terms_by r) seed asks 0 [] told (omega (arith, most)) from in
-    let all = all_are_done (desk_terms r) seed told (digest_long r line) (omega (arith, few.1, most)) runs.taken few.0 full none in
+    let all = all_are_done (desk_terms r) seed told (roster_terms r) (digest_long r line) (omega (arith, few.1, most)) runs.taken few.0 full none in
     ap (λ (s : List Entry). history_after (terms_by r) s told) begins ∙ ap (run (terms_by r) []) (all_done (terms_by r) seed asks 0 [] told from all)

@@ -4,7 +4,7 @@ use Rattle.adx_io.specs.Disks.{LeavesOnly}
 use Rattle.adx_desk.specs.Desks.{OnDisk}
 use Rattle.adx_desk.specs.Histories.{DeskTerms, IsHistoryOf}
 use Rattle.adx_desk.specs.Opened.{Opens}
-use Rattle.adx_desk.specs.Openings.{StandsAsOneOf}
+use Rattle.adx_desk.specs.Openings.{StandsAsRead}
 use Rattle.adx_desk.specs.Rosters.{desk_terms}
 use Rattle.adx_desk.proofs.Keeping.{keeps_histories}
 use Rattle.day_rules.specs.Legal.{IsLegal}
@@ -28,7 +28,7 @@ module _ {D E : Type 0} (disk_of : E → D) (faults : D → ℕ) (reads : D → 
         subst (λ (terms : DeskTerms). IsHistoryOf terms image desk.desk.history) opens.same_terms
         (⊎_elim (λ alone. alone) (λ with_tail. subst (IsHistoryOf desk.desk.terms image) (append-nil desk.desk.history) with_tail)
         (keeps_histories (may_leave (disk_of desk.disk)) desk.desk [] (opens.keeps file is []) image left));
-    any_moment = λ file is. leaves_lent old desk.disk (StandsAsOneOf (desk_terms roster) (may_leave (disk_of old))) (opens.any_moment file is);
+    any_moment = λ file is. leaves_lent old desk.disk (StandsAsRead (desk_terms roster) (may_leave (disk_of old)) (reads (disk_of old))) (opens.any_moment file is);
   }
 
   -- a lent disk stands for the history of the desk that was opened on it

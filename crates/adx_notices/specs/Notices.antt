@@ -7,7 +7,7 @@ use Rattle.adx_io.specs.Streams.{Tape, WhereTold}
 use Rattle.adx_io.specs.Talk.{ended}
 use Rattle.adx_io.specs.declared.stop.Stop.{Stop}
 use Rattle.adx_desk.specs.Histories.{IsHistoryOf}
-use Rattle.adx_desk.specs.Openings.{StandsAsOneOf}
+use Rattle.adx_desk.specs.Openings.{StandsAsRead}
 use Rattle.adx_desk.specs.Rosters.{desk_terms}
 use Rattle.adx_desk.specs.declared.fault.DeskFault.{DeskFault}
 use Rattle.day_rules.specs.declared.entry.Entry.{Entry}
@@ -59,8 +59,8 @@ module _ {D : Type 0} (faults : D → ℕ) (reads : D → Option (List ℕ)) (ma
     pub begins : (file : List ℕ) → reads old ≡ Some file → IsHistoryOf (desk_terms r) file history
     -- each image stands for it afterwards,
     pub keeps : (file : List ℕ) → reads old ≡ Some file → Each (may_leave new) (λ image. IsHistoryOf (desk_terms r) image history)
-    -- and a crash at any moment of the run leaves the history of an image from before it.
-    pub any_moment : (file : List ℕ) → reads old ≡ Some file → LeavesOnly moment left_since old new (StandsAsOneOf (desk_terms r) (may_leave old))
+    -- and a crash at any moment of the run leaves an image from before it, or a file of the same history.
+    pub any_moment : (file : List ℕ) → reads old ≡ Some file → LeavesOnly moment left_since old new (StandsAsRead (desk_terms r) (may_leave old) (reads old))
 
   -- What came of a roster's day: it was opened, and the lines of its history's posts were put; or opening it gave up,
   -- and the line was put that says why, if there is one.

@@ -10,7 +10,5 @@
 mod printing;
 mod rest;
 mod serving;
-#[cfg(test)]
-mod tests;
 
 pub use serving::serve_notices;

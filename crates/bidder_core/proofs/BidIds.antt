@@ -7,7 +7,7 @@ use Rattle.std.proofs.lemmas.List.Folds.{list_any-append}
 use Rattle.std.proofs.lemmas.List.Sums.{split_at_first, passes_at_first}
 use Rattle.adx_units.specs.Number.{is_digit, is_digits, is_whole, begins_with, digits_value}
 use Rattle.bidder_core.specs.BidIds.{bid_id, is_below, is_dash, is_made, price_in}
-use Rattle.line_parts.proofs.Decimals.{decimal_is_digits, decimal_is_whole, decimal_value}
+use Rattle.formats.proofs.Decimals.{decimal_is_digits, decimal_is_whole, decimal_value}
 use Rattle.bidder_core.specs.LedgerState.{has_slash}
 use Rattle.rtb_request.specs.declared.bid_request.TheConstants.{MOST_IMPS}
 

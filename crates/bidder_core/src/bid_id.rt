@@ -4,7 +4,7 @@ ghost use Rattle.adx_units.specs.Number.{digits_value};
 ghost use Rattle.bidder_core.specs.BidIds.{bid_id, is_below, is_made, price_in};
 
 use adx_units::{OutOfMemory, Text, whole_up_to};
-use line_parts::push_number;
+use formats::push_number;
 use rtb_request::MOST_IMPS;
 use std::alloc::Global;
 

@@ -1,5 +1,6 @@
 -- How a bidder's run ended, from what came of its first line.
-use Rattle.std.proofs.Common.{◌≡◌, inl, inr, ℕ, List, [], ◌++◌, refl, sym, ap, ◌∙◌, subst, ◌≤◌, length, zero-le, Option, Result, Err}
+use Rattle.std.proofs.Common.{◌≡◌, ◌≢◌, inl, inr, ℕ, List, [], ◌++◌, refl, sym, ap, ◌∙◌, subst, ◌≤◌, length, zero-le, Option, Result, Err}
+use Rattle.std.proofs.lemmas.List.Elements.{All-nil}
 use Rattle.adx_io.specs.Lines.{HasNoNewline, tape_behind}
 use Rattle.adx_io.specs.Streams.{Tape, WhereTold}
 use Rattle.adx_io.specs.Talk.{TalkState, ended}
@@ -7,15 +8,17 @@ use Rattle.adx_io.specs.declared.line_buffer.TheConstants.{CHUNK}
 use Rattle.adx_io.specs.declared.stop.Stop.{Stop}
 use Rattle.bidder_core.specs.Seen.{BidderState}
 use Rattle.http_connection.specs.declared.conn.ConnEnd.{ConnEnd}
+use Rattle.http_service.specs.Behind.{IsLeftAtEnd, IsLeftBehind}
 use Rattle.script_day.specs.Endings.{LeftBehind}
-use Rattle.script_day.specs.Firsts.{EndsLineless, HasNoLine, IsLeftAt, ReadsLine, StopsInLine}
+use Rattle.script_day.specs.Firsts.{EndsLineless, HasNoLine, IsLeftAt, ReadsLine, StopsAt, StopsInLine}
 use Rattle.script_day.specs.Output.{roster_refused_line}
 use Rattle.script_day.specs.Parts.{PutsEnd}
 use Rattle.script_day.specs.declared.ending.Ending.{Ending}
 use Rattle.script_day.specs.declared.limits.TheConstants.{INPUT_LIMIT}
-use Rattle.script_day.proofs.Told.{told_ahead, told_map, told_then, unread_tape}
+use Rattle.script_day.proofs.FirstReads.{stops_at}
+use Rattle.script_day.proofs.Told.{told_ahead, told_map, told_start, told_then, unread_tape}
 use Rattle.script_lines.specs.declared.refusal.RosterRefusal.{RosterRefusal}
-use Rattle.bidder_day.specs.Bidding.{ComesBehind, EndsBidder, HasNoPrices, IsLeftAtEnd, IsLeftBehind, ServesBehind, StopsFirst}
+use Rattle.bidder_day.specs.Bidding.{ComesBehind, EndsBidder, HasNoPrices, ServesBehind, StopsFirst}
 use Rattle.bidder_day.specs.Prices.{IsShortPrices}
 use Rattle.bidder_day.specs.Serving.{EndsFirst, RefusesLine, ServesLine, WantsMemory, ending_by}
 
@@ -39,7 +42,7 @@ module _ (tape tape_now : Option Tape) (held held_now : Option (List ℕ)) where
       subst (EndsBidder tape tape_now held held_now) (sym (is ∙ ap Err memory)) (inr (inl (record { why = why; takes = front; first = first })))
 
   -- a run that stopped in the first line
-  pub stopped : (stop : Stop) → StopsFirst tape tape_now held held_now → EndsBidder tape tape_now held held_now (Err (Ending.Stopped stop))
+  pub stopped : (stop : Stop) → StopsFirst stop tape tape_now held held_now → EndsBidder tape tape_now held held_now (Err (Ending.Stopped stop))
   stopped Stop.ReadFault stops = inr stops
   stopped Stop.WriteFault stops = inr (inr stops)
   stopped Stop.OutOfMemory stops = inr (inr stops)
@@ -75,7 +78,8 @@ module _ (tape tape_now : Option Tape) (held held_now : Option (List ℕ)) where
     first_unread : (result : Result (Unit {0}) Ending) → WantsMemory behind tape_now held held_now result → EndsBidder tape tape_now held held_now result
     first_unread result w = subst (EndsBidder tape tape_now held held_now) (sym w.ends) (stopped Stop.OutOfMemory (record {
       unwritten = w.unwritten;
-      front = over_line (λ y z. LeftBehind y.left z.left) (λ x z. (read rest : List ℕ) × (x.left ≡ read ++ rest) × LeftBehind rest z.left) w.left (λ x y z l left. (ended l.0, y.left, l.3.next, left));
+      front = over_line (λ y z. LeftBehind y.left z.left) (λ x z. StopsInLine StopsAt INPUT_LIMIT Stop.OutOfMemory x.left z.left) w.left
+          (λ x y z l left. ([], x.left, All-nil (λ b. b ≢ 10), refl, zero-le, (ended l.0, y.left, inr (l.0, l.1, refl), l.3.next, left)));
     }))
 
     -- what came of it
@@ -99,14 +103,7 @@ left_by_end end pending told few read_out = told_ahead pending told (λ rest now
 
 -- an input that has no price line first, since it has no whole line within its limit
 no_prices : (limit : ℕ) (why : RosterRefusal) (input left : List ℕ) → limit ≡ INPUT_LIMIT → HasNoLine limit why input left → HasNoPrices why input left
-no_prices limit why input left whole (inl (piece, short, cut, none)) = inr (inl (piece, cut, none))
-no_prices limit why input left whole (inr (line, more, piece, is, long, cause)) = inr (inr (line, more, piece, is, long ∙ whole, cause))
-
--- what is left where the run stopped in the first line
-left_by : (stop : Stop) (rest left : List ℕ) → IsLeftAt stop rest left → LeftBehind rest left
-left_by Stop.ReadFault rest left is = ([], zero-le, sym is)
-left_by Stop.WriteFault rest left behind = behind
-left_by Stop.OutOfMemory rest left behind = behind
+no_prices limit why input left whole none = inr (subst (λ (n : ℕ). HasNoLine n why input left) whole none)
 
 -- the run ended before its first line was read
 pub lineless_ends : (before : TalkState) (tape_now : Option Tape) (held_now : Option (List ℕ)) (ending : Ending) → before.allowed ≡ INPUT_LIMIT → EndsLineless before tape_now held_now ending → EndsBidder before.tape tape_now before.held held_now (Err ending)
@@ -117,8 +114,18 @@ lineless_ends before tape_now held_now ending whole (inr (stop, first, unput, is
     subst (λ (e : Ending). EndsBidder before.tape tape_now before.held held_now (Err e)) (sym is)
     (stopped before.tape tape_now before.held held_now stop (record {
       unwritten = unput;
-      front = told_map before.tape tape_now (λ x z. StopsInLine IsLeftAt before.allowed stop x.left z.left) (λ x z. (read rest : List ℕ) × (x.left ≡ read ++ rest) × LeftBehind rest z.left) first (λ x z r. (r.0, r.1, r.3, left_by stop r.1 z.left r.5));
+      front = told_map before.tape tape_now (λ x z. StopsInLine IsLeftAt before.allowed stop x.left z.left) (λ x z. StopsInLine StopsAt INPUT_LIMIT stop x.left z.left) first
+          (λ x z r. (r.0, r.1, r.2, r.3, subst (λ (n : ℕ). length r.0 ≤ n) whole r.4, stops_at stop r.1 z.left r.5));
     }))
+
+-- memory was refused before the run began
+pub unbegun : (tape : Option Tape) (held : Option (List ℕ)) → EndsBidder tape tape held held (Err (Ending.Stopped Stop.OutOfMemory))
+unbegun tape held =
+    stopped tape tape held held Stop.OutOfMemory (record {
+      unwritten = refl;
+      front = told_start tape (λ old new. StopsInLine StopsAt INPUT_LIMIT Stop.OutOfMemory old.left new.left)
+          (λ t. ([], t.left, All-nil (λ b. b ≢ 10), refl, zero-le, ([], t.left, inl refl, refl, ([], zero-le, refl))));
+    })
 
 -- the run's tapes and sinks are those of the talk; nothing was taken before it began
 pub run_ends : (begun tape tape_now last : Option Tape) (held_begun held held_now held_last : Option (List ℕ)) (result : Result (Unit {0}) Ending)

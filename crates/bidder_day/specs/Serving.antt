@@ -5,6 +5,7 @@ use Rattle.adx_io.specs.declared.stop.Stop.{Stop}
 use Rattle.bidder_core.specs.Seen.{BidderState}
 use Rattle.bidder_http.specs.Messages.{BidderAnswers, BidderGivesUp}
 use Rattle.http_connection.specs.declared.conn.ConnEnd.{ConnEnd}
+use Rattle.http_service.specs.Behind.{IsLeftBehind}
 use Rattle.http_service.specs.Connections.{EndsWith}
 use Rattle.http_service.specs.declared.limits.TheConstants.{REQUEST_LIMIT}
 use Rattle.script_day.specs.Endings.{LeftBehind}
@@ -12,7 +13,6 @@ use Rattle.script_day.specs.Output.{roster_refused_line}
 use Rattle.script_day.specs.Parts.{PutsEnd}
 use Rattle.script_day.specs.declared.ending.Ending.{Ending}
 use Rattle.script_lines.specs.declared.refusal.RosterRefusal.{RosterRefusal}
-use Rattle.bidder_day.specs.Bidding.{IsLeftBehind}
 use Rattle.bidder_day.specs.Prices.{IsShortPrices, WholeFails}
 
 -- how a run ends whose connection ended so

@@ -8,7 +8,5 @@
 
 mod prices;
 mod serving;
-#[cfg(test)]
-mod tests;
 
 pub use serving::serve_prices;

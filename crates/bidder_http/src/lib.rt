@@ -12,8 +12,6 @@ mod offers;
 mod page;
 mod refusals;
 mod serving;
-#[cfg(test)]
-mod tests;
 
 pub use page::Page;
 pub use serving::serve_bidder;

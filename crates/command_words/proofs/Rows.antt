@@ -18,8 +18,8 @@ use Rattle.clap.specs.declared.parser.matches.ArgMatches.TheViews.{out-ArgMatche
 use Rattle.clap.specs.Walk.{Row as Found}
 use Rattle.clap.specs.declared.error.kind.ErrorKind.{ErrorKind}
 use Rattle.command_words.specs.Spelling.{Given, Row, Spells, has_option, value_of, words_of}
-use Rattle.command_words.specs.Meanings.{IsPlain, asks_name, bidder, connection, day, generator, help_word, journal_name, notices, number_of, seed_name, version_word, words_before_help}
-use Rattle.command_words.specs.Taken.{Comes, IsReadingOf, answer, answer_by, application, command_found, generate, print_notices, subcommand_for}
+use Rattle.command_words.specs.Meanings.{IsPlain, asks_name, bidder, connection, day, first_help_word, generator, help_word, journal_name, notices, number_of, seed_name, version_word, words_before_help}
+use Rattle.command_words.specs.Taken.{Comes, IsReadingOf, answer, answer_by, application, command_found, generate, print_notices, subcommand_for, turned_by, turned_round}
 use Rattle.command_words.specs.declared.command.Command.{Command}
 use Rattle.command_words.specs.declared.command.Topic.{Topic}
 use Rattle.command_words.specs.declared.command.TheConstants.{MOST_ASKS}
@@ -202,8 +202,13 @@ version_asked : fault_of application (version_word ∷ []) ≡ ErrorKind.Display
 unfolding clap_on_literals
 version_asked = refl
 
+-- what words ask for that stand as `clap` takes them
+abbrev IsTaken : Command → List (List ℕ) → Type 0
+IsTaken (Command.Help topic) words = words ≡ words_before_help topic ++ help_word ∷ []
+IsTaken command words = IsPlain command words
+
 -- words in plain spelling are read as what they ask for
-pub plain_read : (command : Command) (words : List (List ℕ)) → IsPlain command words → (outcome : Option ErrorKind) → Comes outcome (fault_of application words) → answer outcome words ≡ Some command
+pub plain_read : (command : Command) (words : List (List ℕ)) → IsTaken command words → (outcome : Option ErrorKind) → Comes outcome (fault_of application words) → answer outcome words ≡ Some command
 plain_read (Command.Day journal) words (row, given, spells, is) =
     let its = takes row given words (subst IsBuilt (sym is.0) day_built) spells in
     taken (Command.Day journal) words its.0
@@ -228,6 +233,33 @@ plain_read (Command.Help topic) words is =
     asked (Command.Help topic) words ErrorKind.DisplayHelp (ap (fault_of application) is ∙ help_asked topic) (ap (answer (Some ErrorKind.DisplayHelp)) is ∙ help_answered topic)
 plain_read Command.Version words is = asked Command.Version words ErrorKind.DisplayVersion (ap (fault_of application) is ∙ version_asked) (ap (answer (Some ErrorKind.DisplayVersion)) is)
 
+help_stays : (topic : Topic) → turned_round (words_before_help topic ++ help_word ∷ []) ≡ words_before_help topic ++ help_word ∷ []
+help_stays Topic.Program = refl
+help_stays Topic.Day = refl
+help_stays Topic.Connection = refl
+help_stays Topic.Notices = refl
+help_stays Topic.Bidder = refl
+help_stays Topic.Generate = refl
+
+-- words that begin with another word than `help` stand as `clap` takes them
+stays : (row : Row) (given : List Given) (words : List (List ℕ)) → bytes_eq row.word first_help_word ≡ false → Spells row given words → turned_round words ≡ words
+stays row given words other spells = ap turned_round spells.are ∙ ap (λ b. turned_by b row.word (words_of given)) other ∙ sym spells.are
+
+pub plain_turned : (command : Command) (words : List (List ℕ)) → IsPlain command words → IsTaken command (turned_round words)
+plain_turned (Command.Day journal) words (row, given, spells, is) =
+    subst (IsTaken (Command.Day journal)) (sym (stays row given words (ap (λ (r : Row). bytes_eq r.word first_help_word) is.0) spells)) (row, given, spells, is)
+plain_turned (Command.Connection journal) words (row, given, spells, is) =
+    subst (IsTaken (Command.Connection journal)) (sym (stays row given words (ap (λ (r : Row). bytes_eq r.word first_help_word) is.0) spells)) (row, given, spells, is)
+plain_turned (Command.Notices journal) words (row, given, spells, is) =
+    subst (IsTaken (Command.Notices journal)) (sym (stays row given words (ap (λ (r : Row). bytes_eq r.word first_help_word) is.0) spells)) (row, given, spells, is)
+plain_turned Command.Bidder words (row, given, spells, is) =
+    subst (IsTaken Command.Bidder) (sym (stays row given words (ap (λ (r : Row). bytes_eq r.word first_help_word) is) spells)) (row, given, spells, is)
+plain_turned (Command.Generate seed asks) words (row, given, spells, is) =
+    subst (IsTaken (Command.Generate seed asks)) (sym (stays row given words (ap (λ (r : Row). bytes_eq r.word first_help_word) is.0) spells)) (row, given, spells, is)
+plain_turned (Command.Help topic) words (inl behind) = ap turned_round behind ∙ help_stays topic
+plain_turned (Command.Help topic) words (inr first) = ap turned_round first
+plain_turned Command.Version words is = ap turned_round is
+
 -- clap's definitions say what a parse of the program comes to
 pub program_is_simple : is_simple_and_free application ≡ true
 program_is_simple = refl
@@ -238,10 +270,10 @@ program_has_matches = refl
 -- ---- the clause
 
 pub plain_only : (words : List (List ℕ)) (read : Option Command) → IsReadingOf words read → (command : Command) → IsPlain command words → read ≡ Some command
-plain_only words read is command plain = is.answers ∙ plain_read command words plain is.outcome is.comes
+plain_only words read is command plain = is.answers ∙ plain_read command (turned_round words) (plain_turned command words plain) is.outcome is.comes
 
 -- a parse that ends well, and one that fails for another reason than memory, are readings
-pub reads_matches : (app : App) (texts words : List (List ℕ)) (sub : Option (List ℕ × List Found)) (read : Option Command) → app ≡ application → texts ≡ words
+pub reads_matches : (app : App) (texts words : List (List ℕ)) (sub : Option (List ℕ × List Found)) (read : Option Command) → app ≡ application → texts ≡ turned_round words
     → fault_of app texts ≡ [] → sub ≡ subcommand_of app texts → read ≡ command_found sub → IsReadingOf words read
 reads_matches app texts words sub read is same none found reads = record {
   outcome = None;
@@ -249,8 +281,8 @@ reads_matches app texts words sub read is same none found reads = record {
   answers = reads ∙ ap command_found (found ∙ ap₂ subcommand_of is same);
 }
 
-pub reads_fault : (app : App) (texts words : List (List ℕ)) (error : Error) (read : Option Command) → app ≡ application → texts ≡ words
-    → HasKind (fault_of app texts) error → kind_of error ≢ ErrorKind.OutOfMemory → read ≡ answer_by (kind_of error) words → IsReadingOf words read
+pub reads_fault : (app : App) (texts words : List (List ℕ)) (error : Error) (read : Option Command) → app ≡ application → texts ≡ turned_round words
+    → HasKind (fault_of app texts) error → kind_of error ≢ ErrorKind.OutOfMemory → read ≡ answer_by (kind_of error) (turned_round words) → IsReadingOf words read
 reads_fault app texts words error read is same (inl memory) other reads = absurd (other memory)
 reads_fault app texts words error read is same (inr among) other reads = record {
   outcome = Some (kind_of error);
@@ -280,9 +312,9 @@ both_ok (Ok x) P Q R f p q = f x p q
 both_ok (Err e) P Q R f p q = tt
 
 -- each list of words is read somehow
-reading_by : (words : List (List ℕ)) (kinds : Kinds) → fault_of application words ≡ kinds → (read : Option Command) × IsReadingOf words read
-reading_by words [] is = (answer None words, record { outcome = None; comes = is; answers = refl })
-reading_by words (kind ∷ more) is = (answer (Some kind) words, record { outcome = Some kind; comes = subst (IsAmong kind) (sym is) (inl refl); answers = refl })
+reading_by : (words : List (List ℕ)) (kinds : Kinds) → fault_of application (turned_round words) ≡ kinds → (read : Option Command) × IsReadingOf words read
+reading_by words [] is = (answer None (turned_round words), record { outcome = None; comes = is; answers = refl })
+reading_by words (kind ∷ more) is = (answer (Some kind) (turned_round words), record { outcome = Some kind; comes = subst (IsAmong kind) (sym is) (inl refl); answers = refl })
 
 pub some_reading : (words : List (List ℕ)) → (read : Option Command) × IsReadingOf words read
-some_reading words = reading_by words (fault_of application words) refl
+some_reading words = reading_by words (fault_of application (turned_round words)) refl

@@ -1,5 +1,5 @@
 -- The commands that words may name in plain spelling, and what they ask for. This project's own.
-use Rattle.std.specs.Prelude.{◌≡◌, ℕ, ◌-◌, ◌^◌, ◌≤◌, List, [], ◌∷◌, ◌++◌, codes, Option, Some, option_and_then}
+use Rattle.std.specs.Prelude.{◌≡◌, ◌⊎◌, ℕ, ◌-◌, ◌^◌, ◌≤◌, List, [], ◌∷◌, ◌++◌, codes, Option, Some, option_and_then}
 use Rattle.adx_units.specs.Number.{whole_up_to}
 use Rattle.command_words.specs.Spelling.{Given, Row, Spells, dashed, value_of}
 use Rattle.command_words.specs.declared.command.Command.{Command}
@@ -62,6 +62,10 @@ help_word = dashed (codes "help")
 abbrev pub version_word : List ℕ
 version_word = dashed (codes "version")
 
+-- the word that asks for help in front of a command's
+abbrev pub first_help_word : List ℕ
+first_help_word = codes "help"
+
 -- the words that stand before `--help`: none, or the word of the command that is asked for
 abbrev pub words_before_help : Topic → List (List ℕ)
 words_before_help Topic.Program = []
@@ -73,7 +77,7 @@ words_before_help Topic.Generate = generator.word ∷ []
 
 -- the words ask for this in plain spelling
 abbrev pub IsPlain : Command → List (List ℕ) → Type 0
-IsPlain (Command.Help topic) words = words ≡ words_before_help topic ++ help_word ∷ []
+IsPlain (Command.Help topic) words = (words ≡ words_before_help topic ++ help_word ∷ []) ⊎ (words ≡ first_help_word ∷ words_before_help topic)
 IsPlain Command.Version words = words ≡ version_word ∷ []
 IsPlain command words = (row : Row) × (given : List Given) × Spells row given words × AsksFor command row given
 

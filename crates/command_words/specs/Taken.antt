@@ -10,7 +10,7 @@ use Rattle.clap.specs.Walk.{Rule, first_of}
 use Rattle.clap.specs.Walk.{Row as Found}
 use Rattle.clap.specs.declared.error.kind.ErrorKind.{ErrorKind}
 use Rattle.command_words.specs.Spelling.{Row}
-use Rattle.command_words.specs.Meanings.{asks_name, bidder, commands, connection, day, generator, journal_name, notices, number_of, seed_name}
+use Rattle.command_words.specs.Meanings.{asks_name, bidder, commands, connection, day, first_help_word, generator, help_word, journal_name, notices, number_of, seed_name}
 use Rattle.command_words.specs.declared.command.Command.{Command}
 use Rattle.command_words.specs.declared.command.Topic.{Topic}
 use Rattle.command_words.specs.declared.command.TheConstants.{MOST_ASKS}
@@ -73,6 +73,15 @@ abbrev pub topic_of : List (List ℕ) → Topic
 topic_of [] = Topic.Program
 topic_of (word ∷ rest) = topic_by word
 
+-- the words that `clap` takes: those that were given, but that `help` in front goes to the end, as `--help`
+abbrev pub turned_by : Bool → List ℕ → List (List ℕ) → List (List ℕ)
+turned_by true word rest = rest ++ help_word ∷ []
+turned_by false word rest = word ∷ rest
+
+abbrev pub turned_round : List (List ℕ) → List (List ℕ)
+turned_round [] = []
+turned_round (word ∷ rest) = turned_by (bytes_eq word first_help_word) word rest
+
 -- a parse takes the words, or ends with an error of a kind that it may have
 abbrev pub Comes : Option ErrorKind → Kinds → Type 0
 Comes None kinds = kinds ≡ []
@@ -90,5 +99,5 @@ answer (Some kind) words = answer_by kind words
 -- the words are read so: by what a parse of them comes to
 pub record IsReadingOf (words : List (List ℕ)) (read : Option Command) : Type 0 where
   pub outcome : Option ErrorKind
-  pub comes : Comes outcome (fault_of application words)
-  pub answers : read ≡ answer outcome words
+  pub comes : Comes outcome (fault_of application (turned_round words))
+  pub answers : read ≡ answer outcome (turned_round words)

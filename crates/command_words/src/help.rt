@@ -16,11 +16,18 @@ usage: adx day [--journal FILE]
        adx bidder
        adx gen --seed N --asks M
        adx COMMAND --help
+       adx help COMMAND
        adx --version
 
-status: 0 the input was read to its end, 2 the words aren't a command, 3 the first line isn't of its form or the input passes
-its limit, 4 standard input failed, 5 standard output failed, 6 the journal failed, 7 the journal keeps no history of the
-roster, 12 want of memory
+status:  0  done: the input was read to its end
+         2  the words aren't a command
+         3  the first line isn't of its form, or the input is too long
+         4  standard input can't be read
+         5  standard output can't be written
+         6  the journal can't be read or written, or another process has it open
+         7  the journal isn't one of this roster's day
+        12  out of memory
+At every status but 0 a line on standard error says why.
 
 example:
   ./adx gen --seed 7 --asks 250
@@ -29,13 +36,14 @@ example:
 /// The help on the command `day`.
 pub const DAY_HELP: &str = "usage: adx day [--journal FILE]
 
-in:  a roster line, and then script lines, on standard input
-out: an answer to each script line, and then the closing table, on standard output
---journal FILE: the day goes on from the history that FILE keeps, and FILE keeps what it adds; FILE is made where there is
-none
+in:  a roster line, and after it script lines, on standard input
+out: an answer to each script line, and at the end the closing table, on standard output
+--journal FILE: the day goes on from the history in FILE, and FILE keeps what is added; FILE is made if it doesn't exist, and
+is this process's own until it ends
 
-status: 0 the input was read to its end, 3 the first line isn't a roster or the input passes its limit, 4 standard input
-failed, 5 standard output failed, 6 the journal failed, 7 the journal keeps no history of the roster, 12 want of memory
+status: 0 done, 3 the first line isn't a roster, or the input is too long, 4 standard input can't be read, 5 standard output
+can't be written, 6 the journal can't be read or written, or another process has it open, 7 the journal isn't one of this
+roster's day, 12 out of memory
 
 example:
   echo '{\"day\":\"2025-03-01\",\"bidders\":[{\"name\":\"b1\"}],\"campaigns\":[{\"bidder\":\"b1\",\"seat\":\"s1\",\"cid\":\"c1\",\"budget\":0.01}]}' | ./adx day
@@ -44,14 +52,15 @@ example:
 /// The help on the command `conn`.
 pub const CONNECTION_HELP: &str = "usage: adx conn [--journal FILE]
 
-in:  a roster line, and then the bytes of an HTTP connection, on standard input; the roster's `replies` are what its bidders
-answer, one after the other
-out: the connection's replies, on standard output: auctions' answers, and what was counted of notices, and the books
---journal FILE: the day goes on from the history that FILE keeps, and FILE keeps what it adds; FILE is made where there is
-none
+in:  a roster line, and after it the bytes of an HTTP connection, on standard input; the roster's `replies` are what its
+bidders answer, one after the other
+out: the connection's replies, on standard output: the answers to auctions, what was counted of notices, and the books
+--journal FILE: the day goes on from the history in FILE, and FILE keeps what is added; FILE is made if it doesn't exist, and
+is this process's own until it ends
 
-status: 0 the connection was read to its end, 3 the first line isn't a roster or passes the limit of an input, 4 standard
-input failed, 5 standard output failed, 6 the journal failed, 7 the journal keeps no history of the roster, 12 want of memory
+status: 0 the connection was read to its end, 3 the first line isn't a roster, or is too long, 4 standard input can't be read,
+5 standard output can't be written, 6 the journal can't be read or written, or another process has it open, 7 the journal
+isn't one of this roster's day, 12 out of memory
 
 example:
   printf '{\"day\":\"2025-03-01\",\"bidders\":[{\"name\":\"b1\"}],\"campaigns\":[{\"bidder\":\"b1\",\"seat\":\"s1\",\"cid\":\"c1\",\"budget\":0.01}]}\\nGET /books HTTP/1.1\\r\\nHost: x\\r\\n\\r\\n' | ./adx conn
@@ -60,12 +69,13 @@ example:
 /// The help on the command `notices`.
 pub const NOTICES_HELP: &str = "usage: adx notices --journal FILE
 
-in:  a roster line, on standard input; what comes behind it is read and ignored
-out: a line for each notice that the day which FILE keeps owes its bidders, its kind and its URL, on standard output; none is
-sent, and FILE keeps the same history
+in:  a roster line, on standard input; everything after it is read and ignored
+out: a line for each notice that the day in FILE owes its bidders, its kind and its URL, on standard output; none is sent, and
+FILE keeps the same history; a FILE that doesn't exist isn't made
 
-status: 0 the input was read to its end, 3 the first line isn't a roster or the input passes its limit, 4 standard input
-failed, 5 standard output failed, 6 the journal failed, 7 the journal keeps no history of the roster, 12 want of memory
+status: 0 done, 3 the first line isn't a roster, or the input is too long, 4 standard input can't be read, 5 standard output
+can't be written, 6 the journal can't be read or written, or another process has it open, 7 the journal isn't one of this
+roster's day, 12 out of memory
 
 example:
   ./adx day --journal a.journal < examples/notices.day; ./adx notices --journal a.journal < examples/notices.day
@@ -74,11 +84,11 @@ example:
 /// The help on the command `bidder`.
 pub const BIDDER_HELP: &str = "usage: adx bidder
 
-in:  a price line, and then the bytes of an HTTP connection, on standard input
+in:  a price line, and after it the bytes of an HTTP connection, on standard input
 out: the connection's replies, on standard output: bids, counted notices, books and ledger
 
-status: 0 the connection was read to its end, 3 the first line isn't a price line or passes the limit of an input, 4 standard
-input failed, 5 standard output failed, 12 want of memory
+status: 0 the connection was read to its end, 3 the first line isn't a price line, or is too long, 4 standard input can't be
+read, 5 standard output can't be written, 12 out of memory
 
 example:
   printf '{\"seat\":\"s1\",\"prices\":[{\"cid\":\"c1\",\"price\":2.5}]}\\nGET /books HTTP/1.1\\r\\nHost: x\\r\\n\\r\\n' | ./adx bidder
@@ -90,7 +100,7 @@ pub const GENERATOR_HELP: &str = "usage: adx gen --seed N --asks M
 in:  nothing; N is a number below 2^64, M is at most 1000000, both decimal and without a leading zero
 out: the closing table of a generated day, of M asks by the words of the seed N, on standard output
 
-status: 0 the table was written, 5 standard output failed, 12 want of memory
+status: 0 the table was written, 5 standard output can't be written, 12 out of memory
 
 example:
   ./adx gen --seed 7 --asks 250

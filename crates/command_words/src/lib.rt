@@ -8,12 +8,12 @@
 
 mod application;
 mod command;
+mod complaint;
 mod help;
 mod reading;
-#[cfg(test)]
-mod tests;
 
 pub use command::{Command, MOST_ASKS, Topic};
+pub use complaint::complaint_of;
 pub use help::{
     BIDDER_HELP, CONNECTION_HELP, DAY_HELP, GENERATOR_HELP, NOTICES_HELP, PROGRAM_HELP, VERSION,
     help_of,

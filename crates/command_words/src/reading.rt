@@ -2,10 +2,10 @@
 ghost use Rattle.std.specs.Prelude.{◌≡◌, ◌≢◌, ◌≤◌, ◌-◌, ◌^◌, IfOk, IfSome, Some, option_map};
 ghost use Rattle.clap.specs.Matches.{found_of};
 ghost use Rattle.clap.specs.Simple.{subcommand_rows_of};
-ghost use Rattle.clap.specs.Walk.{first_of, rows_of, texts};
+ghost use Rattle.clap.specs.Walk.{first_of, rows_of, texts, texts as texts_in};
 ghost use Rattle.clap.specs.declared.error.kind.ErrorKind.TheVariants.{OutOfMemory as no_memory};
 ghost use Rattle.command_words.specs.Meanings.{HasFewAsks, IsPlain, asks_name, number_of, seed_name};
-ghost use Rattle.command_words.specs.Taken.{IsReadingOf, answer_by, command_by, command_found, generate, print_notices, topic_of as topic_in, topic_by};
+ghost use Rattle.command_words.specs.Taken.{IsReadingOf, answer_by, command_by, command_found, generate, print_notices, topic_of as topic_in, topic_by, turned_round};
 ghost use Rattle.command_words.specs.declared.command.Command.{Command as Meaning};
 ghost use Rattle.command_words.specs.declared.command.TheConstants.{MOST_ASKS as most_asks};
 
@@ -27,6 +27,20 @@ fn texts_of(alloc: Global, words: &[Text]) -> Result<Vec<&str>, OutOfMemory>
     Ok(texts)
 }
 
+/// The words as `clap` takes them, where `help` in front asks for what `--help` at the end does.
+pub(crate) fn turned(alloc: Global, words: &[Text]) -> Result<Vec<&str>, OutOfMemory>
+    ensures { IfOk result (λ v. texts v.items ≡ turned_round words.now) }
+{
+    match words {
+        [word, rest @ ..] if word.as_str() == "help" => {
+            let mut texts = texts_of(alloc, rest)?;
+            texts.push("--help")?;
+            Ok(texts)
+        }
+        _ => texts_of(alloc, words),
+    }
+}
+
 /// The topic that a command's word names: the whole program where it names none.
 fn topic_named(word: &str) -> Topic
     ensures { result ≡ topic_by word.now }
@@ -42,23 +56,23 @@ fn topic_named(word: &str) -> Topic
 }
 
 /// The topic that words ask help for.
-fn topic_of(words: &[Text]) -> Topic
-    ensures { result ≡ topic_in words.now }
+fn topic_of(texts: &[&str]) -> Topic
+    ensures { result ≡ topic_in (texts_in texts.now) }
 {
-    match words {
-        [word, ..] => topic_named(word.as_str()),
+    match texts {
+        [text, ..] => topic_named(text),
         [] => Topic::Program,
     }
 }
 
 /// What words ask for that a parse refuses for this kind of error.
-fn answered(kind: ErrorKind, words: &[Text]) -> Result<Option<Command>, OutOfMemory>
-    ensures read { IfOk result (λ read. read ≡ answer_by kind words.now) }
+fn answered(kind: ErrorKind, texts: &[&str]) -> Result<Option<Command>, OutOfMemory>
+    ensures read { IfOk result (λ read. read ≡ answer_by kind (texts_in texts.now)) }
     ensures few { IfOk result (λ read. HasFewAsks read) }
     ensures memory { IfOk result (λ read. kind ≢ no_memory) }
 {
     match kind {
-        ErrorKind::DisplayHelp => Ok(Some(Command::Help(topic_of(words)))),
+        ErrorKind::DisplayHelp => Ok(Some(Command::Help(topic_of(texts)))),
         ErrorKind::DisplayVersion => Ok(Some(Command::Version)),
         ErrorKind::OutOfMemory => Err(OutOfMemory),
         _ => Ok(None),
@@ -172,11 +186,11 @@ fn parsed(alloc: Global, words: &[Text]) -> Result<Option<Command>, OutOfMemory>
     ensures read { IfOk result (λ read. IsReadingOf words.now read) }
     ensures few { IfOk result (λ read. HasFewAsks read) }
 {
-    let texts = texts_of(alloc, words)?;
+    let texts = turned(alloc, words)?;
     let program = application(alloc)?;
     match program.try_get_matches_from(texts.as_slice()) {
         Ok(matches) => command_in(alloc, &matches),
-        Err(error) => answered(error.kind(), words),
+        Err(error) => answered(error.kind(), texts.as_slice()),
     }
 }
 
@@ -185,7 +199,8 @@ fn parsed(alloc: Global, words: &[Text]) -> Result<Option<Command>, OutOfMemory>
 ///
 /// In plain spelling a command's word comes first, and behind it each of its options stands once, as two words, in any
 /// order, its value not beginning with `-`; a number is decimal, without a sign or a leading zero. Words in plain spelling
-/// are taken. So are other spellings that `clap` knows, as `--journal=FILE`, and mean the same.
+/// are taken. So are other spellings that `clap` knows, as `--journal=FILE`, and mean the same. `help` before a command's
+/// word, or alone, asks for what `--help` after it, or alone, asks for.
 pub fn command_of(alloc: Global, words: &[Text]) -> Result<Option<Command>, OutOfMemory>
     ensures plain { IfOk result (λ read. (command : Meaning) → IsPlain command words.now → read ≡ Some command) }
     ensures other { IfOk result (λ read. IsReadingOf words.now read) }

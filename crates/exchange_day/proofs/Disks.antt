@@ -7,7 +7,7 @@ use Rattle.adx_io.specs.Streams.{last_count}
 use Rattle.adx_desk.specs.Desks.{DeskKeeps, OnDisk}
 use Rattle.adx_desk.specs.Histories.{DeskTerms, WithOrWithout}
 use Rattle.adx_desk.specs.Opened.{Opens}
-use Rattle.adx_desk.specs.Openings.{StandsAsOneOf}
+use Rattle.adx_desk.specs.Openings.{StandsAsRead}
 use Rattle.adx_desk.proofs.Keeping.{keeps_histories}
 use Rattle.answer_lines.specs.declared.faults.Fault.{Fault}
 use Rattle.day_journal.proofs.Moments.{joined}
@@ -98,8 +98,8 @@ module _ {D E : Type 0} (disk_of : E → D) (faults : D → ℕ) (reads : D → 
         keeps = λ file is. kept (run.keeps [] (opens.keeps file is []));
         any_moment = λ file is.
             joined moment left_since (disk_of old) (disk_of desk.disk) (disk_of now.disk)
-            (StandsAsOneOf terms (may_leave (disk_of old))) (StandsInRunFrom terms start [] told) (StandsAmong terms (may_leave (disk_of old)) start told)
-            (leaves_lent old desk.disk (StandsAsOneOf terms (may_leave (disk_of old))) (opens.any_moment file is))
+            (StandsAsRead terms (may_leave (disk_of old)) (reads (disk_of old))) (StandsInRunFrom terms start [] told) (StandsAmong terms (may_leave (disk_of old)) (reads (disk_of old)) start told)
+            (leaves_lent old desk.disk (StandsAsRead terms (may_leave (disk_of old)) (reads (disk_of old))) (opens.any_moment file is))
             (leaves_lent desk.disk now.disk (StandsInRunFrom terms start [] told)
             (subst (λ (t : DeskTerms). LeavesOnly (λ e. moment (disk_of e)) (λ e. left_since (disk_of e)) desk.disk now.disk (StandsInRunFrom t start [] told)) opens.same_terms (run.any_moment [] (opens.keeps file is []))))
             (λ c was. inl was) (λ c left. inr left);

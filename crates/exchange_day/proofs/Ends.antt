@@ -9,6 +9,7 @@ use Rattle.adx_io.specs.declared.stop.Stop.{Stop}
 use Rattle.deal_floor.specs.declared.roster.Roster.{Roster}
 use Rattle.exchange_http.specs.Records.{RaisesAmong}
 use Rattle.http_connection.specs.declared.conn.ConnEnd.{ConnEnd}
+use Rattle.http_service.specs.Behind.{IsLeftAtEnd, IsLeftBehind}
 use Rattle.http_service.specs.Connections.{HasCauses as ConnCauses}
 use Rattle.script_day.specs.Courses.{given_up}
 use Rattle.script_day.specs.Firsts.{EndsRosterless, HasNoRoster, ReadsLine, StopsAt, StopsInLine}
@@ -22,7 +23,7 @@ use Rattle.script_day.proofs.DiskCounts.{cause_stays, day_later, day_rises}
 use Rattle.script_day.proofs.FirstReads.{unanswered_read}
 use Rattle.script_day.proofs.Putting.{cut_or_put}
 use Rattle.script_day.proofs.Told.{told_ahead, told_map, told_start, unread_tape}
-use Rattle.exchange_day.specs.Connecting.{ComesBehind, EndsExchange, EndsSo, GivesUpBehind, IsLeftAtEnd, IsLeftBehind, IsReadOut, ServesBehind}
+use Rattle.exchange_day.specs.Connecting.{ComesBehind, EndsExchange, EndsSo, GivesUpBehind, IsReadOut, ServesBehind}
 use Rattle.exchange_day.specs.Serving.{EndsConn, EndsReadOut, EndsRoster}
 use Rattle.exchange_day.proofs.Disks.{counts_later, none_among}
 

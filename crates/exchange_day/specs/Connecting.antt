@@ -13,6 +13,7 @@ use Rattle.exchange_http.specs.Serving.{EndsWith, IsMomentOf}
 use Rattle.exchange_messages.specs.Courses.{AnswersOn, Course, GivesUpOn, begun}
 use Rattle.fan_out.specs.declared.lane.Lane.{Lane}
 use Rattle.http_connection.specs.declared.conn.ConnEnd.{ConnEnd}
+use Rattle.http_service.specs.Behind.{IsLeftBehind}
 use Rattle.http_service.specs.declared.limits.TheConstants.{REQUEST_LIMIT}
 use Rattle.roster_links.specs.RosterLinks.{AreRosterLanes, WorksByTexts}
 use Rattle.roster_links.specs.declared.link.RosterLink.{RosterLink}
@@ -31,21 +32,6 @@ use Rattle.exchange_day.specs.OnDisk.{ServesTogether}
 -- where the source tells its bytes, the first of them are a line of this roster's, and what comes behind it
 abbrev pub ComesBehind : Roster → Option Tape → Option Tape → Type 0
 ComesBehind r tape behind = WhereTold tape behind (λ before rest. (line : List ℕ) × HasNoNewline line × IsShortRoster line r × (before.left ≡ ended line ++ rest.left))
-
--- what of a rest is left in the source where the connection ended so: all of it at a fault of the source, and else all but
--- at most one piece, which was taken with the line
-abbrev pub IsLeftAtEnd : ConnEnd → List ℕ → List ℕ → Type 0
-IsLeftAtEnd ConnEnd.Closed rest left = LeftBehind rest left
-IsLeftAtEnd ConnEnd.Cut rest left = LeftBehind rest left
-IsLeftAtEnd (ConnEnd.Refused fault) rest left = LeftBehind rest left
-IsLeftAtEnd ConnEnd.ReadFault rest left = left ≡ rest
-IsLeftAtEnd ConnEnd.WriteFault rest left = LeftBehind rest left
-IsLeftAtEnd ConnEnd.Spent rest left = LeftBehind rest left
-IsLeftAtEnd ConnEnd.OutOfMemory rest left = LeftBehind rest left
-
--- the same where the source tells its bytes, of what came behind the line
-abbrev pub IsLeftBehind : ConnEnd → Option Tape → Option Tape → Type 0
-IsLeftBehind end behind tape = WhereTold behind tape (λ rest now. IsLeftAtEnd end rest.left now.left)
 
 -- the ends of a connection that was read to its end
 abbrev pub IsReadOut : ConnEnd → Type 0

@@ -2,7 +2,7 @@
 use Rattle.std.specs.Prelude.{◌≡◌, ◌⊎◌, ℕ, List, [], length, Option, Some}
 use Rattle.adx_io.specs.Disks.{Each, LeavesOnly}
 use Rattle.adx_desk.specs.Histories.{DeskTerms, IsHistoryOf, WithOrWithout}
-use Rattle.adx_desk.specs.Openings.{StandsAsOneOf}
+use Rattle.adx_desk.specs.Openings.{StandsAsRead}
 use Rattle.day_rules.specs.declared.entry.Entry.{Entry}
 use Rattle.day_rules.specs.Runs.{AreTurns}
 use Rattle.exchange_http.specs.Records.{CountsAmong, IsLeftInDoubt, StandsInRunFrom}
@@ -17,10 +17,10 @@ pub record KeepsHistory (images : List ℕ → Type 0) (terms : DeskTerms) (star
   pub doubted : (tail ≡ []) ⊎ IsLeftInDoubt terms.day start told tail
   pub each : Each images (WithOrWithout terms (history_after terms.day start told) tail)
 
--- what a crash at some moment of a day leaves: the history of an image from before it; or one of its run, alone or with a
--- record of the run at that history
-abbrev pub StandsAmong : DeskTerms → (List ℕ → Type 0) → List Entry → List Told → List ℕ → Type 0
-StandsAmong terms images start told file = StandsAsOneOf terms images file ⊎ StandsInRunFrom terms start [] told file
+-- what a crash at some moment of a day leaves: an image from before it, or a file that stands for what was read; or one of
+-- its run, alone or with a record of the run at that history
+abbrev pub StandsAmong : DeskTerms → (List ℕ → Type 0) → Option (List ℕ) → List Entry → List Told → List ℕ → Type 0
+StandsAmong terms images reads start told file = StandsAsRead terms images reads file ⊎ StandsInRunFrom terms start [] told file
 
 -- A day that was served on a disk, from a history, with these calls, whose notices may have been written together.
 pub record ServesTogether {D : Type 0} (faults : D → ℕ) (reads : D → Option (List ℕ)) (may_leave : D → List ℕ → Type 0) (moment : D → ℕ) (left_since : D → ℕ → List ℕ → Type 0) (terms : DeskTerms) (start : List Entry) (told : List Told) (old new : D) : Type 0 where
@@ -35,5 +35,6 @@ pub record ServesTogether {D : Type 0} (faults : D → ℕ) (reads : D → Optio
   pub full : FullEach terms start told
   -- Where the disk tells what it reads, it keeps the history of the run now,
   pub keeps : (file : List ℕ) → reads old ≡ Some file → KeepsHistory (may_leave new) terms start told
-  -- and a crash at any moment leaves the history of an image from before, or one of the run, with at most one record.
-  pub any_moment : (file : List ℕ) → reads old ≡ Some file → LeavesOnly moment left_since old new (StandsAmong terms (may_leave old) start told)
+  -- and a crash at any moment leaves an image from before, the history that was read, or one of the run, with at most one
+  -- record.
+  pub any_moment : (file : List ℕ) → reads old ≡ Some file → LeavesOnly moment left_since old new (StandsAmong terms (may_leave old) (reads old) start told)

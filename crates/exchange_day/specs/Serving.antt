@@ -8,9 +8,10 @@ use Rattle.exchange_http.specs.Serving.{IsMomentOf, ServesConnection}
 use Rattle.fan_out.specs.declared.lane.Lane.{Lane}
 use Rattle.fan_out.specs.Lanes.{Outcome}
 use Rattle.http_connection.specs.declared.conn.ConnEnd.{ConnEnd}
+use Rattle.http_service.specs.Behind.{IsLeftBehind}
 use Rattle.script_day.specs.Endings.{LeftBehind}
 use Rattle.script_day.specs.declared.ending.Ending.{Ending}
-use Rattle.exchange_day.specs.Connecting.{GivesUpBehind, IsLeftBehind, ServesBehind}
+use Rattle.exchange_day.specs.Connecting.{GivesUpBehind, ServesBehind}
 
 -- how a run ends that was read to the end of its connection, on a desk that counted so many faults of its disk
 pub record EndsReadOut (faults : ℕ) (result : Result (Unit {0}) Ending) : Type 0 where

@@ -8,7 +8,5 @@
 #![tactic(auto)]
 
 mod serving;
-#[cfg(test)]
-mod tests;
 
 pub use serving::serve_exchange;

@@ -16,13 +16,15 @@ use Rattle.http_connection.specs.declared.conn.ConnEnd.{ConnEnd}
 use Rattle.http_connection.specs.declared.conn.Message.{Message}
 use Rattle.http_grammar.specs.Requests.{is_kept}
 use Rattle.http_grammar.specs.declared.fault.HttpFault.{HttpFault}
-use Rattle.http_service.specs.Connections.{Brings, Gave, GoOn, IsAny}
+use Rattle.http_service.specs.Connections.{Brings, Gave, GoOn}
 use Rattle.http_service.specs.Steps.{BringsOne}
 use Rattle.http_service.specs.declared.limits.TheConstants.{MESSAGE_LIMIT, REQUEST_LIMIT}
-use Rattle.http_service.proofs.Lists.{kept_more, requests_more}
+use Rattle.http_service.proofs.Lists.{kept_more}
+use Rattle.http_service.proofs.Running.{brings_last, brings_more, brings_to}
 use Rattle.http_service.proofs.Steps.{served_step}
 use Rattle.http_service.proofs.Fronts.{requests_front}
 use Rattle.exchange_http.specs.Running.{CameAndStay, CameSo, CameToFault, Coming, IsUnderWay, MayFail, before_one, ended, more}
+use Rattle.exchange_http.specs.Serving.{IsAny}
 use Rattle.exchange_http.specs.declared.over.Over.{Over}
 
 -- a message was read: it is the one that the bytes bring, where they are told
@@ -31,16 +33,6 @@ pub brings_one : (c c_now : ConnState) (tape tape_now : Option Tape) (m : Messag
 brings_one c c_now tape tape_now m sound answers =
     let step = served_step {S = Unit {0}} (λ s r a body next. ⊥) (λ s r next. Shows m r) c c_now tape tape_now None None tt tt m (Some ConnEnd.OutOfMemory) sound answers (λ r shows. (shows, refl)) in
     (step.0, step.1, step.2.0)
-
--- one message more came
-came_more : (limit : ℕ) (ahead ahead_now : List ℕ) (tape tape_old tape_now : Option Tape) (ms : List Request) (r : Request) → WhereTold tape tape_old (λ o n. AreRequests limit o.left ms (ahead ++ n.left)) → BringsOne limit ahead ahead_now tape_old tape_now r
-    → WhereTold tape tape_now (λ o n. AreRequests limit o.left (ms ++ r ∷ []) (ahead_now ++ n.left))
-came_more limit ahead ahead_now None None None ms r are one = refl
-came_more limit ahead ahead_now None None (Some n) ms r are one = absurd (cc one)
-came_more limit ahead ahead_now None (Some o) tape_now ms r are one = absurd (cc are)
-came_more limit ahead ahead_now (Some t) None tape_now ms r are one = absurd are
-came_more limit ahead ahead_now (Some t) (Some o) None ms r are one = absurd one
-came_more limit ahead ahead_now (Some t) (Some o) (Some n) ms r are one = requests_more limit t.left ms (ahead ++ o.left) r (ahead_now ++ n.left) are one
 
 -- of the bytes behind the messages this is so
 came_with : (limit : ℕ) (ahead : List ℕ) (tape tape_old tape_now : Option Tape) (ms : List Request) (P : List ℕ → Type 0) (Q : Tape → List ℕ → Type 0) → WhereTold tape tape_old (λ o n. AreRequests limit o.left ms (ahead ++ n.left)) → Advances tape_old tape_now
@@ -94,11 +86,13 @@ module _ (tape tape_old tape_now : Option Tape) (ahead : List ℕ) (count : ℕ)
       let on = stay_and came less advances in (
         on.0,
         on.1,
+        brings_to REQUEST_LIMIT ms r ahead ahead_now tape tape_old tape_now came.are one,
         record {
           many = omega (arith, length-append ms (r ∷ []), came.many);
           few = omega (arith, less);
+          fits = one.fits;
           stay = kept_more ms r came.stay kept;
-          are = came_more REQUEST_LIMIT ahead ahead_now tape tape_old tape_now ms r came.are one;
+          are = brings_more REQUEST_LIMIT ms r ahead ahead_now tape tape_old tape_now came.are one;
         },
       )
 
@@ -106,19 +100,9 @@ module _ (tape tape_old tape_now : Option Tape) (ahead : List ℕ) (count : ℕ)
   pub next_closes : (ahead_now : List ℕ) (r : Request) → CameAndStay tape tape_old ahead count ms → count < MESSAGE_LIMIT → BringsOne REQUEST_LIMIT ahead ahead_now tape_old tape_now r → Advances tape_old tape_now → is_kept r.head ≡ false
       → CameSo tape tape_now (before_one r (ended Over.Closed)) ms
   next_closes ahead_now r came less one advances closes =
-      let on = stay_and came less advances in (
-        on.0,
-        on.1,
-        inr (
-          record { before = ms; last = r; split = refl; go_on = on.0; closes = closes },
-          held_on tape tape_now (ms ++ r ∷ []) (came_more REQUEST_LIMIT ahead ahead_now tape tape_old tape_now ms r came.are one),
-        ),
-      )
-    where
-      held_on : (t n : Option Tape) (l : List Request) → WhereTold t n (λ o a. AreRequests REQUEST_LIMIT o.left l (ahead_now ++ a.left)) → Brings REQUEST_LIMIT t n l IsAny
-      held_on None n l w = w
-      held_on (Some t) None l w = w
-      held_on (Some t) (Some n) l w = (ahead_now, w, tt)
+      let on = stay_and came less advances in
+      let last = brings_to REQUEST_LIMIT ms r ahead ahead_now tape tape_old tape_now came.are one in
+      (on.0, on.1, last, inr (record { before = ms; last = r; split = refl; go_on = on.0; closes = closes }, last))
 
   -- the source ended
   pub none_more : (ahead_now : List ℕ) → CameAndStay tape tape_old ahead count ms → count < MESSAGE_LIMIT → WhereTold tape_old tape_now (λ o n. GivesMessage REQUEST_LIMIT (ahead ++ o.left) (Ok None) (ahead_now ++ n.left)) → Advances tape_old tape_now
@@ -172,16 +156,11 @@ module _ (tape tape_old tape_now : Option Tape) (ahead : List ℕ) (count : ℕ)
 
 -- as many came as may
 pub all_came : (tape tape_now : Option Tape) (ahead : List ℕ) (ms : List Request) → CameAndStay tape tape_now ahead MESSAGE_LIMIT ms → CameSo tape tape_now (ended Over.Spent) ms
-all_came tape tape_now ahead ms came = (record { kept = came.stay; many = came.many }, held_on tape tape_now came.are)
-  where
-    held_on : (t n : Option Tape) → WhereTold t n (λ o a. AreRequests REQUEST_LIMIT o.left ms (ahead ++ a.left)) → Brings REQUEST_LIMIT t n ms IsAny
-    held_on None n w = w
-    held_on (Some t) None w = w
-    held_on (Some t) (Some n) w = (ahead, w, tt)
+all_came tape tape_now ahead ms came = (record { kept = came.stay; many = came.many }, brings_last REQUEST_LIMIT ms ahead tape tape_now came.fits came.are)
 
 -- none came yet
 pub none_came : (tape : Option Tape) → CameAndStay tape tape [] 0 []
-none_came tape = record { many = refl; few = omega arith; stay = All-nil (λ (m : Request). is_kept m.head ≡ true); are = same tape }
+none_came tape = record { many = refl; few = omega arith; fits = omega arith; stay = All-nil (λ (m : Request). is_kept m.head ≡ true); are = same tape }
   where
     same : (t : Option Tape) → WhereTold t t (λ o n. AreRequests REQUEST_LIMIT o.left [] ([] ++ n.left))
     same None = refl

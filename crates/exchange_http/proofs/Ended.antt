@@ -10,7 +10,7 @@ use Rattle.fan_out.specs.Lanes.{Outcome}
 use Rattle.http_connection.specs.Messages.{RefusesRequest, Request}
 use Rattle.http_connection.specs.declared.conn.ConnEnd.{ConnEnd}
 use Rattle.http_grammar.specs.declared.fault.HttpFault.{HttpFault}
-use Rattle.http_service.specs.Connections.{Answering, Brings, GoOn, HasCauses, Refuses, TookFront}
+use Rattle.http_service.specs.Connections.{Answering, Brings, FailsRefusing, GoOn, HasCauses, Refuses, TookFront}
 use Rattle.http_service.specs.Replies.{fault_status, refusal_bytes}
 use Rattle.http_service.specs.Steps.{WritesRefusal}
 use Rattle.http_service.specs.declared.limits.TheConstants.{REQUEST_LIMIT}
@@ -42,24 +42,24 @@ refused_for tape tape_now ms HttpFault.BadChunk status answered came = came
 refused_for tape tape_now ms HttpFault.Cut status answered came = came
 refused_for tape tape_now ms HttpFault.Coding status answered came = came
 
-refuses : {S : Type 0} (answers : Answering S) (Takes : Option (List ℕ) → Option (List ℕ) → List ℕ → Type 0) (tape tape_now : Option Tape) (before held sunk : Option (List ℕ)) (s now : S) (ms : List Request) (least waiting : ℕ) (fault : HttpFault)
-    → Replied answers s now ms before held least waiting → CameToFault tape tape_now ms fault → (w : WritesRefusal Takes held sunk fault)
-    → ((out : List ℕ) → held ≡ append_known before out → Takes before sunk (out ++ refusal_bytes w.status)) → Refuses answers Takes REQUEST_LIMIT tape tape_now before sunk s now fault
-refuses answers Takes tape tape_now before held sunk s now ms least waiting fault p came w takes =
-    let all = all_served answers s now ms before held held least waiting p refl in
-    let for = refused_for tape tape_now ms fault w.status w.answered came in
-    record { ms = ms; out = all.out; status = w.status; go_on = for.0; replies = all.replies; answered = w.answered; took = takes all.out all.took; brings = for.1 }
-
 took_behind : (before held sunk : Option (List ℕ)) (refusal out : List ℕ) → Took held sunk refusal → held ≡ append_known before out → Took before sunk (out ++ refusal)
 took_behind before held sunk refusal out took is = took ∙ ap (λ (h : Option (List ℕ)). append_known h refusal) is ∙ known_more before out refusal
 
-front_behind : (before held sunk : Option (List ℕ)) (refusal out : List ℕ) → TookFront held sunk refusal → held ≡ append_known before out → TookFront before sunk (out ++ refusal)
-front_behind before held sunk refusal out (front, back, split, took) is = (
-  out ++ front,
-  back,
-  ap (λ (b : List ℕ). out ++ b) split ∙ sym (append_assoc out front back),
-  took_behind before held sunk front out took is,
-)
+refuses : {S : Type 0} (answers : Answering S) (tape tape_now : Option Tape) (before held sunk : Option (List ℕ)) (s now : S) (ms : List Request) (least waiting : ℕ) (fault : HttpFault)
+    → Replied answers s now ms before held least waiting → CameToFault tape tape_now ms fault → WritesRefusal Took held sunk fault → Refuses answers REQUEST_LIMIT tape tape_now before sunk s now fault
+refuses answers tape tape_now before held sunk s now ms least waiting fault p came w =
+    let all = all_served answers s now ms before held held least waiting p refl in
+    let for = refused_for tape tape_now ms fault w.status w.answered came in
+    record { ms = ms; out = all.out; status = w.status; go_on = for.0; replies = all.replies; answered = w.answered; took = took_behind before held sunk (refusal_bytes w.status) all.out w.took all.took; brings = for.1 }
+
+-- or the sink failed within it
+fails_refusing : {S : Type 0} (answers : Answering S) (tape tape_now : Option Tape) (before held sunk : Option (List ℕ)) (s now : S) (ms : List Request) (least waiting : ℕ) (fault : HttpFault)
+    → Replied answers s now ms before held least waiting → CameToFault tape tape_now ms fault → WritesRefusal TookFront held sunk fault → FailsRefusing answers REQUEST_LIMIT tape tape_now before sunk s now fault
+fails_refusing answers tape tape_now before held sunk s now ms least waiting fault p came w =
+    let all = all_served answers s now ms before held held least waiting p refl in
+    let for = refused_for tape tape_now ms fault w.status w.answered came in
+    let front = w.took in
+    record { ms = ms; out = all.out; status = w.status; go_on = for.0; replies = all.replies; answered = w.answered; took = (front.0, front.1, front.2, took_behind before held sunk front.0 all.out front.3 all.took); brings = for.1 }
 
 -- an end as a result
 abbrev as_end : ConnEnd → Result ConnEnd Failed
@@ -95,8 +95,8 @@ module _ {D L : Type 0} (faults : D → ℕ) (may_leave : D → List ℕ → Typ
         let came = none_late faults may_leave moment left_since Works IsMoment r start lanes tape tape_now (ended (Over.Fault fault)) before now lanes_now held least waiting w in (
           w.told,
           w.runs,
-          subst (λ (g : HttpFault). Refuses answers Took REQUEST_LIMIT tape tape_now before sunk (begun lanes) c g) (sym e.0)
-              (refuses answers Took tape tape_now before held sunk (begun lanes) c w.requests least waiting fault w.replied came e.1 (λ out is. took_behind before held sunk (refusal_bytes (WritesRefusal.status e.1)) out (WritesRefusal.took e.1) is)),
+          subst (λ (g : HttpFault). Refuses answers REQUEST_LIMIT tape tape_now before sunk (begun lanes) c g) (sym e.0)
+              (refuses answers tape tape_now before held sunk (begun lanes) c w.requests least waiting fault w.replied came e.1),
         )
 
     fault_fails : (fault : HttpFault) → Over_Way (Over.Fault fault) → WritesRefusal TookFront held sunk fault → Over_Ends ConnEnd.WriteFault
@@ -104,7 +104,7 @@ module _ {D L : Type 0} (faults : D → ℕ) (may_leave : D → List ℕ → Typ
         let answers = AnswersOn Works IsMoment r start.desk.history in
         let c : Course L = record { told = w.told; lanes = lanes_now } in
         let came = none_late faults may_leave moment left_since Works IsMoment r start lanes tape tape_now (ended (Over.Fault fault)) before now lanes_now held least waiting w in
-        (w.told, w.runs, inr (fault, refuses answers TookFront tape tape_now before held sunk (begun lanes) c w.requests least waiting fault w.replied came e (λ out is. front_behind before held sunk (refusal_bytes e.status) out e.took is)))
+        (w.told, w.runs, inr (fault, fails_refusing answers tape tape_now before held sunk (begun lanes) c w.requests least waiting fault w.replied came e))
 
     -- all replies were put, and then it ended
     pub over_ends : (over : Over) (end : ConnEnd) → Over_Way over → EndsOver held sunk over (Ok end) → Over_Ends end

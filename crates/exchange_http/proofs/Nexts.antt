@@ -1,5 +1,5 @@
 -- What the next message of a connection gives, by what taking it gives.
-use Rattle.std.proofs.Common.{◌≡◌, ℕ, suc, ◌<◌, List, [], ◌++◌, Bool, true, false, Option, Some, None, Ok, Err, refl, sym, ap, arith, subst, append-nil}
+use Rattle.std.proofs.Common.{◌≡◌, ℕ, suc, ◌<◌, ◌≤◌, List, [], ◌++◌, length, Bool, true, false, Option, Some, None, Ok, Err, refl, sym, ap, arith, subst, append-nil}
 use Rattle.std.proofs.lemmas.List.Elements.{All-nil}
 use Rattle.adx_io.specs.Streams.{Tape, WhereTold}
 use Rattle.adx_desk.specs.Desks.{OnDisk}
@@ -11,7 +11,7 @@ use Rattle.fan_out.specs.Lanes.{Outcome}
 use Rattle.http_bodies.specs.Steps.{Advances}
 use Rattle.http_connection.specs.Answers.{GivesMessage}
 use Rattle.http_connection.specs.Messages.{IsRequestThen, IsUnfinishedRequest, Request}
-use Rattle.http_connection.specs.State.{ConnState}
+use Rattle.http_connection.specs.State.{ConnState, room_of}
 use Rattle.http_connection.specs.declared.conn.ConnEnd.{ConnEnd}
 use Rattle.http_connection.proofs.Fronts.{request_stays}
 use Rattle.http_grammar.specs.Requests.{is_kept}
@@ -29,9 +29,9 @@ use Rattle.exchange_http.proofs.RunsCalls.{runs_none}
 use Rattle.exchange_http.proofs.UnderWay.{Way, may_fail}
 
 -- a message that the held bytes begin with comes first, whatever the source brings behind them
-pub held_brings : (limit : ℕ) (ahead ahead_now : List ℕ) (r : Request) (tape : Option Tape) → IsRequestThen limit ahead r ahead_now → BringsOne limit ahead ahead_now tape tape r
-held_brings limit ahead ahead_now r None is = refl
-held_brings limit ahead ahead_now r (Some t) is = request_stays limit ahead t.left r ahead_now is
+pub held_brings : (limit : ℕ) (ahead ahead_now : List ℕ) (r : Request) (tape : Option Tape) → length ahead_now ≤ room_of limit → IsRequestThen limit ahead r ahead_now → BringsOne limit ahead ahead_now tape tape r
+held_brings limit ahead ahead_now r None fits is = record { fits = fits; is = refl }
+held_brings limit ahead ahead_now r (Some t) fits is = record { fits = fits; is = request_stays limit ahead t.left r ahead_now is }
 
 pub stands_still : (tape : Option Tape) → Advances tape tape
 stands_still None = refl

@@ -14,15 +14,14 @@ use Rattle.fan_out.specs.declared.lane.Lane.{Lane}
 use Rattle.fan_out.specs.Lanes.{Outcome}
 use Rattle.http_connection.specs.Messages.{Request}
 use Rattle.http_connection.specs.declared.conn.ConnEnd.{ConnEnd}
-use Rattle.http_service.specs.Connections.{Answering, Brings, IsAny, Replies, Served}
+use Rattle.http_service.specs.Connections.{Answering, Replies, Served}
 use Rattle.http_service.specs.Replies.{reply_to}
 use Rattle.http_service.specs.declared.answer.Answer.{Answer}
-use Rattle.http_service.specs.declared.limits.TheConstants.{REQUEST_LIMIT}
 use Rattle.script_day.specs.Meanings.{Told}
 use Rattle.script_day.specs.OnDisk.{history_after}
 use Rattle.exchange_messages.specs.Courses.{AnswersOn, Course, begun, reply_of}
 use Rattle.exchange_http.specs.Gathered.{Moves, Replied, count_of}
-use Rattle.exchange_http.specs.Running.{AnswersHere, CameSo, Coming, GivesUpHere, MayFail, Waits, before_one}
+use Rattle.exchange_http.specs.Running.{AnswersHere, CameSo, Coming, GivesUpHere, Waits, before_one}
 use Rattle.exchange_messages.specs.Turns.{IsAnswered, LeavesUnmade, terms_by}
 use Rattle.exchange_http.proofs.Gathered.{fails_within, replied_more, replies_join}
 use Rattle.exchange_http.proofs.RunsCalls.{runs_none}
@@ -73,8 +72,8 @@ module _ {D L : Type 0} (faults : D → ℕ) (may_leave : D → List ℕ → Typ
         requests = w.requests ++ m ∷ [];
         late = [];
         runs = runs_join faults may_leave moment left_since start old new w.told h.told w.runs h.runs;
-        came = subst (CameSo tape tape_now coming) (sym (append-nil (w.requests ++ m ∷ []))) came.2;
-        cut = may_fail tape tape_now coming (w.requests ++ m ∷ []) came.2;
+        came = subst (CameSo tape tape_now coming) (sym (append-nil (w.requests ++ m ∷ []))) came.3;
+        cut = may_fail tape tape_now coming (w.requests ++ m ∷ []) came.3;
         waits = tt;
         stay = All-nil (λ (x : Request). is_kept x.head ≡ true);
         replied = replied_more answers (begun lanes) now next w.requests (m ∷ []) before held least waiting least_now waiting_now 1 held_now (reply_to m a body) w.replied moves (omega arith)
@@ -93,7 +92,7 @@ module _ {D L : Type 0} (faults : D → ℕ) (may_leave : D → List ℕ → Typ
       let next : Course L = record { told = w.told ++ h.told; lanes = lanes_new } in
       let came = none_late start lanes tape tape_now (before_one m coming) before old lanes_old held least waiting w in
       failed_within faults may_leave moment left_since Works IsMoment r start lanes tape tape_now before new lanes_new sunk (w.told ++ h.told) (w.requests ++ m ∷ [])
-      (runs_join faults may_leave moment left_since start old new w.told h.told w.runs h.runs) (may_fail tape tape_now coming (w.requests ++ m ∷ []) came.2)
+      (runs_join faults may_leave moment left_since start old new w.told h.told w.runs h.runs) (may_fail tape tape_now coming (w.requests ++ m ∷ []) came.3)
       (fails_within answers (begun lanes) now next w.requests (m ∷ []) before held least waiting least_now waiting_now 1 held_now sunk (reply_to m a body) front back left w.replied moves (omega arith)
       (one_replies start old new w.told lanes_old lanes_new m a body h (history_now faults may_leave moment left_since Works IsMoment r start old w.told w.runs terms)) split is at grown most)
 
@@ -116,13 +115,10 @@ module _ {D L : Type 0} (faults : D → ℕ) (may_leave : D → List ℕ → Typ
           inr (
             m,
             (h.told, lanes_new, subst (λ (e : List Entry). LeavesUnmade Works IsMoment r e lanes_old m h.told lanes_new) (history_now faults may_leave moment left_since Works IsMoment r start old w.told w.runs terms) h.left_unmade, refl),
-            brought tape tape_now coming (w.requests ++ m ∷ []) came.2,
+            came.2,
           ),
         ),
       )
-    where
-      brought : (tape tape_now : Option Tape) (c : Coming) (ms : List Request) → CameSo tape tape_now c ms → Brings REQUEST_LIMIT tape tape_now ms IsAny
-      brought tape tape_now c ms came = let may : MayFail tape tape_now ms = may_fail tape tape_now c ms came in may.1
 
   -- none of its calls was taken
   pub none_made : (now : OnDisk D) (lanes_now : List (Lane L)) (m : Request) → IsLegal now.desk.terms.day now.desk.history → ((c : List ℕ) → left_since now.disk (moment now.disk) c → may_leave now.disk c)

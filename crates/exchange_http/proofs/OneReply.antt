@@ -58,6 +58,11 @@ module _ (r : Roster) where
   one_answer (Answer.Ticked ended) about said other is also = is ∙ sym also
   one_answer (Answer.Reused kept given) about said other is also = is ∙ sym also
   one_answer (Answer.DayFull which count) about said other is also = is ∙ sym also
+  one_answer Answer.Budgeted about said other is also = is ∙ sym also
+  one_answer (Answer.BudgetReused kept) about said other is also = is ∙ sym also
+  one_answer (Answer.Late last) about said other is also = is ∙ sym also
+  one_answer (Answer.BelowCommitted committed) about said other is also = is ∙ sym also
+  one_answer Answer.NoCampaign about said other is also = is ∙ sym also
 
   one_reply_by : (history : List Entry) (t : Told) (fault : Option Fault) (said other : Reply) → RepliesBy r history t fault said → RepliesBy r history t fault other → said ≡ other
   one_reply_by history t None said other is also = one_answer (reply (terms_by r) history t.call).answer (ask_told (after_turn (terms_by r) history (turn_of t)) (reply (terms_by r) history t.call).answer) said other is also

@@ -18,7 +18,7 @@ use Rattle.http_connection.specs.Messages.{Request, AreRequests, RefusesRequest}
 use Rattle.http_connection.specs.declared.conn.ConnEnd.{ConnEnd}
 use Rattle.http_grammar.specs.Requests.{is_kept}
 use Rattle.http_grammar.specs.declared.fault.HttpFault.{HttpFault}
-use Rattle.http_service.specs.Connections.{AreSpent, Brings, CloseLast, GoOn, IsAny}
+use Rattle.http_service.specs.Connections.{AreSpent, Brings, BringsLast, CloseLast, GoOn}
 use Rattle.http_service.specs.declared.limits.TheConstants.{MESSAGE_LIMIT, REQUEST_LIMIT}
 use Rattle.script_day.specs.Meanings.{Told}
 use Rattle.script_day.specs.OnDisk.{history_after}
@@ -28,6 +28,7 @@ use Rattle.exchange_messages.specs.Meanings.{Means, notifies}
 use Rattle.exchange_http.specs.Records.{RunsOn}
 use Rattle.exchange_http.specs.Running.{AreOutcomes, CameSo, CameToFault, Coming, EndsHere, FlushFails, Flushes, IsUnderWay, MayFail, StayTo, TakesNotices, Waits, before_one, ended, more, outcomes_bytes, told_all}
 use Rattle.exchange_messages.specs.Turns.{terms_by}
+use Rattle.exchange_http.specs.Serving.{IsAny}
 use Rattle.exchange_http.specs.declared.over.Over.{Over}
 use Rattle.exchange_http.proofs.Gathered.{fails_within, known_none, replied_more}
 use Rattle.exchange_http.proofs.NoticeReplies.{notices_replied}
@@ -41,6 +42,11 @@ any_rest : (tape tape_now : Option Tape) (ms : List Request) (P : List ℕ → T
 any_rest None tape_now ms P b = b
 any_rest (Some o) None ms P b = b
 any_rest (Some o) (Some n) ms P b = (b.0, b.1, tt)
+
+any_last : (tape tape_now : Option Tape) (ms : List Request) → BringsLast REQUEST_LIMIT tape tape_now ms → Brings REQUEST_LIMIT tape tape_now ms IsAny
+any_last None tape_now ms b = b
+any_last (Some o) None ms b = b
+any_last (Some o) (Some n) ms b = (b.0, b.2, tt)
 
 -- what is held is beyond the messages
 held_beyond : (tape tape_now : Option Tape) (ahead : List ℕ) (ms : List Request) → WhereTold tape tape_now (λ o n. AreRequests REQUEST_LIMIT o.left ms (ahead ++ n.left)) → Brings REQUEST_LIMIT tape tape_now ms IsAny
@@ -67,8 +73,8 @@ fault_may_fail tape tape_now ms HttpFault.Coding came = (inl came.0, any_rest ta
 pub may_fail : (tape tape_now : Option Tape) (coming : Coming) (ms : List Request) → CameSo tape tape_now coming ms → MayFail tape tape_now ms
 may_fail tape tape_now (more ahead count) ms came = (stay_on ms count came.many came.few came.stay, held_beyond tape tape_now ahead ms came.are)
 may_fail tape tape_now (ended Over.Closed) ms (inl came) = (inl came.0, any_rest tape tape_now ms (λ rest. rest ≡ []) came.1)
-may_fail tape tape_now (ended Over.Closed) ms (inr came) = (inr (inl came.0), came.1)
-may_fail tape tape_now (ended Over.Spent) ms came = (inr (inr came.0), came.1)
+may_fail tape tape_now (ended Over.Closed) ms (inr came) = (inr (inl came.0), any_last tape tape_now ms came.1)
+may_fail tape tape_now (ended Over.Spent) ms came = (inr (inr came.0), any_last tape tape_now ms came.1)
 may_fail tape tape_now (ended (Over.Fault fault)) ms came = fault_may_fail tape tape_now ms fault came
 may_fail tape tape_now (before_one m coming) ms came = (inl came.0, came.1)
 
@@ -188,7 +194,7 @@ module _ {D L : Type 0} (faults : D → ℕ) (may_leave : D → List ℕ → Typ
     requests = w.requests;
     late = w.late ++ m ∷ [];
     runs = w.runs;
-    came = subst (CameSo tape tape_now coming) (append_assoc w.requests w.late (m ∷ [])) w.came.2;
+    came = subst (CameSo tape tape_now coming) (append_assoc w.requests w.late (m ∷ [])) w.came.3;
     cut = w.cut;
     waits = zip_more Waits w.late notices m x w.waits means;
     stay = stay_more w.late m close w.stay kept;

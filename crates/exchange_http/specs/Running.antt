@@ -17,10 +17,11 @@ use Rattle.deal_floor.specs.declared.roster.Roster.{Roster}
 use Rattle.fan_out.specs.declared.lane.Lane.{Lane}
 use Rattle.fan_out.specs.Lanes.{Outcome}
 use Rattle.http_connection.specs.Messages.{Request, AreRequests, IsUnfinishedRequest, RefusesRequest}
+use Rattle.http_connection.specs.State.{room_of}
 use Rattle.http_connection.specs.declared.conn.ConnEnd.{ConnEnd}
 use Rattle.http_grammar.specs.Requests.{is_kept}
 use Rattle.http_grammar.specs.declared.fault.HttpFault.{HttpFault}
-use Rattle.http_service.specs.Connections.{AreSpent, Brings, CloseLast, Gave, GoOn, IsAny, TookFront}
+use Rattle.http_service.specs.Connections.{AreSpent, Brings, BringsLast, CloseLast, Gave, GoOn, TookFront}
 use Rattle.http_service.specs.Replies.{answer_bytes}
 use Rattle.http_service.specs.declared.limits.TheConstants.{MESSAGE_LIMIT, REQUEST_LIMIT}
 use Rattle.script_day.specs.Meanings.{Told}
@@ -31,7 +32,7 @@ use Rattle.exchange_messages.specs.Meanings.{Means, notifies}
 use Rattle.exchange_http.specs.Records.{RunsOn, call_by}
 use Rattle.exchange_messages.specs.Outcomes.{outcome_reply}
 use Rattle.exchange_messages.specs.Replies.{Reply}
-use Rattle.exchange_http.specs.Serving.{AreLanes, EndsWith}
+use Rattle.exchange_http.specs.Serving.{AreLanes, EndsWith, IsAny}
 use Rattle.exchange_messages.specs.Turns.{IsAnswered, LeavesUnmade, terms_by}
 use Rattle.exchange_http.specs.declared.over.Over.{Over}
 use Rattle.exchange_http.specs.declared.stop.Stop.{Stop}
@@ -96,25 +97,26 @@ CameToFault tape tape_now ms fault = GoOn ms × Brings REQUEST_LIMIT tape tape_n
 -- why no more messages are read
 abbrev pub CameToEnd : Option Tape → Option Tape → List Request → Over → Type 0
 CameToEnd tape tape_now ms Over.Closed =
-    (GoOn ms × Brings REQUEST_LIMIT tape tape_now ms (λ rest. rest ≡ [])) ⊎ (CloseLast ms × Brings REQUEST_LIMIT tape tape_now ms IsAny)
-CameToEnd tape tape_now ms Over.Spent = AreSpent ms × Brings REQUEST_LIMIT tape tape_now ms IsAny
+    (GoOn ms × Brings REQUEST_LIMIT tape tape_now ms (λ rest. rest ≡ [])) ⊎ (CloseLast ms × BringsLast REQUEST_LIMIT tape tape_now ms)
+CameToEnd tape tape_now ms Over.Spent = AreSpent ms × BringsLast REQUEST_LIMIT tape tape_now ms
 CameToEnd tape tape_now ms (Over.Fault fault) = CameToFault tape tape_now ms fault
 
 -- messages came, and their replies may fail
 abbrev pub MayFail : Option Tape → Option Tape → List Request → Type 0
 MayFail tape tape_now ms = (GoOn ms ⊎ (CloseLast ms ⊎ AreSpent ms)) × Brings REQUEST_LIMIT tape tape_now ms IsAny
 
--- these messages came, and may all stay
+-- these messages came, and may all stay; what is held beyond them is at most what a connection has room for
 pub record CameAndStay (tape tape_now : Option Tape) (ahead : List ℕ) (count : ℕ) (ms : List Request) : Type 0 where
   pub many : length ms ≡ count
   pub few : count ≤ MESSAGE_LIMIT
+  pub fits : length ahead ≤ room_of REQUEST_LIMIT
   pub stay : All (λ (m : Request). is_kept m.head ≡ true) ms
   pub are : WhereTold tape tape_now (λ o n. AreRequests REQUEST_LIMIT o.left ms (ahead ++ n.left))
 
 abbrev pub CameSo : Option Tape → Option Tape → Coming → List Request → Type 0
 CameSo tape tape_now (more ahead count) ms = CameAndStay tape tape_now ahead count ms
 CameSo tape tape_now (ended over) ms = CameToEnd tape tape_now ms over
-CameSo tape tape_now (before_one m coming) ms = GoOn ms × Brings REQUEST_LIMIT tape tape_now ms IsAny × CameSo tape tape_now coming (ms ++ m ∷ [])
+CameSo tape tape_now (before_one m coming) ms = GoOn ms × Brings REQUEST_LIMIT tape tape_now ms IsAny × BringsLast REQUEST_LIMIT tape tape_now (ms ++ m ∷ []) × CameSo tape tape_now coming (ms ++ m ∷ [])
 
 -- a stop as the end of a connection
 abbrev pub end_of : Stop → ConnEnd

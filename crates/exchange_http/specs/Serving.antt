@@ -1,6 +1,6 @@
 -- How an exchange serves a connection. This project's own.
 use Rattle.std.specs.Prelude.{◌≡◌, ◌⊎◌, ◌<◌, ◌≤◌, ◌^◌, ℕ, List, ◌++◌, length, map, All, Option, IfSome}
-use Rattle.adx_io.specs.Streams.{Tape, Took}
+use Rattle.adx_io.specs.Streams.{Tape}
 use Rattle.adx_desk.specs.Desks.{OnDisk}
 use Rattle.notice_batches.specs.declared.batch.TheConstants.{BATCH_LIMIT}
 use Rattle.deal_floor.specs.declared.roster.Roster.{Roster}
@@ -10,7 +10,7 @@ use Rattle.fan_out.specs.Lanes.{Outcome}
 use Rattle.http_connection.specs.Messages.{Request}
 use Rattle.http_connection.specs.declared.conn.ConnEnd.{ConnEnd}
 use Rattle.http_grammar.specs.declared.fault.HttpFault.{HttpFault}
-use Rattle.http_service.specs.Connections.{Answering, GivingUp, AreSpent, Brings, CloseLast, GoOn, IsAny, Refuses, Replies, TookFront, EndsWith as EndsService}
+use Rattle.http_service.specs.Connections.{Answering, GivingUp, AreSpent, Brings, CloseLast, FailsRefusing, GoOn, Replies, TookWithFront, EndsWith as EndsService}
 use Rattle.http_service.specs.declared.limits.TheConstants.{REQUEST_LIMIT}
 use Rattle.script_day.specs.Calls.{HasBooks}
 use Rattle.script_day.specs.Meanings.{turns_of}
@@ -26,6 +26,10 @@ pub record AreLanes {L : Type 0} (r : Roster) (lanes : List (Lane L)) : Type 0 w
   pub places : map (λ (l : Lane L). l.place) lanes ≡ r.bidders
   pub limits : All (λ (l : Lane L). l.conn.limit ≡ ANSWER_LIMIT) lanes
 
+-- nothing is said of the rest
+abbrev pub IsAny : List ℕ → Type 0
+IsAny rest = Unit {0}
+
 -- The sink failed within the replies. It took those to some messages, and a front of those to at most so many more as wait
 -- together, whose calls were taken.
 pub record FailsWaiting {S : Type 0} (answers : Answering S) (limit : ℕ) (tape tape_now : Option Tape) (held held_now : Option (List ℕ)) (s now : S) : Type 0 where
@@ -38,10 +42,11 @@ pub record FailsWaiting {S : Type 0} (answers : Answering S) (limit : ℕ) (tape
   pub may_come : GoOn (before ++ waiting) ⊎ (CloseLast (before ++ waiting) ⊎ AreSpent (before ++ waiting))
   pub replied : Replies answers s before out between
   pub to_reply : Replies answers between waiting due now
-  pub took : (front back : List ℕ) × (due ≡ front ++ back) × Took held held_now (out ++ front)
+  pub took : TookWithFront held held_now out due
   pub brings : Brings limit tape tape_now (before ++ waiting) IsAny
 
--- how a connection ended, whose replies may wait together
+-- How a connection ended, whose replies may wait together. Where the sink failed within the reply to a message that is
+-- refused, it took those to all messages before it.
 abbrev pub EndsWith : {S : Type 0} → Answering S → GivingUp S → ℕ → Option Tape → Option Tape → Option (List ℕ) → Option (List ℕ) → S → S → ConnEnd → Type 0
 EndsWith answers gives_up limit tape tape_now held held_now s now ConnEnd.Closed = EndsService answers gives_up limit tape tape_now held held_now s now ConnEnd.Closed
 EndsWith answers gives_up limit tape tape_now held held_now s now ConnEnd.Cut = EndsService answers gives_up limit tape tape_now held held_now s now ConnEnd.Cut
@@ -49,7 +54,7 @@ EndsWith answers gives_up limit tape tape_now held held_now s now (ConnEnd.Refus
 EndsWith answers gives_up limit tape tape_now held held_now s now ConnEnd.ReadFault = EndsService answers gives_up limit tape tape_now held held_now s now ConnEnd.ReadFault
 EndsWith answers gives_up limit tape tape_now held held_now s now ConnEnd.WriteFault =
     FailsWaiting answers limit tape tape_now held held_now s now
-    ⊎ ((fault : HttpFault) × Refuses answers TookFront limit tape tape_now held held_now s now fault)
+    ⊎ ((fault : HttpFault) × FailsRefusing answers limit tape tape_now held held_now s now fault)
 EndsWith answers gives_up limit tape tape_now held held_now s now ConnEnd.Spent = EndsService answers gives_up limit tape tape_now held held_now s now ConnEnd.Spent
 EndsWith answers gives_up limit tape tape_now held held_now s now ConnEnd.OutOfMemory = EndsService answers gives_up limit tape tape_now held held_now s now ConnEnd.OutOfMemory
 

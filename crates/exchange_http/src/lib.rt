@@ -11,8 +11,6 @@ mod asking;
 mod asks;
 mod clock;
 mod ending;
-#[cfg(test)]
-mod fault_tests;
 mod floor;
 mod keeping;
 mod laws;
@@ -24,8 +22,6 @@ mod outlet;
 mod over;
 mod serving;
 mod stop;
-#[cfg(test)]
-mod tests;
 mod waiting;
 
 pub use asks::make_ask;

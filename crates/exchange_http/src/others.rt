@@ -8,7 +8,7 @@ ghost use Rattle.fan_out.specs.declared.lane.Lane.{Lane as LaneOf};
 ghost use Rattle.http_connection.specs.Answers.{Shows};
 ghost use Rattle.http_connection.specs.Messages.{Request};
 ghost use Rattle.http_service.specs.Connections.{TookFront};
-ghost use Rattle.http_service.specs.Replies.{is_head, reply_to};
+ghost use Rattle.http_service.specs.Replies.{reply_to};
 ghost use Rattle.exchange_http.specs.Running.{Coming, EndsHere, IsFloor, IsSettled, IsUnderWay, StopCauses, before_one, end_of};
 ghost use Rattle.exchange_http.specs.Serving.{IsMomentOf};
 ghost use Rattle.exchange_messages.specs.Wants.{WantsOther};
@@ -18,25 +18,13 @@ use crate::floor::Floor;
 use crate::keeping::{Keeping, put_all_out};
 use crate::outlet::Outlet;
 use crate::stop::Stop;
-use adx_http::{Message, Verb, WriteFault};
+use adx_http::{Message, WriteFault};
 use adx_io::Disk;
 use adx_links::Link;
 use adx_units::OutOfMemory;
 use exchange_messages::Other;
-use http_service::Answer;
+use http_service::{Answer, asks_no_body};
 use std::alloc::Global;
-
-/// Whether a message asks for no body.
-fn asks_no_body(verb: Verb) -> bool
-    ensures { result ≡ is_head verb }
-{
-    match verb {
-        Verb::Head => true,
-        Verb::Get => false,
-        Verb::Post => false,
-        Verb::Other => false,
-    }
-}
 
 /// Gathers the reply to a message.
 fn gather_reply<O: Outlet>(

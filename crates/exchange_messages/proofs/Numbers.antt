@@ -46,6 +46,7 @@ at_split (Entry.Win n ∷ es) zero a at = absurd (cc at)
 at_split (Entry.Bill n ∷ es) zero a at = absurd (cc at)
 at_split (Entry.Loss n ∷ es) zero a at = absurd (cc at)
 at_split (Entry.Expire now ∷ es) zero a at = absurd (cc at)
+at_split (Entry.Budget campaign change budget ∷ es) zero a at = absurd (cc at)
 at_split (e ∷ es) (suc place) a at = let s = at_split es place a at in (e ∷ s.0, s.1, ap (λ xs. e ∷ xs) s.2)
 
 fits : (first before awards bids offers sold sales limit most cap : ℕ) → before ≡ first → awards ≡ before → awards ≤ bids → bids + offers ≤ limit → limit ≤ most → sold ≡ sales → sales ≤ offers → most ≤ cap → first + sold ≤ cap

@@ -4,7 +4,7 @@ use Rattle.std.specs.Prelude.{◌≡◌, ◌⊎◌, ℕ, List, [], ◌∷◌, ma
 use Rattle.adx_json.specs.Tree.{Tree}
 use Rattle.adx_json.specs.Spelling.{spelling}
 use Rattle.adx_desk.specs.Rosters.{desk_terms}
-use Rattle.answer_lines.specs.Answers.{answer_line, ask_told, conflict_line, dayfull_line, reused_line}
+use Rattle.answer_lines.specs.Answers.{answer_line, ask_told, below_line, budgetreused_line, conflict_line, dayfull_line, late_line, reused_line}
 use Rattle.answer_lines.specs.Table.{closing_table}
 use Rattle.answer_lines.specs.declared.faults.Fault.{Fault}
 use Rattle.ask_making.specs.Making.{ask_of}
@@ -70,6 +70,11 @@ AnswerReplies r Answer.Unknown about said = said ≡ with_status 404 (answer_lin
 AnswerReplies r (Answer.Ticked ended) about said = said ≡ no_content
 AnswerReplies r (Answer.Reused kept given) about said = said ≡ with_status 409 (reused_line kept given)
 AnswerReplies r (Answer.DayFull which count) about said = said ≡ with_status 503 (dayfull_line which count)
+AnswerReplies r Answer.Budgeted about said = said ≡ no_content
+AnswerReplies r (Answer.BudgetReused kept) about said = said ≡ with_status 409 (budgetreused_line kept.0)
+AnswerReplies r (Answer.Late last) about said = said ≡ with_status 409 (late_line last)
+AnswerReplies r (Answer.BelowCommitted committed) about said = said ≡ with_status 409 (below_line committed.0)
+AnswerReplies r Answer.NoCampaign about said = said ≡ with_status 404 (answer_line r.campaigns Answer.NoCampaign None)
 
 -- the reply to a call after a history: by the answer that the history gives it, or by its fault
 abbrev pub RepliesBy : Roster → List Entry → Told → Option Fault → Reply → Type 0

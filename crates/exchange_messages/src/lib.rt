@@ -12,8 +12,6 @@ mod path;
 mod refusal;
 mod replies;
 mod sales;
-#[cfg(test)]
-mod tests;
 mod wanted;
 
 pub use outcomes::notice_reply;

@@ -8,7 +8,8 @@ use http_service::{Answer as HttpAnswer, plain};
 use notice_book::End;
 
 /// The reply to a notice by its outcome, with its body: the day's answer, or None where the disk's fault gave the notice
-/// up. No notice is answered `Reused` or `DayFull`: the reply to one that is has the status, and no body.
+/// up. No notice is answered `Reused`, `DayFull` or as a change of a budget is: the reply to one that were has the status,
+/// and no body but that of an answer without a number.
 pub fn notice_reply(outcome: &Option<Answer>) -> (HttpAnswer, &'static str)
     ensures { record { answer = result.0; body = result.1.now } ≡ outcome_reply outcome.now }
 {
@@ -17,9 +18,13 @@ pub fn notice_reply(outcome: &Option<Answer>) -> (HttpAnswer, &'static str)
         Some(answer) => match answer {
             Answer::Awarded { .. } | Answer::NoSale { .. } => (plain(204), ""),
             Answer::Counted | Answer::Repeat { .. } | Answer::Ticked { .. } => (plain(204), ""),
+            Answer::Budgeted => (plain(204), ""),
             Answer::Conflict { kept } => (plain(409), conflict(*kept)),
             Answer::Unknown => (plain(404), "{\"answer\":\"unknown\"}"),
             Answer::Reused { .. } => (plain(409), ""),
+            Answer::BudgetReused { .. } | Answer::Late { .. } => (plain(409), ""),
+            Answer::BelowCommitted { .. } => (plain(409), ""),
+            Answer::NoCampaign => (plain(404), "{\"answer\":\"nocampaign\"}"),
             Answer::DayFull { .. } => (plain(503), ""),
         },
     }

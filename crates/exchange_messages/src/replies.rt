@@ -116,12 +116,20 @@ pub fn answer_done(
         Answer::Awarded { .. } | Answer::NoSale { .. } | Answer::Repeat { .. } => {
             answer_sold(alloc, roster, ask, out)
         }
-        Answer::Counted | Answer::Ticked { .. } | Answer::Conflict { .. } | Answer::Unknown => {
+        Answer::Counted
+        | Answer::Ticked { .. }
+        | Answer::Conflict { .. }
+        | Answer::Unknown
+        | Answer::Budgeted
+        | Answer::NoCampaign => {
             let (given, body) = notice_reply(&Some(*answer));
             push_body(out, body)?;
             Ok(given)
         }
-        Answer::Reused { .. } => {
+        Answer::Reused { .. }
+        | Answer::BudgetReused { .. }
+        | Answer::Late { .. }
+        | Answer::BelowCommitted { .. } => {
             push_answer(out, roster.campaigns.as_slice(), answer, None)?;
             Ok(plain(409))
         }

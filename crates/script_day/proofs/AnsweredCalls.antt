@@ -5,11 +5,12 @@ use Rattle.adx_desk.specs.Asked.{ask_for}
 use Rattle.adx_desk.specs.Desks.{OnDisk}
 use Rattle.answer_lines.specs.Answers.{answer_line, ask_told, fault_line}
 use Rattle.answer_lines.specs.declared.faults.Fault.{Fault}
-use Rattle.answer_lines.proofs.OfNoAsk.{notice_of_none, tick_of_none}
+use Rattle.answer_lines.proofs.OfNoAsk.{change_of_none, notice_of_none, tick_of_none}
 use Rattle.day_rules.specs.declared.answer.Answer.{Answer}
 use Rattle.day_rules.specs.declared.ask.Ask.{Ask}
 use Rattle.day_rules.specs.declared.entry.Entry.{Entry}
-use Rattle.day_rules.specs.Replies.{Call, notice, tick, reply, with_entry}
+use Rattle.day_rules.specs.Entries.{BudgetChange}
+use Rattle.day_rules.specs.Replies.{Call, notice, set_budget, tick, reply, with_entry}
 use Rattle.day_rules.specs.Terms.{Terms}
 use Rattle.deal_floor.specs.declared.campaign.Campaign.{Campaign}
 use Rattle.script_day.specs.Answering.{AnswersCall, ServesCall}
@@ -60,6 +61,12 @@ pub tick_about : (terms : Terms) (history next : List Entry) (now : ℕ) (answer
     → answer ≡ (reply terms history (tick now)).answer → next ≡ with_entry history (reply terms history (tick now)).entry → None ≡ ask_told next answer
 tick_about terms history next now answer is after =
     sym (ap (λ h. ask_told h answer) after ∙ ap (ask_told (with_entry history (reply terms history (tick now)).entry)) is ∙ tick_of_none history now)
+
+-- to a change of a budget: none
+pub change_about : (terms : Terms) (history next : List Entry) (x : BudgetChange) (answer : Answer)
+    → answer ≡ (reply terms history (set_budget x)).answer → next ≡ with_entry history (reply terms history (set_budget x)).entry → None ≡ ask_told next answer
+change_about terms history next x answer is after =
+    sym (ap (λ h. ask_told h answer) after ∙ ap (ask_told (with_entry history (reply terms history (set_budget x)).entry)) is ∙ change_of_none terms history x)
 
 -- to an ask: the one that the desk copied
 pub ask_about : (next : List Entry) (answer : Answer) (copied : Option Ask) → copied ≡ ask_for next answer → copied ≡ ask_told next answer

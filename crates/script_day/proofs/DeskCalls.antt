@@ -4,7 +4,8 @@ use Rattle.adx_io.specs.Streams.{last_count}
 use Rattle.adx_desk.specs.Desks.{DeskKeeps, DeskState, OnDisk}
 use Rattle.notice_batches.specs.Batches.{added_by}
 use Rattle.adx_desk.specs.Endings.{EndsAsk, EndsNotice, FailsDisk, NoFault, PassesJournal, size_with}
-use Rattle.notice_batches.specs.Held.{held, record_size}
+use Rattle.notice_batches.specs.Held.{longest_held, longest_record}
+use Rattle.notice_batches.proofs.Sizes.{held_longest, record_longest}
 use Rattle.adx_desk.specs.Serving.{Serves}
 use Rattle.adx_desk.specs.declared.fault.DeskFault.{DeskFault}
 use Rattle.answer_lines.specs.declared.faults.Fault.{Fault}
@@ -77,8 +78,8 @@ full_only : (desk : DeskState) (size : ℕ) (entry : Option Entry) → greatest_
     → FullOnly desk.terms desk.history entry (Some (Fault.JournalFull size))
 full_only desk size None small short passes = passes
 full_only desk size (Some e) small short passes =
-    let longest = longest_size desk.terms desk.history + record_size e + held (desk.history ++ e ∷ []) in
-    let fits : size_with desk e ≤ longest = omega (arith, short) in
+    let longest = longest_size desk.terms desk.history + longest_record e + longest_held (desk.history ++ e ∷ []) in
+    let fits : size_with desk e ≤ longest = omega (arith, short, record_longest desk.journal.format e, held_longest desk.journal.format (desk.history ++ e ∷ [])) in
     told_between greatest_size (size_with desk e) size longest last_count passes.0 passes.1 small fits
 
 -- a call for which the journal has no room; the desk's journal is no longer than the longest of its history

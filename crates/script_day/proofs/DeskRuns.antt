@@ -8,7 +8,7 @@ use Rattle.adx_desk.specs.Desks.{OnDisk}
 use Rattle.notice_batches.specs.Batches.{added_by}
 use Rattle.adx_desk.specs.Histories.{DeskTerms, WithAtMostOne, WithOrWithout}
 use Rattle.adx_desk.specs.Opened.{Opens}
-use Rattle.adx_desk.specs.Openings.{StandsAsOneOf}
+use Rattle.adx_desk.specs.Openings.{StandsAsRead}
 use Rattle.adx_desk.proofs.Keeping.{keeps_histories}
 use Rattle.answer_lines.specs.declared.faults.Fault.{Fault}
 use Rattle.day_journal.proofs.Moments.{joined, weaker}
@@ -172,9 +172,9 @@ record_or_none terms start told t history tail (inl none) = inl none
 record_or_none terms start told t history tail (inr r) = inr (record_stays terms start told t history tail r)
 
 -- a file that stands within the run of the calls stands within that of one more
-within_more : (terms : DeskTerms) (images : List ℕ → Type 0) (start : List Entry) (told : List Told) (t : Told) (file : List ℕ) → StandsWithin terms images start told file → StandsWithin terms images start (told ++ t ∷ []) file
-within_more terms images start told t file (inl before) = inl before
-within_more terms images start told t file (inr s) = inr (record {
+within_more : (terms : DeskTerms) (images : List ℕ → Type 0) (reads : Option (List ℕ)) (start : List Entry) (told : List Told) (t : Told) (file : List ℕ) → StandsWithin terms images reads start told file → StandsWithin terms images reads start (told ++ t ∷ []) file
+within_more terms images reads start told t file (inl before) = inl before
+within_more terms images reads start told t file (inr s) = inr (record {
   front = s.front;
   back = s.back ++ t ∷ [];
   split = ap (λ l. l ++ t ∷ []) s.split ∙ append_assoc s.front s.back (t ∷ []);
@@ -188,12 +188,12 @@ stands_front : (terms : DeskTerms) (start : List Entry) (told : List Told) (t : 
     → WithOrWithout terms (history_after terms.day start told) tail file → StandsInRun terms start (told ++ t ∷ []) file
 stands_front terms start told t tail file is stands = record { front = told; back = t ∷ []; split = refl; tail = tail; is = is; stands = stands }
 
-within_call : (terms : DeskTerms) (images : List ℕ → Type 0) (start : List Entry) (told : List Told) (t : Told) (tail : List Entry) (file : List ℕ) → MayBeInDoubt terms.day start told tail
-    → WithAtMostOne terms (history_after terms.day start told) tail (record_of terms.day (history_after terms.day start told) t.call) file → StandsWithin terms images start (told ++ t ∷ []) file
-within_call terms images start told t tail file may (inl alone) = inr (stands_front terms start told t [] file (inl refl) (inl alone))
-within_call terms images start told t tail file may (inr (inl with_tail)) =
+within_call : (terms : DeskTerms) (images : List ℕ → Type 0) (reads : Option (List ℕ)) (start : List Entry) (told : List Told) (t : Told) (tail : List Entry) (file : List ℕ) → MayBeInDoubt terms.day start told tail
+    → WithAtMostOne terms (history_after terms.day start told) tail (record_of terms.day (history_after terms.day start told) t.call) file → StandsWithin terms images reads start (told ++ t ∷ []) file
+within_call terms images reads start told t tail file may (inl alone) = inr (stands_front terms start told t [] file (inl refl) (inl alone))
+within_call terms images reads start told t tail file may (inr (inl with_tail)) =
     inr (stands_front terms start told t tail file (record_or_none terms.day start told t (history_after terms.day start told) tail (doubt_of terms.day start told tail may)) (inr with_tail))
-within_call terms images start told t tail file may (inr (inr with_new)) =
+within_call terms images reads start told t tail file may (inr (inr with_new)) =
     inr (stands_front terms start told t (record_of terms.day (history_after terms.day start told) t.call) file
     (inr (record { front = told; one = t; back = []; split = refl; at = refl; is = refl })) (inr with_new))
 
@@ -213,7 +213,7 @@ module _ {D : Type 0} (faults : D → ℕ) (reads : D → Option (List ℕ)) (ma
     full = λ front one back split. absurd (no_place front one back split);
     keeps = λ file is. ([], inl refl, opens.keeps file is []);
     any_moment = λ file is.
-        weaker moment left_since old now.disk (StandsAsOneOf terms (may_leave old)) (StandsWithin terms (may_leave old) now.desk.history []) (opens.any_moment file is) (λ c before. inl before);
+        weaker moment left_since old now.disk (StandsAsRead terms (may_leave old) (reads old)) (StandsWithin terms (may_leave old) (reads old) now.desk.history []) (opens.any_moment file is) (λ c before. inl before);
   }
     where
       no_place : (front : List Told) (one : Told) (back : List Told) → [] ≡ front ++ one ∷ back → ⊥
@@ -241,13 +241,13 @@ module _ {D : Type 0} (faults : D → ℕ) (reads : D → Option (List ℕ)) (ma
     any_moment = λ file is.
         let kept = runs.keeps file is in
         joined moment left_since disk now.disk next.disk
-        (StandsWithin terms (may_leave disk) start told)
+        (StandsWithin terms (may_leave disk) (reads disk) start told)
         (WithAtMostOne terms (history_after terms.day start told) kept.0 (record_of terms.day (history_after terms.day start told) t.call))
-        (StandsWithin terms (may_leave disk) start (told ++ t ∷ []))
+        (StandsWithin terms (may_leave disk) (reads disk) start (told ++ t ∷ []))
         (runs.any_moment file is)
         (along (λ (d : DeskTerms) (h : List Entry). LeavesOnly moment left_since now.disk next.disk (WithAtMostOne d h kept.0 (record_of d.day h t.call))) (call.any_moment kept.0 kept.2))
-        (λ c was. within_more terms (may_leave disk) start told t c was)
-        (λ c left. within_call terms (may_leave disk) start told t kept.0 c kept.1 left);
+        (λ c was. within_more terms (may_leave disk) (reads disk) start told t c was)
+        (λ c left. within_call terms (may_leave disk) (reads disk) start told t kept.0 c kept.1 left);
   }
     where
       along : (P : DeskTerms → List Entry → Type 0) → P now.desk.terms now.desk.history → P terms (history_after terms.day start told)

@@ -5,7 +5,7 @@ use Rattle.adx_io.specs.Streams.{Tape}
 use Rattle.adx_io.specs.Talk.{TalkState}
 use Rattle.adx_desk.specs.Histories.{DeskTerms}
 use Rattle.adx_desk.specs.Opened.{GivesUp}
-use Rattle.adx_desk.specs.Openings.{HasDiskCause, StandsAsOneOf}
+use Rattle.adx_desk.specs.Openings.{HasDiskCause, StandsAsRead}
 use Rattle.adx_desk.specs.Rosters.{desk_terms}
 use Rattle.adx_desk.specs.declared.fault.DeskFault.{DeskFault}
 use Rattle.day_rules.specs.declared.entry.Entry.{Entry}
@@ -31,7 +31,7 @@ module _ {D E : Type 0} (disk_of : E → D) (faults : D → ℕ) (reads : D → 
     counted = run.counted;
     full = run.full;
     keeps = run.keeps;
-    any_moment = λ file is. leaves_lent old new (StandsWithin terms (may_leave (disk_of old)) start told) (run.any_moment file is);
+    any_moment = λ file is. leaves_lent old new (StandsWithin terms (may_leave (disk_of old)) (reads (disk_of old)) start told) (run.any_moment file is);
   }
 
   gives_up_as : (terms : DeskTerms) (old new : E) (why : DeskFault)
@@ -40,7 +40,7 @@ module _ {D E : Type 0} (disk_of : E → D) (faults : D → ℕ) (reads : D → 
   gives_up_as terms old new why g = record {
     refused = g.refused;
     untouched = g.untouched;
-    any_moment = λ file is. leaves_lent old new (StandsAsOneOf terms (may_leave (disk_of old))) (g.any_moment file is);
+    any_moment = λ file is. leaves_lent old new (StandsAsRead terms (may_leave (disk_of old)) (reads (disk_of old))) (g.any_moment file is);
   }
 
   -- the disk before the loan and behind it

@@ -90,7 +90,7 @@ pub record DeskRuns {D : Type 0} (faults : D → ℕ) (reads : D → Option (Lis
   pub counted : CountsEach (faults disk) told (faults now.disk)
   pub full : FullEach terms start told
   pub keeps : (file : List ℕ) → reads disk ≡ Some file → (tail : List Entry) × MayBeInDoubt terms.day start told tail × DeskKeeps (may_leave now.disk) now.desk tail
-  pub any_moment : (file : List ℕ) → reads disk ≡ Some file → LeavesOnly moment left_since disk now.disk (StandsWithin terms (may_leave disk) start told)
+  pub any_moment : (file : List ℕ) → reads disk ≡ Some file → LeavesOnly moment left_since disk now.disk (StandsWithin terms (may_leave disk) (reads disk) start told)
 
 -- a fault of the desk that a call of a day may answer
 abbrev pub IsOfCall : DeskFault → Type 0

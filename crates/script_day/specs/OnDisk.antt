@@ -3,10 +3,10 @@ use Rattle.std.specs.Prelude.{◌≡◌, ◌⊎◌, ℕ, ◌+◌, ◌<◌, ◌�
 use Rattle.adx_io.specs.Disks.{Each, LeavesOnly}
 use Rattle.adx_io.specs.Streams.{Rises}
 use Rattle.notice_batches.specs.Batches.{added_by}
-use Rattle.notice_batches.specs.Held.{held, record_size}
+use Rattle.notice_batches.specs.Held.{longest_held, longest_record}
 use Rattle.adx_desk.specs.Histories.{DeskTerms, IsHistoryOf, WithOrWithout, longest_size}
 use Rattle.adx_desk.specs.Opened.{GivesUp}
-use Rattle.adx_desk.specs.Openings.{HasDiskCause, StandsAsOneOf}
+use Rattle.adx_desk.specs.Openings.{HasDiskCause, StandsAsRead}
 use Rattle.adx_desk.specs.Rosters.{desk_terms}
 use Rattle.answer_lines.specs.declared.faults.Fault.{Fault}
 use Rattle.day_journal.specs.Faults.{greatest_size}
@@ -65,9 +65,9 @@ pub record StandsInRun (terms : DeskTerms) (start : List Entry) (told : List Tol
   pub is : (tail ≡ []) ⊎ IsRecordOf terms.day start told (history_after terms.day start front) tail
   pub stands : WithOrWithout terms (history_after terms.day start front) tail file
 
--- what a crash at some moment of a day leaves: the history of an image from before it, or one of its run
-abbrev pub StandsWithin : DeskTerms → (List ℕ → Type 0) → List Entry → List Told → List ℕ → Type 0
-StandsWithin terms images start told file = StandsAsOneOf terms images file ⊎ StandsInRun terms start told file
+-- what a crash at some moment of a day leaves: an image from before it, the history that was read, or one of its run
+abbrev pub StandsWithin : DeskTerms → (List ℕ → Type 0) → Option (List ℕ) → List Entry → List Told → List ℕ → Type 0
+StandsWithin terms images reads start told file = StandsAsRead terms images reads file ⊎ StandsInRun terms start told file
 
 -- the disk's count in one call: it rose where the disk's fault gave the call up, and else it stayed
 abbrev pub CountsOne : ℕ → Option Fault → ℕ → Type 0
@@ -87,7 +87,7 @@ FullOnly terms history entry None = Unit {0}
 FullOnly terms history entry (Some Fault.Disk) = Unit {0}
 FullOnly terms history None (Some (Fault.JournalFull size)) = ⊥
 FullOnly terms history (Some e) (Some (Fault.JournalFull size)) =
-    (greatest_size < size) × (size ≤ longest_size terms history + record_size e + held (history ++ e ∷ []))
+    (greatest_size < size) × (size ≤ longest_size terms history + longest_record e + longest_held (history ++ e ∷ []))
 
 -- each call that was told so
 abbrev pub FullEach : DeskTerms → List Entry → List Told → Type 0
@@ -108,8 +108,9 @@ pub record ServesRun {D : Type 0} (faults : D → ℕ) (reads : D → Option (Li
   pub full : FullEach terms start told
   -- Where the disk tells what it reads, it keeps the history of the run now,
   pub keeps : (file : List ℕ) → reads old ≡ Some file → KeepsRun (may_leave new) terms start told
-  -- and a crash at any moment leaves the history of an image from before, or one of the run, with at most one record.
-  pub any_moment : (file : List ℕ) → reads old ≡ Some file → LeavesOnly moment left_since old new (StandsWithin terms (may_leave old) start told)
+  -- and a crash at any moment leaves an image from before, the history that was read, or one of the run, with at most one
+  -- record.
+  pub any_moment : (file : List ℕ) → reads old ≡ Some file → LeavesOnly moment left_since old new (StandsWithin terms (may_leave old) (reads old) start told)
 
 -- what became of the disk, by how the day went
 abbrev pub CourseOn : {D : Type 0} → (faults : D → ℕ) (reads : D → Option (List ℕ)) (may_leave : D → List ℕ → Type 0) (moment : D → ℕ) (left_since : D → ℕ → List ℕ → Type 0) → Course → D → D → Type 0

@@ -4,8 +4,9 @@ ghost use Rattle.adx_io.specs.Lines.{Keeps};
 ghost use Rattle.adx_io.specs.Talk.{ended};
 ghost use Rattle.answer_lines.specs.Answers.{answer_line as line_of_answer, fault_line};
 ghost use Rattle.day_rules.specs.Asks.{IsWellFormed, IsUndecided};
-ghost use Rattle.day_rules.specs.Replies.{Call, ask as ask_call, notice as notice_call, tick as tick_call};
+ghost use Rattle.day_rules.specs.Replies.{Call, ask as ask_call, notice as notice_call, set_budget as budget_call, tick as tick_call};
 ghost use Rattle.day_rules.specs.Runs.{IsCall};
+ghost use Rattle.script_lines.specs.Changes.{change_told};
 ghost use Rattle.script_lines.specs.Found.{call_of};
 ghost use Rattle.script_day.specs.declared.limits.TheConstants.{LINE_LIMIT};
 ghost use Rattle.adx_desk.specs.Lines.{told_as};
@@ -19,7 +20,7 @@ use adx_units::OutOfMemory;
 use answer_lines::{Fault, push_answer, push_fault};
 use day_rules::{Answer, Ask};
 use deal_floor::{Campaign, Roster};
-use script_lines::{LineFault, Notice, Refusal, ScriptLine, read_line};
+use script_lines::{Change, LineFault, Notice, Refusal, ScriptLine, read_line};
 use std::alloc::Global;
 
 /// Writes what a call is answered, and about which ask.
@@ -130,6 +131,30 @@ fn answer_tick<D: Disk>(
     }
 }
 
+/// Takes a change of a campaign's budget, and writes its answer.
+fn answer_change<D: Disk>(
+    campaigns: &[Campaign],
+    desk: &mut Desk<D>,
+    change: Change,
+    out: &mut String,
+) -> Result<(), OutOfMemory>
+    requires { IsCall (length desk.old.desk.terms.day.budgets) (budget_call (change_told change)) }
+    ensures answered { OnOk result (AnswersCall D.faults D.may_leave D.moment D.left_since campaigns.now desk.old desk.new (budget_call (change_told change)) (string_bytes out.old) (string_bytes out.new)) }
+    ensures unwritten { OnErr result (LeavesCall D.faults D.may_leave D.moment D.left_since desk.old desk.new (budget_call (change_told change))) }
+    ensures lasts { D.lasts desk.old.disk desk.new.disk }
+{
+    match desk.set_budget(change.campaign, change.number, change.budget) {
+        Ok(answer) => {
+            push_told(out, campaigns, &answer, None)?;
+            Ok(())
+        }
+        Err(fault) => {
+            push_given_up(out, fault)?;
+            Ok(())
+        }
+    }
+}
+
 /// Takes the call of a line, and writes its answer.
 fn answer_call<D: Disk>(
     campaigns: &[Campaign],
@@ -146,6 +171,7 @@ fn answer_call<D: Disk>(
         ScriptLine::Ask { ask } => answer_ask(campaigns, desk, ask, out),
         ScriptLine::Notice { notice } => answer_notice(campaigns, desk, &notice, out),
         ScriptLine::Tick { now } => answer_tick(campaigns, desk, now, out),
+        ScriptLine::Budget { change } => answer_change(campaigns, desk, change, out),
     }
 }
 

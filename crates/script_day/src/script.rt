@@ -61,7 +61,13 @@ fn push_campaigns<D: Disk>(
     requires { length desk.now.desk.terms.day.budgets ≡ length campaigns.now }
     ensures { OnOk result (string_bytes out.new ≡ string_bytes out.old ++ closing_table campaigns.now desk.now.desk.terms.day desk.now.desk.history) }
 {
-    push_table(out, campaigns, desk.book(), desk.entries())?;
+    push_table(
+        out,
+        campaigns,
+        desk.book(),
+        desk.ask_count(),
+        desk.entries(),
+    )?;
     Ok(())
 }
 

@@ -1,9 +1,9 @@
 -- The next message, from what was taken, or behind all replies.
-use Rattle.std.proofs.Common.{◌≡◌, ℕ, suc, [], Option, refl, sym, ap, ◌∙◌, subst}
+use Rattle.std.proofs.Common.{◌≡◌, ◌≤◌, ℕ, suc, [], length, Option, refl, sym, ap, ◌∙◌, subst}
 use Rattle.fan_out.specs.Lanes.{IsWorked}
 use Rattle.http_connection.specs.Answers.{AnswersHeld}
 use Rattle.http_connection.specs.Messages.{IsRequestThen}
-use Rattle.http_connection.specs.State.{ConnState}
+use Rattle.http_connection.specs.State.{ConnState, room_of}
 use Rattle.http_connection.specs.declared.conn.Message.{Message}
 use Rattle.http_service.specs.declared.limits.TheConstants.{REQUEST_LIMIT}
 use Rattle.exchange_http.specs.Running.{more}
@@ -42,11 +42,12 @@ returns-in-Err-clause-causes g c =
 pub returns-in-Some-clause-gives : goal.returns-in-Some-clause-gives
 returns-in-Some-clause-gives g c =
     let answers = subst (λ (r : Option Message). AnswersHeld c.args.conn.now c.held_message.follows.lender-at-none r) c.in-Some.is c.held_message.follows.holds-at-none in
-    let one = answers.2 in
+    let one = answers.3 in
+    let fits = subst (λ (n : ℕ). length c.held_message.follows.lender-at-none.held ≤ room_of n) c.requires.limit answers.2 in
     let is = subst (λ (n : ℕ). IsRequestThen n c.args.conn.now.held one.0 c.held_message.follows.lender-at-none.held) c.requires.limit one.1 in
     λ start lanes tape count before less w.
     c.take_read.ensures.gives start lanes tape (g.S.Source.tape c.args.source.now) (g.S.Source.tape c.args.source.now) c.args.conn.now.held c.held_message.follows.lender-at-none.held count before one.0 less one.2
-    (held_brings REQUEST_LIMIT c.args.conn.now.held c.held_message.follows.lender-at-none.held one.0 (g.S.Source.tape c.args.source.now) is) (stands_still (g.S.Source.tape c.args.source.now)) w
+    (held_brings REQUEST_LIMIT c.args.conn.now.held c.held_message.follows.lender-at-none.held one.0 (g.S.Source.tape c.args.source.now) fits is) (stands_still (g.S.Source.tape c.args.source.now)) w
 
 pub returns-in-Some-clause-causes : goal.returns-in-Some-clause-causes
 returns-in-Some-clause-causes g c = c.take_read.ensures.causes (g.S.Source.faults c.args.source.now)

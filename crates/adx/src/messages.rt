@@ -1,0 +1,95 @@
+//! What a run that failed says on standard error: one line.
+use crate::journal_file::FileFault;
+use crate::noting::Told;
+use adx_commands::{
+    DISK_FAULT, DONE, NO_COMMAND, NO_HISTORY, OUT_OF_MEMORY, READ_FAULT, REFUSED, WRITE_FAULT,
+};
+use adx_units::Text;
+use command_words::complaint_of;
+use std::cell::Cell;
+use std::fmt;
+use std::fmt::Display;
+
+/// What the system said of standard input, standard output and the journal's file.
+#[derive(Drop)]
+pub(crate) struct Heard {
+    pub(crate) input: Told,
+    pub(crate) output: Told,
+    pub(crate) file: Told,
+}
+
+impl Heard {
+    /// Nothing so far.
+    pub(crate) fn new() -> Heard {
+        Heard {
+            input: Cell::new(None),
+            output: Cell::new(None),
+            file: Cell::new(None),
+        }
+    }
+}
+
+/// What the system said, or that it gave no reason.
+#[derive(Drop)]
+struct Reason<'a>(&'a Told);
+
+impl<'a> Display for Reason<'a> {
+    fn fmt<W: fmt::Write>(&self, f: &mut fmt::Formatter<W>) -> fmt::Result {
+        match self.0.get() {
+            Some(error) => error.fmt(f),
+            None => f.write_str("failed"),
+        }
+    }
+}
+
+/// Says what is wrong with the words.
+fn say_of_words(rt: &HostRuntime, words: &[Text]) {
+    match complaint_of(rt.alloc(), words) {
+        Ok(complaint) => {
+            let _ = eprintln!(rt; "adx: {}", complaint.as_str());
+        }
+        Err(_) => say_memory(rt),
+    }
+}
+
+/// Says that memory was refused.
+pub(crate) fn say_memory(rt: &HostRuntime) {
+    let _ = eprintln!(rt; "adx: out of memory");
+}
+
+/// Says that a word isn't a text.
+pub(crate) fn say_no_text(rt: &HostRuntime) {
+    let _ = eprintln!(rt; "adx: a word of the command line isn't UTF-8");
+}
+
+/// Says why a journal wasn't opened.
+pub(crate) fn say_not_opened(rt: &HostRuntime, path: &str, fault: FileFault) {
+    let _ = eprintln!(rt; "adx: {path}: {fault}");
+}
+
+/// Says why a run ended with a status other than 0. The journal is in the file with this path, or in memory.
+pub(crate) fn say(rt: &HostRuntime, words: &[Text], path: &str, heard: &Heard, status: u8) {
+    let written = match status {
+        DONE => Ok(()),
+        NO_COMMAND => {
+            say_of_words(rt, words);
+            Ok(())
+        }
+        REFUSED => {
+            eprintln!(rt;
+                "adx: standard input: the first line isn't of its form, or the input is too long"
+            )
+        }
+        READ_FAULT => eprintln!(rt; "adx: standard input: {}", Reason(&heard.input)),
+        WRITE_FAULT => eprintln!(rt; "adx: standard output: {}", Reason(&heard.output)),
+        DISK_FAULT => eprintln!(rt; "adx: {path}: {}", Reason(&heard.file)),
+        NO_HISTORY => {
+            eprintln!(rt;
+                "adx: {path}: holds another roster's day, or isn't a journal (standard output says which)"
+            )
+        }
+        OUT_OF_MEMORY => eprintln!(rt; "adx: out of memory"),
+        _ => Ok(()),
+    };
+    let _ = written;
+}

@@ -1,0 +1,82 @@
+//! Runs the words of a command line between the standard streams, on the disk that they ask for.
+use crate::journal_file::{FileFault, open_journal};
+use crate::messages::{Heard, say, say_memory, say_no_text, say_not_opened};
+use crate::noting::Noting;
+use adx_commands::{
+    DISK_FAULT, Kept, NO_COMMAND, OUT_OF_MEMORY, adx, adx_in_memory, kept_by_words,
+};
+use adx_io::{FileDisk, StdSink, StdSource};
+use adx_units::Text;
+use std::fs::File;
+use std::io::ErrorKind;
+
+/// What stands for the name of a journal that has no file.
+const NO_FILE: &str = "the journal in memory";
+
+/// Runs the command in memory alone.
+fn run_in_memory(rt: &HostRuntime, words: &[Text], heard: &Heard) -> u8 {
+    let mut source = StdSource::new(Noting::new(rt.stdin(), &heard.input));
+    let mut sink = StdSink::new(Noting::new(rt.stdout(), &heard.output));
+    adx_in_memory(rt.alloc(), words, &mut source, &mut sink)
+}
+
+/// Runs the command on the file of a journal.
+fn run_on_file(rt: &HostRuntime, words: &[Text], path: &str, file: File) -> u8 {
+    let heard = Heard::new();
+    let mut source = StdSource::new(Noting::new(rt.stdin(), &heard.input));
+    let mut sink = StdSink::new(Noting::new(rt.stdout(), &heard.output));
+    let mut disk = FileDisk::new(Noting::new(file, &heard.file));
+    let status = adx(rt.alloc(), words, &mut source, &mut sink, &mut disk);
+    say(rt, words, path, &heard, status);
+    status
+}
+
+/// The status where the file of a journal wasn't opened.
+fn status_of_fault(fault: &FileFault) -> u8 {
+    match fault {
+        FileFault::System(error) if error.kind() == ErrorKind::OutOfMemory => OUT_OF_MEMORY,
+        _ => DISK_FAULT,
+    }
+}
+
+/// Opens the file of a journal, and runs the command on it.
+fn run_with_journal(rt: &HostRuntime, words: &[Text], path: &str, make: bool) -> u8 {
+    match open_journal(rt, path, make) {
+        Ok(file) => run_on_file(rt, words, path, file),
+        Err(fault) => {
+            say_not_opened(rt, path, fault);
+            status_of_fault(&fault)
+        }
+    }
+}
+
+/// Runs the words that stand behind the program's name, and gives the exit status. At every status but 0 a line on
+/// standard error says why.
+pub(crate) fn run(rt: &HostRuntime, words: &[Text]) -> u8 {
+    match kept_by_words(rt.alloc(), words) {
+        Ok(Kept::InMemory) => {
+            let heard = Heard::new();
+            let status = run_in_memory(rt, words, &heard);
+            say(rt, words, NO_FILE, &heard, status);
+            status
+        }
+        Ok(Kept::Made(path)) => run_with_journal(rt, words, path.as_str(), true),
+        Ok(Kept::Existing(path)) => run_with_journal(rt, words, path.as_str(), false),
+        Err(_) => {
+            say_memory(rt);
+            OUT_OF_MEMORY
+        }
+    }
+}
+
+/// Runs where a word isn't a text: it is no command's.
+pub(crate) fn run_no_text(rt: &HostRuntime) -> u8 {
+    let heard = Heard::new();
+    let status = run_in_memory(rt, &[], &heard);
+    if status == NO_COMMAND {
+        say_no_text(rt);
+    } else {
+        say(rt, &[], NO_FILE, &heard, status);
+    }
+    status
+}

@@ -1,0 +1,25 @@
+-- A new disk in memory is empty.
+use Rattle.adx_commands.proofs.Beginnings.{connection_anew, day_anew, generated_anew, nothing_for_nothing, table_anew}
+use Rattle.adx_commands.proofs.anew.adx_in_memory.Goals as goal
+
+pub returns-clause-day : goal.returns-clause-day
+returns-clause-day g c = λ day.
+    day_anew c.new-disk.result c.adx.new.disk (g.S.Source.tape c.args.source.now) (g.S.Source.tape c.adx.new.source) (g.K.Sink.held c.args.sink.now) (g.K.Sink.held c.adx.new.sink) c.adx.result
+    c.new-disk.ensures (c.adx.ensures.day day)
+
+pub returns-clause-connection : goal.returns-clause-connection
+returns-clause-connection g c = λ connection.
+    connection_anew c.new-disk.result c.adx.new.disk (g.S.Source.tape c.args.source.now) (g.S.Source.tape c.adx.new.source) (g.K.Sink.held c.args.sink.now) (g.K.Sink.held c.adx.new.sink) c.adx.result
+    c.new-disk.ensures (c.adx.ensures.connection connection)
+
+pub returns-clause-generated : goal.returns-clause-generated
+returns-clause-generated g c = λ seed asks generated.
+    generated_anew c.new-disk.result c.adx.new.disk seed asks (g.K.Sink.held c.args.sink.now) (g.K.Sink.held c.adx.new.sink) c.adx.result c.new-disk.ensures (c.adx.ensures.generated seed asks generated)
+
+pub returns-clause-generated_table : goal.returns-clause-generated_table
+returns-clause-generated_table g c = λ seed asks generated done.
+    table_anew seed asks (g.K.Sink.held c.args.sink.now) (g.K.Sink.held c.adx.new.sink) c.adx.result
+    (generated_anew c.new-disk.result c.adx.new.disk seed asks (g.K.Sink.held c.args.sink.now) (g.K.Sink.held c.adx.new.sink) c.adx.result c.new-disk.ensures (c.adx.ensures.generated seed asks generated)) done
+
+pub returns-clause-empty : goal.returns-clause-empty
+returns-clause-empty g c = nothing_for_nothing

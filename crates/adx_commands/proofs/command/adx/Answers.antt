@@ -1,0 +1,45 @@
+-- Words in plain spelling do what they ask for.
+use Rattle.command_words.specs.declared.command.Command.{Command}
+use Rattle.script_day.proofs.OneOutput.{has_one_output}
+use Rattle.script_day.proofs.Outputs.{has_outputs}
+use Rattle.adx_commands.proofs.Commands.{plain_does, plain_taken}
+use Rattle.adx_commands.proofs.command.adx.Goals as goal
+
+pub returns-clause-day : goal.returns-clause-day
+returns-clause-day g c = λ day. (plain_does _ _ _ _ _ _ c.run_words.ensures.does (Command.Day day.0) day.1).by_run
+
+pub returns-clause-connection : goal.returns-clause-connection
+returns-clause-connection g c = λ connection. (plain_does _ _ _ _ _ _ c.run_words.ensures.does (Command.Connection connection.0) connection.1).by_run
+
+pub returns-clause-bidder : goal.returns-clause-bidder
+returns-clause-bidder g c = λ bidder. (plain_does _ _ _ _ _ _ c.run_words.ensures.does Command.Bidder bidder).by_run
+
+pub returns-clause-generated : goal.returns-clause-generated
+returns-clause-generated g c = λ seed asks generated. (plain_does _ _ _ _ _ _ c.run_words.ensures.does (Command.Generate seed asks) generated).by_run
+
+pub returns-clause-notices : goal.returns-clause-notices
+returns-clause-notices g c = λ notices. (plain_does _ _ _ _ _ _ c.run_words.ensures.does (Command.Notices notices.0) notices.1).by_run
+
+pub returns-clause-help : goal.returns-clause-help
+returns-clause-help g c = λ topic help. (plain_does _ _ _ _ _ _ c.run_words.ensures.does (Command.Help topic) help).by_run
+
+pub returns-clause-version : goal.returns-clause-version
+returns-clause-version g c = λ version. (plain_does _ _ _ _ _ _ c.run_words.ensures.does Command.Version version).by_run
+
+pub returns-clause-usage : goal.returns-clause-usage
+returns-clause-usage g c = λ is command.
+    plain_taken g.D.Disk.faults g.D.Disk.reads g.D.Disk.may_leave g.D.Disk.moment g.D.Disk.left_since (g.S.Source.tape c.args.source.now) (g.S.Source.tape c.run_words.new.source)
+    (g.K.Sink.held c.args.sink.now) (g.K.Sink.held c.run_words.new.sink) c.args.disk.now c.run_words.new.disk c.args.source.now c.run_words.new.source c.run_words.result c.args.words.now
+    c.run_words.ensures.does is command
+
+pub returns-clause-unasked : goal.returns-clause-unasked
+returns-clause-unasked g c = λ command plain nothing. (plain_does _ _ _ _ _ _ c.run_words.ensures.does command plain).unasked nothing
+
+pub returns-clause-untouched : goal.returns-clause-untouched
+returns-clause-untouched g c = λ command plain left. (plain_does _ _ _ _ _ _ c.run_words.ensures.does command plain).untouched left
+
+pub returns-clause-outputs : goal.returns-clause-outputs
+returns-clause-outputs g c = has_outputs
+
+pub returns-clause-one_output : goal.returns-clause-one_output
+returns-clause-one_output g c = has_one_output

@@ -1,0 +1,26 @@
+-- The disk's count is that of the day that ran.
+use Rattle.std.proofs.Common.{rules, ◌≡◌, ◌⊎◌, ◌∙◌, sym, subst}
+use Rattle.script_day.proofs.DiskCounts.{day_later}
+use Rattle.adx_commands.proofs.Statuses.{counted_day, is_faulted, is_passed}
+use Rattle.adx_commands.proofs.command.run.Goals as goal
+
+pub returns-in-Some-Day-clause-disk_causes : goal.returns-in-Some-Day-clause-disk_causes
+returns-in-Some-Day-clause-disk_causes g c =
+    let s = c.serve_day-ended.ensures.ends in
+    counted_day g.D.Disk.faults g.D.Disk.reads g.D.Disk.may_leave g.D.Disk.moment g.D.Disk.left_since s.course c.args.disk.now c.serve_day-ended.new.disk c.serve_day-ended.result c.status_of.result s.by_course s.on_disk c.status_of.ensures
+
+pub returns-in-Some-Connection-clause-disk_causes : goal.returns-in-Some-Connection-clause-disk_causes
+returns-in-Some-Connection-clause-disk_causes g c =
+    let ended = c.serve_exchange-ended in record {
+      disk_fault = λ is. ended.ensures.disk_fault (is_faulted ended.result (sym c.status_of-in-Some-Connection.ensures ∙ is));
+      disk_passed = λ is. ended.ensures.disk_passed (is_passed ended.result (subst (λ n. (n ≡ 0) ⊎ (n ≡ 7)) c.status_of-in-Some-Connection.ensures is));
+      disk_later = ended.ensures.disk_later;
+    }
+
+pub returns-in-Some-Generate-clause-disk_causes : goal.returns-in-Some-Generate-clause-disk_causes
+returns-in-Some-Generate-clause-disk_causes g c =
+    let s = c.serve_generated-ended.ensures.ends in record {
+      disk_fault = search rules;
+      disk_passed = search rules;
+      disk_later = day_later g.D.Disk.faults g.D.Disk.reads g.D.Disk.may_leave g.D.Disk.moment g.D.Disk.left_since s.course c.args.disk.now c.serve_generated-ended.new.disk s.on_disk;
+    }

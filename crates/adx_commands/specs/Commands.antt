@@ -1,0 +1,131 @@
+-- What comes of a command, and what words that aren't one write. How words ask for a command stands in `command_words`.
+-- This project's own.
+use Rattle.std.specs.Prelude.{◌≡◌, ◌⊎◌, ℕ, List, codes, Option, Some, None, Result}
+use Rattle.adx_io.specs.Streams.{Tape, Took}
+use Rattle.bidder_day.specs.Bidding.{EndsBidder}
+use Rattle.command_words.specs.Helps.{help_text, version_text}
+use Rattle.command_words.specs.Meanings.{IsPlain}
+use Rattle.command_words.specs.Taken.{IsReadingOf}
+use Rattle.command_words.specs.declared.command.Command.{Command}
+use Rattle.command_words.specs.declared.command.Topic.{Topic}
+use Rattle.script_day.specs.Days.{ServesDay}
+use Rattle.script_day.specs.Endings.{TookFront}
+use Rattle.script_day.specs.declared.ending.Ending.{Ending}
+use Rattle.adx_books.specs.GeneratedEnds.{ServesGenerated}
+use Rattle.adx_notices.specs.Notices.{EndsNotices}
+use Rattle.exchange_day.specs.Connecting.{EndsExchange}
+use Rattle.adx_commands.specs.Statuses.{status_of}
+
+-- the words serve a day, in plain spelling: with no journal, or with one in a file
+abbrev pub IsDay : List (List ℕ) → Type 0
+IsDay words = (journal : Option (List ℕ)) × IsPlain (Command.Day journal) words
+
+-- the words serve a day on a connection: with no journal, or with one in a file
+abbrev pub IsConnection : List (List ℕ) → Type 0
+IsConnection words = (journal : Option (List ℕ)) × IsPlain (Command.Connection journal) words
+
+-- the words serve a bidder's connection
+abbrev pub IsBidder : List (List ℕ) → Type 0
+IsBidder words = IsPlain Command.Bidder words
+
+-- the words generate a day of so many asks by this seed
+abbrev pub IsGenerated : List (List ℕ) → ℕ → ℕ → Type 0
+IsGenerated words seed asks = IsPlain (Command.Generate seed asks) words
+
+-- the words print the notices of a day, with the journal in a file
+abbrev pub IsNotices : List (List ℕ) → Type 0
+IsNotices words = (journal : List ℕ) × IsPlain (Command.Notices journal) words
+
+-- the words ask for help on this, and for the version
+abbrev pub IsHelp : List (List ℕ) → Topic → Type 0
+IsHelp words topic = IsPlain (Command.Help topic) words
+
+abbrev pub IsVersion : List (List ℕ) → Type 0
+IsVersion words = IsPlain Command.Version words
+
+-- the words ask for something in plain spelling
+abbrev pub IsCommand : List (List ℕ) → Type 0
+IsCommand words = (command : Command) × IsPlain command words
+
+-- A day ended so over a source, a sink and a disk, told by the exit status.
+pub record RunsDay {D : Type 0} (faults : D → ℕ) (reads : D → Option (List ℕ)) (may_leave : D → List ℕ → Type 0) (moment : D → ℕ) (left_since : D → ℕ → List ℕ → Type 0) (tape tape_now : Option Tape) (held held_now : Option (List ℕ)) (old new : D) (status : ℕ) : Type 0 where
+  pub ending : Result (Unit {0}) Ending
+  pub told : status ≡ status_of ending
+  pub serves : ServesDay faults reads may_leave moment left_since tape tape_now held held_now old new ending
+
+-- A day on a connection ended so over a source, a sink and a disk, told by the exit status.
+pub record RunsConnection {D : Type 0} (faults : D → ℕ) (reads : D → Option (List ℕ)) (may_leave : D → List ℕ → Type 0) (moment : D → ℕ) (left_since : D → ℕ → List ℕ → Type 0) (tape tape_now : Option Tape) (held held_now : Option (List ℕ)) (old new : D) (status : ℕ) : Type 0 where
+  pub ending : Result (Unit {0}) Ending
+  pub told : status ≡ status_of ending
+  pub ends : EndsExchange faults reads may_leave moment left_since tape tape_now held held_now old new ending
+
+-- A bidder's run ended so over a source and a sink, told by the exit status.
+pub record RunsBidder (tape tape_now : Option Tape) (held held_now : Option (List ℕ)) (status : ℕ) : Type 0 where
+  pub ending : Result (Unit {0}) Ending
+  pub told : status ≡ status_of ending
+  pub ends : EndsBidder tape tape_now held held_now ending
+
+-- A generated day ended so over a sink and a disk, told by the exit status.
+pub record RunsGenerated {D : Type 0} (faults : D → ℕ) (reads : D → Option (List ℕ)) (may_leave : D → List ℕ → Type 0) (moment : D → ℕ) (left_since : D → ℕ → List ℕ → Type 0) (seed asks : ℕ) (held held_now : Option (List ℕ)) (old new : D) (status : ℕ) : Type 0 where
+  pub ending : Result (Unit {0}) Ending
+  pub told : status ≡ status_of ending
+  pub serves : ServesGenerated faults reads may_leave moment left_since seed asks held held_now old new ending
+
+-- The notices of a day were printed over a source, a sink and a disk, told by the exit status.
+pub record RunsNotices {D : Type 0} (faults : D → ℕ) (reads : D → Option (List ℕ)) (may_leave : D → List ℕ → Type 0) (moment : D → ℕ) (left_since : D → ℕ → List ℕ → Type 0) (tape tape_now : Option Tape) (held held_now : Option (List ℕ)) (old new : D) (status : ℕ) : Type 0 where
+  pub ending : Result (Unit {0}) Ending
+  pub told : status ≡ status_of ending
+  pub ends : EndsNotices faults reads may_leave moment left_since tape tape_now held held_now old new ending
+
+-- The sink took the text, and the status is this one; or it took a front of the text and failed; or memory was refused
+-- before, and it took nothing.
+abbrev pub Tells : List ℕ → ℕ → Option (List ℕ) → Option (List ℕ) → ℕ → Type 0
+Tells text done held held_now status =
+    ((status ≡ done) × Took held held_now text)
+    ⊎ (((status ≡ 5) × TookFront held held_now text) ⊎ ((status ≡ 12) × (held_now ≡ held)))
+
+-- what words that aren't a command write
+abbrev pub usage_line : List ℕ
+usage_line = codes "usage: adx COMMAND\n"
+
+-- What was read of the words ran so; where nothing was read, they are no command.
+abbrev pub Runs : {D : Type 0} → (D → ℕ) → (D → Option (List ℕ)) → (D → List ℕ → Type 0) → (D → ℕ) → (D → ℕ → List ℕ → Type 0)
+    → Option Tape → Option Tape → Option (List ℕ) → Option (List ℕ) → D → D → ℕ → Option Command → Type 0
+Runs faults reads may_leave moment left_since tape tape_now held held_now old new status (Some (Command.Day journal)) =
+    RunsDay faults reads may_leave moment left_since tape tape_now held held_now old new status
+Runs faults reads may_leave moment left_since tape tape_now held held_now old new status (Some (Command.Connection journal)) =
+    RunsConnection faults reads may_leave moment left_since tape tape_now held held_now old new status
+Runs faults reads may_leave moment left_since tape tape_now held held_now old new status (Some (Command.Notices journal)) =
+    RunsNotices faults reads may_leave moment left_since tape tape_now held held_now old new status
+Runs faults reads may_leave moment left_since tape tape_now held held_now old new status (Some Command.Bidder) = RunsBidder tape tape_now held held_now status
+Runs faults reads may_leave moment left_since tape tape_now held held_now old new status (Some (Command.Generate seed asks)) =
+    RunsGenerated faults reads may_leave moment left_since seed asks held held_now old new status
+Runs faults reads may_leave moment left_since tape tape_now held held_now old new status (Some (Command.Help topic)) = Tells (help_text topic) 0 held held_now status
+Runs faults reads may_leave moment left_since tape tape_now held held_now old new status (Some Command.Version) = Tells version_text 0 held held_now status
+Runs faults reads may_leave moment left_since tape tape_now held held_now old new status None = Tells usage_line 2 held held_now status
+
+-- a run of what was read asks nothing of the source
+abbrev pub AsksNothing : Option Command → Type 0
+AsksNothing (Some (Command.Day journal)) = ⊥
+AsksNothing (Some (Command.Connection journal)) = ⊥
+AsksNothing (Some (Command.Notices journal)) = ⊥
+AsksNothing (Some Command.Bidder) = ⊥
+AsksNothing _ = Unit {0}
+
+-- a run of what was read leaves the disk as it is
+abbrev pub LeavesDisk : Option Command → Type 0
+LeavesDisk (Some (Command.Day journal)) = ⊥
+LeavesDisk (Some (Command.Connection journal)) = ⊥
+LeavesDisk (Some (Command.Notices journal)) = ⊥
+LeavesDisk (Some (Command.Generate seed asks)) = ⊥
+LeavesDisk _ = Unit {0}
+
+-- What was read of the words ran so, and left alone what it has no use for.
+pub record Does {S D : Type 0} (runs : Option Command → Type 0) (source source_now : S) (disk disk_now : D) (read : Option Command) : Type 0 where
+  pub by_run : runs read
+  pub unasked : AsksNothing read → source_now ≡ source
+  pub untouched : LeavesDisk read → disk_now ≡ disk
+
+-- Words of any spelling do what `clap` reads of them.
+abbrev pub DoesAsRead : {S D : Type 0} → (Option Command → Type 0) → S → S → D → D → List (List ℕ) → Type 0
+DoesAsRead runs source source_now disk disk_now words = (read : Option Command) × IsReadingOf words read × Does runs source source_now disk disk_now read

@@ -1,0 +1,16 @@
+-- Where the journal of a command is kept. This project's own.
+use Rattle.std.specs.Prelude.{◌≡◌, ℕ, List, Option, Some, None}
+use Rattle.command_words.specs.declared.command.Command.{Command}
+use Rattle.adx_commands.specs.declared.kept.Kept.{Kept}
+
+-- a day's journal, by the file that is named: in memory where none is
+abbrev pub kept_by : Option (List ℕ) → Kept
+kept_by None = Kept.InMemory
+kept_by (Some file) = Kept.Made file
+
+-- what was read is kept so: a day's journal is made where it isn't there, and one whose notices are printed is never made
+abbrev pub IsKeptAs : Option Command → Kept → Type 0
+IsKeptAs (Some (Command.Day journal)) kept = kept ≡ kept_by journal
+IsKeptAs (Some (Command.Connection journal)) kept = kept ≡ kept_by journal
+IsKeptAs (Some (Command.Notices journal)) kept = kept ≡ Kept.Existing journal
+IsKeptAs _ kept = kept ≡ Kept.InMemory

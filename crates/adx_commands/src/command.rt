@@ -1,0 +1,181 @@
+//! The top call, from the words of a command to its exit status.
+ghost use Rattle.std.specs.Prelude.{◌≡◌, ◌≢◌, ◌⊎◌, ◌≤◌, ℕ, Some};
+ghost use Rattle.adx_io.specs.Streams.{Rises};
+ghost use Rattle.command_words.specs.Helps.{help_text, version_text};
+ghost use Rattle.command_words.specs.Meanings.{HasFewAsks, IsPlain};
+ghost use Rattle.command_words.specs.declared.command.Command.{Command as Meaning};
+ghost use Rattle.command_words.specs.declared.command.Topic.{Topic as HelpTopic};
+ghost use Rattle.script_day.specs.Days.{HasOneOutput, HasOutputs};
+ghost use Rattle.adx_commands.specs.Statuses.{HasCauses, HasDiskCauses};
+ghost use Rattle.adx_commands.specs.Commands.{AsksNothing, Does, DoesAsRead, IsBidder, IsCommand, IsConnection, IsDay, IsGenerated, IsHelp, IsNotices, IsVersion, LeavesDisk, Runs, RunsBidder, RunsConnection, RunsDay, RunsGenerated, RunsNotices, Tells};
+
+use crate::status::{DONE, NO_COMMAND, OUT_OF_MEMORY, WRITE_FAULT, status_of};
+use adx_books::{Generator, serve_generated};
+use adx_io::{Disk, Sink, Source, put_all};
+use adx_notices::serve_notices;
+use adx_units::Text;
+use bidder_day::serve_prices;
+use command_words::{Command, VERSION, command_of, help_of};
+use exchange_day::serve_exchange;
+use script_day::serve_day;
+use std::alloc::Global;
+
+/// What is written to the sink where the words aren't a command.
+const USAGE: &str = "usage: adx COMMAND\n";
+
+/// Writes a text, and gives the exit status, which is this one where the sink takes the text.
+fn tell<K: Sink>(sink: &mut K, text: &str, done: u8) -> u8
+    requires { (done ≡ 0) ⊎ (done ≡ 2) }
+    ensures tells { Tells text.now done (K.held sink.old) (K.held sink.new) result }
+    ensures fault { result ≡ 5 → Rises (K.faults sink.old) (K.faults sink.new) }
+    ensures passed { result ≢ 5 → K.faults sink.new ≡ K.faults sink.old }
+    ensures later { K.faults sink.old ≤ K.faults sink.new }
+    ensures other { (result ≢ 4) × (result ≢ 6) }
+    ensures same { K.place sink.new ≡ K.place sink.old }
+{
+    match put_all(sink, text.as_bytes()) {
+        Ok(()) => done,
+        Err(_) => WRITE_FAULT,
+    }
+}
+
+/// Runs what was read of the words.
+fn run<S: Source, K: Sink, D: Disk>(
+    alloc: Global,
+    read: Option<Command>,
+    source: &mut S,
+    sink: &mut K,
+    disk: &mut D,
+) -> u8
+    requires { HasFewAsks read }
+    ensures does { Does (Runs D.faults D.reads D.may_leave D.moment D.left_since (S.tape source.old) (S.tape source.new) (K.held sink.old) (K.held sink.new) disk.old disk.new result) source.old source.new disk.old disk.new read }
+    ensures causes { HasCauses (S.faults source.old) (S.faults source.new) (K.faults sink.old) (K.faults sink.new) result }
+    ensures disk_causes { HasDiskCauses (D.faults disk.old) (D.faults disk.new) result }
+    ensures source_same { S.place source.new ≡ S.place source.old }
+    ensures sink_same { K.place sink.new ≡ K.place sink.old }
+    ensures disk_lasts { D.lasts disk.old disk.new }
+{
+    match read {
+        Some(Command::Day { .. }) => {
+            let ended = serve_day(alloc, source, sink, disk);
+            status_of(ended)
+        }
+        Some(Command::Connection { .. }) => {
+            let ended = serve_exchange(alloc, source, sink, disk);
+            status_of(ended)
+        }
+        Some(Command::Notices { .. }) => {
+            let ended = serve_notices(alloc, source, sink, disk);
+            status_of(ended)
+        }
+        Some(Command::Bidder) => {
+            let ended = serve_prices(alloc, source, sink);
+            status_of(ended)
+        }
+        Some(Command::Generate { seed, asks }) => {
+            let ended = serve_generated(alloc, Generator { seed, asks }, sink, disk);
+            status_of(ended)
+        }
+        Some(Command::Help(topic)) => tell(sink, help_of(topic), DONE),
+        Some(Command::Version) => tell(sink, VERSION, DONE),
+        None => tell(sink, USAGE, NO_COMMAND),
+    }
+}
+
+/// Runs what the words are read as.
+fn run_words<S: Source, K: Sink, D: Disk>(
+    alloc: Global,
+    words: &[Text],
+    source: &mut S,
+    sink: &mut K,
+    disk: &mut D,
+) -> u8
+    ensures does { DoesAsRead (Runs D.faults D.reads D.may_leave D.moment D.left_since (S.tape source.old) (S.tape source.new) (K.held sink.old) (K.held sink.new) disk.old disk.new result) source.old source.new disk.old disk.new words.now }
+    ensures causes { HasCauses (S.faults source.old) (S.faults source.new) (K.faults sink.old) (K.faults sink.new) result }
+    ensures disk_causes { HasDiskCauses (D.faults disk.old) (D.faults disk.new) result }
+    ensures source_same { S.place source.new ≡ S.place source.old }
+    ensures sink_same { K.place sink.new ≡ K.place sink.old }
+    ensures disk_lasts { D.lasts disk.old disk.new }
+{
+    match command_of(alloc, words) {
+        Ok(read) => run(alloc, read, source, sink, disk),
+        Err(_) => OUT_OF_MEMORY,
+    }
+}
+
+/// Runs the command that the words name, which are those after the program's name, from the source to
+/// the sink on a disk, and gives the exit status.
+///
+/// The command `day` reads a roster line, opens the roster's day on the disk with the history that is there, and then reads
+/// the lines of a script. It answers each line of the script with a line, and ends with a table of the campaigns' books. A
+/// call's entry is in the journal before its answer is written, and its answer is put into the sink before more is asked of
+/// the source. A call that a fault of the disk stops, or that the journal has no room for, is answered so, and the run goes on.
+///
+/// The command `conn` reads a roster line, opens the roster's day on the disk, and serves the HTTP connection that comes
+/// after the line: requests for bids, which bidders answer that give the roster's `replies` one after the other, notices,
+/// and the books. An entry is in the journal before its reply is put. A call that a fault of the disk stops is replied
+/// so, and the connection goes on.
+///
+/// The command `notices` reads a roster line and ignores what comes after it. It opens the roster's day on the disk, and
+/// writes a line for each post that the day's history owes its bidders: its kind, a space and its URL. Nothing is added to
+/// the history. After 2^36 bytes of input it writes the line of a roster that is too long.
+///
+/// The command `bidder` reads a price line, and serves the HTTP connection that comes after it: it answers requests for
+/// bids, counts the notices that it gets, and shows its books and its ledger. The disk isn't touched.
+///
+/// The command `gen` reads nothing. It takes the calls of a generated day on the disk, of so many asks by the words of a
+/// seed, and writes the closing table. It ends at once where the disk fails, with status 6, and then the sink takes nothing.
+///
+/// The words `--help`, alone or after a command's word, `help`, alone or before it, and `--version` ask for a text, which
+/// the sink takes.
+///
+/// Words in plain spelling are taken: the command's word comes first, and after it each of its options once, as two words,
+/// in any order, its value not beginning with `-`. Other spellings do what `clap` reads of them.
+///
+/// The status is 0 where the command came to its end, and the disk met no fault: `day`, `notices`, `conn` and `bidder` read
+/// the source to its end, the latter two to that of the connection; 2 where the words aren't a command, and then the sink
+/// takes a usage line; 3 where the first line isn't a roster, for `bidder` a price line, or where the input of `day` or
+/// `notices` passes 2^36 bytes, of which one more is taken; 4 where the source failed, and then the sink took the answers
+/// to all whole lines, or the replies to all whole messages, that the source gave, where it gave the first line; 5 where
+/// the sink failed, and 12 out of memory, and then the sink took a prefix of the output; 6 where the disk failed
+/// while the day was opened or, for `gen`, at any time, and then the sink took nothing, or where the source was read to its
+/// end and the disk met a fault in a call that was given up by it, or, for `conn`, in the record of notices that waited,
+/// which were then taken one by one; 7 where the disk's file isn't a journal of the roster's day, and then the sink took a
+/// line that says why. The count of faults of the source rises exactly at 4 and that of the sink exactly at 5, except where a
+/// count is at its last value; that of the disk rises in just the calls that are answered so, and for `conn` in such
+/// records. Each input has one output for each history at the start and each choice of calls that are given up.
+pub fn adx<S: Source, K: Sink, D: Disk>(
+    alloc: Global,
+    words: &[Text],
+    source: &mut S,
+    sink: &mut K,
+    disk: &mut D,
+) -> u8
+    ensures day { IsDay words.now → RunsDay D.faults D.reads D.may_leave D.moment D.left_since (S.tape source.old) (S.tape source.new) (K.held sink.old) (K.held sink.new) disk.old disk.new result }
+    ensures connection { IsConnection words.now → RunsConnection D.faults D.reads D.may_leave D.moment D.left_since (S.tape source.old) (S.tape source.new) (K.held sink.old) (K.held sink.new) disk.old disk.new result }
+    ensures bidder { IsBidder words.now → RunsBidder (S.tape source.old) (S.tape source.new) (K.held sink.old) (K.held sink.new) result }
+    ensures generated { (seed asks : ℕ) → IsGenerated words.now seed asks → RunsGenerated D.faults D.reads D.may_leave D.moment D.left_since seed asks (K.held sink.old) (K.held sink.new) disk.old disk.new result }
+    ensures notices { IsNotices words.now → RunsNotices D.faults D.reads D.may_leave D.moment D.left_since (S.tape source.old) (S.tape source.new) (K.held sink.old) (K.held sink.new) disk.old disk.new result }
+    ensures help { (topic : HelpTopic) → IsHelp words.now topic → Tells (help_text topic) 0 (K.held sink.old) (K.held sink.new) result }
+    ensures version { IsVersion words.now → Tells version_text 0 (K.held sink.old) (K.held sink.new) result }
+    ensures usage { result ≡ 2 → IsCommand words.now → ⊥ }
+    ensures other { DoesAsRead (Runs D.faults D.reads D.may_leave D.moment D.left_since (S.tape source.old) (S.tape source.new) (K.held sink.old) (K.held sink.new) disk.old disk.new result) source.old source.new disk.old disk.new words.now }
+    ensures unasked { (command : Meaning) → IsPlain command words.now → AsksNothing (Some command) → source.new ≡ source.old }
+    ensures untouched { (command : Meaning) → IsPlain command words.now → LeavesDisk (Some command) → disk.new ≡ disk.old }
+    ensures read_fault { result ≡ 4 → Rises (S.faults source.old) (S.faults source.new) }
+    ensures read_passed { result ≢ 4 → S.faults source.new ≡ S.faults source.old }
+    ensures write_fault { result ≡ 5 → Rises (K.faults sink.old) (K.faults sink.new) }
+    ensures write_passed { result ≢ 5 → K.faults sink.new ≡ K.faults sink.old }
+    ensures disk_fault { result ≡ 6 → Rises (D.faults disk.old) (D.faults disk.new) }
+    ensures disk_passed { (result ≡ 0) ⊎ (result ≡ 7) → D.faults disk.new ≡ D.faults disk.old }
+    ensures source_later { S.faults source.old ≤ S.faults source.new }
+    ensures sink_later { K.faults sink.old ≤ K.faults sink.new }
+    ensures disk_later { D.faults disk.old ≤ D.faults disk.new }
+    ensures outputs { HasOutputs }
+    ensures one_output { HasOneOutput }
+    ensures source_same { S.place source.new ≡ S.place source.old }
+    ensures sink_same { K.place sink.new ≡ K.place sink.old }
+    ensures disk_lasts { D.lasts disk.old disk.new }
+{
+    run_words(alloc, words, source, sink, disk)
+}

@@ -1,0 +1,45 @@
+//! The exit status of a command, by how it ended.
+ghost use Rattle.std.specs.Prelude.{◌≡◌};
+ghost use Rattle.adx_commands.specs.Statuses.{status_of as status_by};
+
+use adx_io::Stop;
+use script_day::Ending;
+
+/// The status where the input was read to its end.
+pub const DONE: u8 = 0;
+
+/// The status where the words aren't a command.
+pub const NO_COMMAND: u8 = 2;
+
+/// The status where the input isn't of its form, or passes its limit.
+pub const REFUSED: u8 = 3;
+
+/// The status where the source failed.
+pub const READ_FAULT: u8 = 4;
+
+/// The status where the sink failed.
+pub const WRITE_FAULT: u8 = 5;
+
+/// The status where the disk failed.
+pub const DISK_FAULT: u8 = 6;
+
+/// The status where the disk's file stands for no history of the roster.
+pub const NO_HISTORY: u8 = 7;
+
+/// The status where memory was refused.
+pub const OUT_OF_MEMORY: u8 = 12;
+
+/// The exit status of a command that ended so.
+pub fn status_of(ended: Result<(), Ending>) -> u8
+    ensures { result ≡ status_by ended }
+{
+    match ended {
+        Ok(()) => DONE,
+        Err(Ending::Refused) => REFUSED,
+        Err(Ending::DiskFault) => DISK_FAULT,
+        Err(Ending::NoHistory) => NO_HISTORY,
+        Err(Ending::Stopped(Stop::ReadFault)) => READ_FAULT,
+        Err(Ending::Stopped(Stop::WriteFault)) => WRITE_FAULT,
+        Err(Ending::Stopped(Stop::OutOfMemory)) => OUT_OF_MEMORY,
+    }
+}

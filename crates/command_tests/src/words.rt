@@ -1,0 +1,212 @@
+//! Words in plain and in other spellings, and words that are no command.
+use adx_units::{OutOfMemory, Text};
+use command_words::{Command, Topic, command_of, complaint_of};
+use std::alloc::Global;
+
+/// Words between bars, and behind the arrow what they ask for.
+const TABLE: &str = "day => day
+day|--journal|a.journal => day a.journal
+day|--journal| => day 
+day|--journal=a.journal => day a.journal
+day|--journal=--help => day --help
+day|--journal=a=b => day a=b
+day|--journal|a=b => day a=b
+conn => conn
+conn|--journal|a.journal => conn a.journal
+conn|--journal=a.journal => conn a.journal
+conn|--journal => none
+conn|--journal|a|--journal|a => none
+conn|a => none
+connection => none
+notices|--journal|a.journal => notices a.journal
+notices|--journal=a.journal => notices a.journal
+notices|--journal| => notices 
+notices => none
+notices|--journal => none
+notices|--journal|-a => none
+notices|--journal|a|--journal|a => none
+notices|a => none
+notices|--journal|a|b => none
+notices|--seed|7 => none
+notice|--journal|a => none
+bidder => bidder
+gen|--seed|7|--asks|250 => gen 7 250
+gen|--asks|250|--seed|7 => gen 7 250
+gen|--asks=250|--seed|7 => gen 7 250
+gen|--seed=0|--asks=0 => gen 0 0
+gen|--seed|18446744073709551615|--asks|1000000 => gen 18446744073709551615 1000000
+gen|--seed|18446744073709551616|--asks|1 => none
+gen|--seed|1|--asks|1000001 => none
+gen|--seed|07|--asks|250 => none
+gen|--seed|+7|--asks|250 => none
+gen|--seed|-7|--asks|250 => none
+gen|--seed=-7|--asks|250 => none
+gen|--seed||--asks|250 => none
+gen|--seed|7 => none
+gen|--seed|7|--asks => none
+gen|--seed|7|--asks|250|--seed|7 => none
+gen|--seed|7|--asks|250|8 => none
+gen|--journal|a|--seed|7|--asks|250 => none
+gen => none
+day|--journal => none
+day|--journal|--journal => none
+day|--journal|-a => none
+day|--journal|a|--journal|a => none
+day|--journal|a|--journal=b => none
+day|a => none
+day|-- => day
+day|--journ|a => none
+day|-j|a => none
+day|day => none
+bidder|--journal|a => none
+--journal|a|day => none
+days => none
+Day => none
+help => help 
+help|day => help day
+help|gen => help gen
+help|day|--journal|a => help day
+help|days => none
+help|help => none
+day|help => none
+-- => none
+-|day => none
+ => none
+--help => help 
+-h => help 
+day|--help => help day
+day|-h => help day
+conn|--help => help conn
+notices|--help => help notices
+bidder|--help => help bidder
+gen|--help => help gen
+gen|--seed|7|--help => help gen
+day|--help|--nothing => help day
+day|--nothing|--help => none
+--version => version
+-V => version
+day|--version => none
+";
+
+/// The name of a topic.
+fn name_of(topic: Topic) -> &'static str {
+    match topic {
+        Topic::Program => "",
+        Topic::Day => "day",
+        Topic::Connection => "conn",
+        Topic::Notices => "notices",
+        Topic::Bidder => "bidder",
+        Topic::Generate => "gen",
+    }
+}
+
+/// Whether a text is a word, a blank and this rest.
+fn is_with(text: &str, word: &str, rest: &str) -> bool {
+    match text.split_once(' ') {
+        Some((first, behind)) => first == word && behind == rest,
+        None => false,
+    }
+}
+
+/// Whether a text is the word of a generated day, and its numbers behind it.
+fn is_generated(text: &str, seed: u64, asks: u64) -> bool {
+    let Some((word, numbers)) = text.split_once(' ') else {
+        return false;
+    };
+    let Some((first, second)) = numbers.split_once(' ') else {
+        return false;
+    };
+    word == "gen" && first.parse::<u64>() == Ok(seed) && second.parse::<u64>() == Ok(asks)
+}
+
+/// Whether a command is what the table says that words ask for.
+fn is_asked(command: &Option<Command>, asked: &str) -> bool {
+    match command {
+        None => asked == "none",
+        Some(Command::Day { journal: None }) => asked == "day",
+        Some(
+            Command::Day {
+                journal: Some(file),
+            },
+        ) => is_with(asked, "day", file.as_str()),
+        Some(Command::Connection { journal: None }) => asked == "conn",
+        Some(
+            Command::Connection {
+                journal: Some(file),
+            },
+        ) => is_with(asked, "conn", file.as_str()),
+        Some(Command::Notices { journal }) => is_with(asked, "notices", journal.as_str()),
+        Some(Command::Bidder) => asked == "bidder",
+        Some(Command::Generate { seed, asks }) => is_generated(asked, *seed, *asks),
+        Some(Command::Help(topic)) => is_with(asked, "help", name_of(*topic)),
+        Some(Command::Version) => asked == "version",
+    }
+}
+
+/// The words that stand between bars.
+fn words_of(alloc: Global, spelled: &str) -> Result<Vec<Text>, OutOfMemory> {
+    let mut words = Vec::new(alloc);
+    for word in spelled.split('|') {
+        words.push(Text::of(alloc, word)?)?;
+    }
+    Ok(words)
+}
+
+/// Whether the words of a row ask for what it says.
+fn is_read(alloc: Global, row: &str) -> Result<bool, OutOfMemory> {
+    let Some((spelled, asked)) = row.split_once(" => ") else {
+        return Ok(false);
+    };
+    let words = words_of(alloc, spelled)?;
+    let command = command_of(alloc, words.as_slice())?;
+    Ok(is_asked(&command, asked))
+}
+
+/// Whether no words ask for nothing.
+fn is_nothing_read(alloc: Global) -> Result<bool, OutOfMemory> {
+    Ok(command_of(alloc, &[])?.is_none())
+}
+
+#[test]
+fn reads_words(rt: HostRuntime) {
+    for row in TABLE.lines() {
+        assert_eq!(rt; is_read(rt.alloc(), row), Ok(true), "{row}");
+    }
+    assert_eq!(rt; is_nothing_read(rt.alloc()), Ok(true));
+}
+
+/// Words between bars, and behind the arrow what is said of them.
+const COMPLAINTS: &str = "\
+days => unrecognized subcommand 'days'
+day|--jurnal|a => unexpected argument '--jurnal' found
+day|--journal => a value is required for '--journal <journal>' but none was supplied
+day|--journal|a|--journal|b => the argument '--journal <journal>' cannot be used multiple times
+notices => the following required arguments were not provided: --journal <journal>
+gen => the following required arguments were not provided: --seed <seed> --asks <asks>
+gen|--seed|07|--asks|250 => '--seed' is a decimal number below 2^64, and '--asks' one of at most 1000000, both without a sign or a leading zero
+help|days => unrecognized subcommand 'days'
+";
+
+/// Whether what is said of the words of a row is what it says.
+fn is_said(alloc: Global, row: &str) -> Result<bool, OutOfMemory> {
+    let Some((spelled, said)) = row.split_once(" => ") else {
+        return Ok(false);
+    };
+    let words = words_of(alloc, spelled)?;
+    let complaint = complaint_of(alloc, words.as_slice())?;
+    Ok(complaint.as_str() == said)
+}
+
+/// Whether no words are said to be no command.
+fn is_none_said(alloc: Global) -> Result<bool, OutOfMemory> {
+    let complaint = complaint_of(alloc, &[])?;
+    Ok(complaint.as_str() == "no command; 'adx --help' shows them")
+}
+
+#[test]
+fn says_what_is_wrong_with_words(rt: HostRuntime) {
+    for row in COMPLAINTS.lines() {
+        assert_eq!(rt; is_said(rt.alloc(), row), Ok(true), "{row}");
+    }
+    assert_eq!(rt; is_none_said(rt.alloc()), Ok(true));
+}
