@@ -1,0 +1,3 @@
+pub mod Printed
+pub mod Opened
+pub mod DiskCounts

@@ -1,0 +1,27 @@
+-- How something of a day's history is printed over a source, a sink and a disk. This project's own.
+use Rattle.std.specs.Prelude.{Option, Result}
+use Rattle.adx_io.specs.declared.disk.Disk as disk
+use Rattle.adx_io.specs.declared.sink.Sink as sink
+use Rattle.adx_io.specs.declared.source.Source as source
+use Rattle.adx_io.specs.declared.stop.Stop.{Stop}
+use Rattle.command_runs.specs.Documents.{document}
+use Rattle.command_runs.specs.Firsts.{LeavesFirst, by_first}
+use Rattle.command_runs.specs.Meanings.{Meaning}
+use Rattle.command_runs.specs.Runs.{Runs}
+use Rattle.command_runs.specs.declared.limits.TheConstants.{INPUT_LIMIT}
+use Rattle.command_runs.specs.declared.outcome.Outcome.{Outcome}
+use Rattle.deal_floor.specs.declared.roster.Roster.{Roster}
+use Rattle.history_runs.specs.Histories.{LeavesDay, Opening, Prints, tells}
+use Rattle.history_runs.specs.Rosters.{roster_heads}
+
+-- What a command means that prints of a history: by the roster of the first line, if there is one, and what came of its day.
+abbrev pub history_command : Prints → Option (Roster × Opening) → Meaning
+history_command prints = by_first roster_heads INPUT_LIMIT (λ r allowed o. document allowed (tells prints r o))
+
+-- Such a command ran so.
+pub record RunsHistory {S K D : Type 0} (s : source.Ghosts S) (k : sink.Ghosts K) (d : disk.Ghosts D) (prints : Prints) (old new : S) (sink_old sink_new : K) (disk_old disk_new : D) (result : Result Outcome Stop) : Type 0 where
+  pub course : Option (Roster × Opening)
+  -- what became of the disk,
+  pub leaves : LeavesFirst (λ before now r o. LeavesDay d r o before now) disk_old disk_new course result
+  -- and of the source and the sink
+  pub runs : Runs s k (history_command prints course) old new sink_old sink_new result

@@ -1,0 +1,248 @@
+//! What is printed of a day's history.
+ghost use Rattle.std.specs.Prelude.{◌≡◌, ◌≤◌, [], length};
+ghost use Rattle.adx_io.specs.Streams.{WhereTold};
+ghost use Rattle.adx_io.specs.Talk.{HasCauses};
+ghost use Rattle.adx_io.specs.TalkState.{place_of, state_of};
+ghost use Rattle.adx_io.specs.declared.line_buffer.TheConstants.{CHUNK};
+ghost use Rattle.adx_desk.specs.Rosters.{desk_terms};
+ghost use Rattle.command_runs.specs.Documents.{document};
+ghost use Rattle.command_runs.specs.Meanings.{PutsEnd, Wrote};
+ghost use Rattle.command_runs.specs.declared.outcome.Outcome.TheVariants.{Refused};
+ghost use Rattle.day_rules.specs.DayState.{IsDay};
+ghost use Rattle.history_runs.specs.Histories.{LeavesDay, Opening, PutsTold, PutsUnopened, tells, unopened_end};
+ghost use Rattle.history_runs.specs.Histories.Opening.{opened};
+ghost use Rattle.history_runs.specs.Runs.{RunsHistory};
+ghost use Rattle.script_day.specs.Output.{roster_refused_line};
+ghost use Rattle.script_lines.specs.declared.refusal.RosterRefusal.TheVariants.{Long};
+
+use crate::roster::{push_roster_lack, roster_of};
+use adx_desk::{Desk, DeskFault};
+use adx_io::{Disk, Rest, Sink, Source, Stop, Talk};
+use adx_units::OutOfMemory;
+use command_runs::{Led, NoLine, Outcome, put_end, run_led, skip_rest};
+use day_rules::Entry;
+use deal_floor::Roster;
+use script_day::push_unopened;
+use std::alloc::Global;
+
+/// A command's own part where it prints something of a day's history.
+pub trait Print {
+    ghost use Rattle.std.specs.Prelude.{◌≡◌, []};
+    ghost use Rattle.adx_io.specs.Talk.{HasCauses};
+    ghost use Rattle.adx_io.specs.TalkState.{place_of, state_of};
+    ghost use Rattle.adx_desk.specs.Rosters.{desk_terms};
+    ghost use Rattle.day_rules.specs.DayState.{IsDay};
+    ghost use Rattle.history_runs.specs.Histories.{Printed, Prints};
+
+    /// What is printed of which history.
+    ghost prints: { Prints };
+
+    /// Puts what is printed of the history of a roster's day into the sink, in one piece or several. Nothing is asked of
+    /// the source.
+    fn print<S: Source, K: Sink>(
+        &self,
+        alloc: Global,
+        roster: &Roster,
+        entries: &[Entry],
+        talk: &mut Talk<'_, S, K>,
+    ) -> Result<(), Stop>
+        requires unwritten { (state_of talk.old).out ≡ [] }
+        requires day { IsDay (desk_terms roster.now).day entries.now }
+        ensures printed { Printed prints roster.entry.now entries.now (K.held talk.old.sink.now) (K.held talk.new.sink.now) result }
+        ensures rest { talk.new.source ≡ talk.old.source }
+        ensures causes { HasCauses (state_of talk.old) (state_of talk.new) result }
+        ensures same { place_of talk.new ≡ place_of talk.old };
+}
+
+/// How a run ends whose day wasn't opened for this cause.
+fn end_of(fault: &DeskFault) -> Result<Outcome, Stop>
+    ensures { result ≡ unopened_end fault.now }
+{
+    match fault {
+        DeskFault::DiskFault => Ok(Outcome::DiskFault),
+        DeskFault::OutOfMemory => Err(Stop::OutOfMemory),
+        DeskFault::NotAJournal { .. }
+        | DeskFault::BadLength { .. }
+        | DeskFault::BadEntry { .. }
+        | DeskFault::OtherRoster { .. }
+        | DeskFault::JournalFull { .. } => Ok(Outcome::NoHistory),
+    }
+}
+
+/// Puts why a day wasn't opened.
+fn tell_unopened<S: Source, K: Sink>(
+    talk: &mut Talk<'_, S, K>,
+    fault: &DeskFault,
+) -> Result<Outcome, Stop>
+    requires unwritten { (state_of talk.old).out ≡ [] }
+    ensures puts { PutsUnopened fault.now (state_of talk.old).held (state_of talk.new).held result }
+    ensures rest { talk.new.source ≡ talk.old.source }
+    ensures causes { HasCauses (state_of talk.old) (state_of talk.new) result }
+    ensures same { place_of talk.new ≡ place_of talk.old }
+{
+    match end_of(fault) {
+        Ok(outcome) => match push_unopened(talk.out, fault) {
+            Ok(()) => put_end(talk, outcome),
+            Err(_) => Err(Stop::OutOfMemory),
+        },
+        Err(stop) => Err(stop),
+    }
+}
+
+/// Prints of a history, and ends the run.
+fn print_history<P: Print, S: Source, K: Sink>(
+    alloc: Global,
+    print: &P,
+    roster: &Roster,
+    entries: &[Entry],
+    talk: &mut Talk<'_, S, K>,
+) -> Result<Outcome, Stop>
+    requires unwritten { (state_of talk.old).out ≡ [] }
+    requires day { IsDay (desk_terms roster.now).day entries.now }
+    ensures puts { PutsTold P.prints roster.entry.now (opened entries.now) (state_of talk.old).held (state_of talk.new).held result }
+    ensures rest { talk.new.source ≡ talk.old.source }
+    ensures causes { HasCauses (state_of talk.old) (state_of talk.new) result }
+    ensures same { place_of talk.new ≡ place_of talk.old }
+{
+    match print.print(alloc, roster, entries, talk) {
+        Ok(()) => Ok(Outcome::Done),
+        Err(stop) => Err(stop),
+    }
+}
+
+/// Opens a roster's day on its disk, and prints of its history.
+fn print_day<P: Print, S: Source, K: Sink, D: Disk>(
+    alloc: Global,
+    print: &P,
+    roster: &Roster,
+    disk: &mut D,
+    talk: &mut Talk<'_, S, K>,
+) -> Result<Outcome, Stop>
+    requires unwritten { (state_of talk.old).out ≡ [] }
+    ensures puts { (o : Opening) × LeavesDay D.Disk roster.entry.now o disk.old disk.new result × PutsTold P.prints roster.entry.now o (state_of talk.old).held (state_of talk.new).held result }
+    ensures lasts { D.lasts disk.old disk.new }
+    ensures rest { talk.new.source ≡ talk.old.source }
+    ensures causes { HasCauses (state_of talk.old) (state_of talk.new) result }
+    ensures same { place_of talk.new ≡ place_of talk.old }
+{
+    match Desk::open(alloc, &mut *disk, roster) {
+        Ok(desk) => {
+            let ended = print_history(alloc, print, roster, desk.entries(), talk);
+            let _ = desk.close();
+            ended
+        }
+        Err(refused) => {
+            let (fault, _) = refused;
+            tell_unopened(talk, &fault)
+        }
+    }
+}
+
+/// Puts that the input of a roster is too long.
+fn tell_long<S: Source, K: Sink>(alloc: Global, talk: &mut Talk<'_, S, K>) -> Result<Outcome, Stop>
+    requires unwritten { (state_of talk.old).out ≡ [] }
+    ensures puts { PutsEnd Refused (state_of talk.old).held (state_of talk.new).held (roster_refused_line Long) result }
+    ensures rest { talk.new.source ≡ talk.old.source }
+    ensures causes { HasCauses (state_of talk.old) (state_of talk.new) result }
+    ensures same { place_of talk.new ≡ place_of talk.old }
+{
+    match push_roster_lack(alloc, talk.out, NoLine::Long) {
+        Ok(()) => put_end(talk, Outcome::Refused),
+        Err(_) => Err(Stop::OutOfMemory),
+    }
+}
+
+/// Reads what comes after a roster's line, and prints of its day.
+fn print_rest<P: Print, S: Source, K: Sink, D: Disk>(
+    alloc: Global,
+    print: &P,
+    roster: &Roster,
+    disk: &mut D,
+    talk: &mut Talk<'_, S, K>,
+) -> Result<Outcome, Stop>
+    requires unwritten { (state_of talk.old).out ≡ [] }
+    requires ahead { length talk.old.buffer.now.pending ≤ CHUNK }
+    ensures ran { (o : Opening) × LeavesDay D.Disk roster.entry.now o disk.old disk.new result × WhereTold (state_of talk.old).tape (S.tape talk.new.source.now) (λ before now. Wrote (document (state_of talk.old).allowed (tells P.prints roster.entry.now o)) before.left now.left (K.held talk.old.sink.now) (K.held talk.new.sink.now) result) }
+    ensures lasts { D.lasts disk.old disk.new }
+    ensures causes { HasCauses (state_of talk.old) (state_of talk.new) result }
+    ensures same { place_of talk.new ≡ place_of talk.old }
+{
+    match skip_rest(talk) {
+        Ok(Rest::Whole) => print_day(alloc, print, roster, disk, talk),
+        Ok(Rest::PastLimit) => tell_long(alloc, talk),
+        Err(stop) => Err(stop),
+    }
+}
+
+/// A command that prints something of a history, on a disk.
+#[derive(Drop)]
+struct Printing<'a, P: Print, D: Disk> {
+    print: &'a P,
+    disk: &'a mut D,
+}
+
+impl<P: Print, D: Disk> Led for Printing<'_, P, D> {
+    ghost use Rattle.std.specs.Prelude.{◌≡◌, ◌∷◌, []};
+    ghost use Rattle.adx_io.specs.Streams.{WhereTold};
+    ghost use Rattle.command_runs.specs.Documents.{document};
+    ghost use Rattle.history_runs.specs.Histories.{LeavesDay, Opening, tells};
+    ghost use Rattle.history_runs.specs.Rosters.{roster_heads};
+
+    type Head = Roster;
+
+    ghost heads = { roster_heads };
+
+    ghost course = { Opening };
+
+    ghost meaning = { λ r allowed o. document allowed (tells P.prints r o) };
+
+    ghost leaves = { λ old new r o result. LeavesDay D.Disk r o old.disk.now new.disk.now result × D.lasts old.disk.now new.disk.now };
+
+    ghost place = { λ s. s.disk.ghost_name ∷ [] };
+
+    fn head_of(
+        alloc: Global,
+        line: &[u8],
+        out: &mut String,
+    ) -> Result<Option<Roster>, OutOfMemory> {
+        roster_of(alloc, line, out)
+    }
+
+    fn push_lack(alloc: Global, out: &mut String, why: NoLine) -> Result<(), OutOfMemory> {
+        push_roster_lack(alloc, out, why)
+    }
+
+    fn run_rest<S: Source, K: Sink>(
+        &mut self,
+        alloc: Global,
+        head: Roster,
+        talk: &mut Talk<'_, S, K>,
+    ) -> Result<Outcome, Stop> {
+        print_rest(alloc, self.print, &head, self.disk, talk)
+    }
+}
+
+/// Prints something of the history of a roster's day, on a disk.
+///
+/// The first line of the source is the roster's; what comes after it is read to its end and nothing depends on it. Then the
+/// day is opened on the disk, and what the command prints of its history is put into the sink. No entry is added: the disk
+/// stands for the same history afterwards.
+///
+/// `Done`: the sink took all that is printed. `Refused`: the first line isn't a roster's, or the input passes `INPUT_LIMIT`
+/// bytes, of which one more is taken; the sink took the answer that says why, and the disk is as it was. `DiskFault`: the
+/// disk failed while the day was opened, and the sink took nothing. `NoHistory`: the disk's file isn't a journal of the
+/// roster's day, and the sink took the answer that says why. `Err`: the source or the sink failed, whose count rose then,
+/// or memory was refused; the sink took a prefix of the output.
+pub fn run_history<P: Print, S: Source, K: Sink, D: Disk>(
+    alloc: Global,
+    print: &P,
+    source: &mut S,
+    sink: &mut K,
+    disk: &mut D,
+) -> Result<Outcome, Stop>
+    ensures runs { RunsHistory S.Source K.Sink D.Disk P.prints source.old source.new sink.old sink.new disk.old disk.new result }
+    ensures lasts { D.lasts disk.old disk.new }
+{
+    let mut printing = Printing { print, disk };
+    run_led(alloc, &mut printing, source, sink)
+}
