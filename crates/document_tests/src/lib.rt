@@ -1,9 +1,11 @@
-//! Tables of tests of records, of certificates, of their checker and of days that are served and closed, over their
+//! Tables of tests of records, of certificates, of their checker, of the command that checks and of days that are served and closed, over their
 //! public calls.
 #![tactic(auto)]
 
 #[cfg(test)]
 mod certificates;
+#[cfg(test)]
+mod checks;
 #[cfg(test)]
 mod records;
 #[cfg(test)]

@@ -1,0 +1,9 @@
+pub mod Chains
+pub mod LineNumbers
+pub mod Places
+pub mod RecordFaults
+pub mod CertFaults
+pub mod Verdicts
+pub mod OneAnswer
+pub mod Judged
+pub mod Ended

@@ -1,0 +1,5 @@
+pub mod Documents
+pub mod Readings
+pub mod Answers
+pub mod Checks
+pub mod Runs
