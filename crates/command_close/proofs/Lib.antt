@@ -1,0 +1,3 @@
+pub mod Putting
+pub mod OneDocument
+pub mod OneGuarantee

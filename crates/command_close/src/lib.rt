@@ -1,0 +1,14 @@
+//! The commands that close a day.
+//!
+//! `close_journal` prints the document of the day that a journal keeps: the record of its history, and the certificate
+//! that bounds what any assignment of its impressions earns. `measure_journal` prints the line of its revenue guarantee.
+//! What they print stands in `specs/ClosedDays` and `specs/Guarantees`.
+//! Stands on `history_runs` for the run, on `served_record` for the document, and on `ratio_law` for the guarantee.
+#![tactic(auto)]
+
+mod closing;
+mod measuring;
+mod text;
+
+pub use closing::close_journal;
+pub use measuring::measure_journal;
