@@ -9,7 +9,6 @@
 
 mod journal_file;
 mod messages;
-mod noting;
 mod run;
 
 use crate::messages::say_memory;

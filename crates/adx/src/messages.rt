@@ -1,14 +1,13 @@
 //! What a run that failed says on standard error: one line.
 use crate::journal_file::FileFault;
-use crate::noting::Told;
 use adx_commands::{
-    DISK_FAULT, DONE, NO_COMMAND, NO_HISTORY, OUT_OF_MEMORY, READ_FAULT, REFUSED, WRITE_FAULT,
+    DISK_FAULT, DONE, NO_COMMAND, NO_HISTORY, NOT_ACCEPTED, OUT_OF_MEMORY, READ_FAULT, REFUSED,
+    WRITE_FAULT,
 };
 use adx_units::Text;
 use command_words::complaint_of;
+use noted_streams::{Reason, Told};
 use std::cell::Cell;
-use std::fmt;
-use std::fmt::Display;
 
 /// What the system said of standard input, standard output and the journal's file.
 #[derive(Drop)]
@@ -25,19 +24,6 @@ impl Heard {
             input: Cell::new(None),
             output: Cell::new(None),
             file: Cell::new(None),
-        }
-    }
-}
-
-/// What the system said, or that it gave no reason.
-#[derive(Drop)]
-struct Reason<'a>(&'a Told);
-
-impl<'a> Display for Reason<'a> {
-    fn fmt<W: fmt::Write>(&self, f: &mut fmt::Formatter<W>) -> fmt::Result {
-        match self.0.get() {
-            Some(error) => error.fmt(f),
-            None => f.write_str("failed"),
         }
     }
 }
@@ -77,7 +63,7 @@ pub(crate) fn say(rt: &HostRuntime, words: &[Text], path: &str, heard: &Heard, s
         }
         REFUSED => {
             eprintln!(rt;
-                "adx: standard input: the first line isn't of its form, or the input is too long"
+                "adx: standard input: isn't of its form, or is too long (standard output says why)"
             )
         }
         READ_FAULT => eprintln!(rt; "adx: standard input: {}", Reason(&heard.input)),
@@ -87,6 +73,9 @@ pub(crate) fn say(rt: &HostRuntime, words: &[Text], path: &str, heard: &Heard, s
             eprintln!(rt;
                 "adx: {path}: holds another roster's day, or isn't a journal (standard output says which)"
             )
+        }
+        NOT_ACCEPTED => {
+            eprintln!(rt; "adx: the certificate isn't accepted (standard output says why)")
         }
         OUT_OF_MEMORY => eprintln!(rt; "adx: out of memory"),
         _ => Ok(()),

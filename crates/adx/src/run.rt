@@ -1,12 +1,12 @@
 //! Runs the words of a command line between the standard streams, on the disk that they ask for.
 use crate::journal_file::{FileFault, open_journal};
 use crate::messages::{Heard, say, say_memory, say_no_text, say_not_opened};
-use crate::noting::Noting;
 use adx_commands::{
     DISK_FAULT, Kept, NO_COMMAND, OUT_OF_MEMORY, adx, adx_in_memory, kept_by_words,
 };
 use adx_io::{FileDisk, StdSink, StdSource};
 use adx_units::Text;
+use noted_streams::Noting;
 use std::fs::File;
 use std::io::ErrorKind;
 

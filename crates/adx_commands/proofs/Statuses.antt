@@ -31,6 +31,11 @@ is_passed (Err (Ending.Stopped Stop.WriteFault)) (inr is) = absurd (omega (arith
 is_passed (Err (Ending.Stopped Stop.OutOfMemory)) (inl is) = absurd (omega (arith, is))
 is_passed (Err (Ending.Stopped Stop.OutOfMemory)) (inr is) = absurd (omega (arith, is))
 
+-- an ending that passed isn't the disk's fault
+pub not_faulted : (result : Result (Unit {0}) Ending) → (result ≡ Ok tt) ⊎ (result ≡ Err Ending.NoHistory) → result ≡ Err Ending.DiskFault → ⊥
+not_faulted result (inl done) is = cc (done, is)
+not_faulted result (inr none) is = cc (none, is)
+
 -- the disk's count is that of a day
 pub counted_day : {D : Type 0} (faults : D → ℕ) (reads : D → Option (List ℕ)) (may_leave : D → List ℕ → Type 0) (moment : D → ℕ) (left_since : D → ℕ → List ℕ → Type 0) (course : Course) (old new : D) (result : Result (Unit {0}) Ending) (status : ℕ)
     → EndsBy course result → CourseOn faults reads may_leave moment left_since course old new → status ≡ status_of result → HasDiskCauses (faults old) (faults new) status

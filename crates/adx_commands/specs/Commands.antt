@@ -1,13 +1,25 @@
 -- What comes of a command, and what words that aren't one write. How words ask for a command stands in `command_words`.
 -- This project's own.
-use Rattle.std.specs.Prelude.{◌≡◌, ◌⊎◌, ℕ, List, codes, Option, Some, None, Result}
-use Rattle.adx_io.specs.Streams.{Tape, Took}
+use Rattle.std.specs.Prelude.{◌≡◌, ◌⊎◌, ℕ, List, codes, Bool, true, false, Option, Some, None, Result}
+use Rattle.adx_io.specs.Streams.{Tape, Took, WhereTold}
+use Rattle.adx_io.specs.declared.disk.Disk as disks
+use Rattle.adx_io.specs.declared.stop.Stop.{Stop}
 use Rattle.bidder_day.specs.Bidding.{EndsBidder}
+use Rattle.command_check.specs.Runs.{ChecksInput}
+use Rattle.command_close.specs.ClosedDays.{IsClosedDay}
+use Rattle.command_close.specs.Guarantees.{IsGuarantee}
+use Rattle.command_runs.specs.Firsts.{LeavesFirst}
+use Rattle.command_runs.specs.Meanings.{Wrote}
+use Rattle.command_runs.specs.Statuses.{status_by}
+use Rattle.command_runs.specs.declared.outcome.Outcome.{Outcome}
 use Rattle.command_words.specs.Helps.{help_text, version_text}
 use Rattle.command_words.specs.Meanings.{IsPlain}
 use Rattle.command_words.specs.Taken.{IsReadingOf}
 use Rattle.command_words.specs.declared.command.Command.{Command}
 use Rattle.command_words.specs.declared.command.Topic.{Topic}
+use Rattle.deal_floor.specs.declared.roster.Roster.{Roster}
+use Rattle.history_runs.specs.Histories.{LeavesDay, Opening, Prints}
+use Rattle.history_runs.specs.Runs.{history_command}
 use Rattle.script_day.specs.Days.{ServesDay}
 use Rattle.script_day.specs.Endings.{TookFront}
 use Rattle.script_day.specs.declared.ending.Ending.{Ending}
@@ -35,6 +47,17 @@ IsGenerated words seed asks = IsPlain (Command.Generate seed asks) words
 -- the words print the notices of a day, with the journal in a file
 abbrev pub IsNotices : List (List ℕ) → Type 0
 IsNotices words = (journal : List ℕ) × IsPlain (Command.Notices journal) words
+
+-- the words print the document of the day that a journal in a file keeps, and the line of its revenue guarantee
+abbrev pub IsClose : List (List ℕ) → Type 0
+IsClose words = (journal : List ℕ) × IsPlain (Command.Close journal false) words
+
+abbrev pub IsRatio : List (List ℕ) → Type 0
+IsRatio words = (journal : List ℕ) × IsPlain (Command.Close journal true) words
+
+-- the words check a closed day
+abbrev pub IsCheck : List (List ℕ) → Type 0
+IsCheck words = IsPlain Command.Check words
 
 -- the words ask for help on this, and for the version
 abbrev pub IsHelp : List (List ℕ) → Topic → Type 0
@@ -77,6 +100,15 @@ pub record RunsNotices {D : Type 0} (faults : D → ℕ) (reads : D → Option (
   pub told : status ≡ status_of ending
   pub ends : EndsNotices faults reads may_leave moment left_since tape tape_now held held_now old new ending
 
+-- Something of the day that a journal keeps was printed over a source, a sink and a disk, told by the exit status. The course
+-- is what came of the roster and of its day; by it, what became of the disk, and what was written for the input.
+pub record RunsPrint {D : Type 0} (d : disks.Ghosts D) (prints : Prints) (tape tape_now : Option Tape) (held held_now : Option (List ℕ)) (old new : D) (status : ℕ) : Type 0 where
+  pub course : Option (Roster × Opening)
+  pub ended : Result Outcome Stop
+  pub told : status ≡ status_by ended
+  pub leaves : LeavesFirst (λ before now r o. LeavesDay d r o before now) old new course ended
+  pub wrote : WhereTold tape tape_now (λ before now. Wrote (history_command prints course) before.left now.left held held_now ended)
+
 -- The sink took the text, and the status is this one; or it took a front of the text and failed; or memory was refused
 -- before, and it took nothing.
 abbrev pub Tells : List ℕ → ℕ → Option (List ℕ) → Option (List ℕ) → ℕ → Type 0
@@ -89,20 +121,21 @@ abbrev pub usage_line : List ℕ
 usage_line = codes "usage: adx COMMAND\n"
 
 -- What was read of the words ran so; where nothing was read, they are no command.
-abbrev pub Runs : {D : Type 0} → (D → ℕ) → (D → Option (List ℕ)) → (D → List ℕ → Type 0) → (D → ℕ) → (D → ℕ → List ℕ → Type 0)
-    → Option Tape → Option Tape → Option (List ℕ) → Option (List ℕ) → D → D → ℕ → Option Command → Type 0
-Runs faults reads may_leave moment left_since tape tape_now held held_now old new status (Some (Command.Day journal)) =
-    RunsDay faults reads may_leave moment left_since tape tape_now held held_now old new status
-Runs faults reads may_leave moment left_since tape tape_now held held_now old new status (Some (Command.Connection journal)) =
-    RunsConnection faults reads may_leave moment left_since tape tape_now held held_now old new status
-Runs faults reads may_leave moment left_since tape tape_now held held_now old new status (Some (Command.Notices journal)) =
-    RunsNotices faults reads may_leave moment left_since tape tape_now held held_now old new status
-Runs faults reads may_leave moment left_since tape tape_now held held_now old new status (Some Command.Bidder) = RunsBidder tape tape_now held held_now status
-Runs faults reads may_leave moment left_since tape tape_now held held_now old new status (Some (Command.Generate seed asks)) =
-    RunsGenerated faults reads may_leave moment left_since seed asks held held_now old new status
-Runs faults reads may_leave moment left_since tape tape_now held held_now old new status (Some (Command.Help topic)) = Tells (help_text topic) 0 held held_now status
-Runs faults reads may_leave moment left_since tape tape_now held held_now old new status (Some Command.Version) = Tells version_text 0 held held_now status
-Runs faults reads may_leave moment left_since tape tape_now held held_now old new status None = Tells usage_line 2 held held_now status
+abbrev pub Runs : {D : Type 0} → disks.Ghosts D → Option Tape → Option Tape → Option (List ℕ) → Option (List ℕ) → D → D → ℕ → Option Command → Type 0
+Runs d tape tape_now held held_now old new status (Some (Command.Day journal)) = RunsDay d.faults d.reads d.may_leave d.moment d.left_since tape tape_now held held_now old new status
+Runs d tape tape_now held held_now old new status (Some (Command.Connection journal)) =
+    RunsConnection d.faults d.reads d.may_leave d.moment d.left_since tape tape_now held held_now old new status
+Runs d tape tape_now held held_now old new status (Some (Command.Notices journal)) =
+    RunsNotices d.faults d.reads d.may_leave d.moment d.left_since tape tape_now held held_now old new status
+Runs d tape tape_now held held_now old new status (Some Command.Bidder) = RunsBidder tape tape_now held held_now status
+Runs d tape tape_now held held_now old new status (Some (Command.Close journal false)) = RunsPrint d IsClosedDay tape tape_now held held_now old new status
+Runs d tape tape_now held held_now old new status (Some (Command.Close journal true)) = RunsPrint d IsGuarantee tape tape_now held held_now old new status
+Runs d tape tape_now held held_now old new status (Some (Command.Generate seed asks)) =
+    RunsGenerated d.faults d.reads d.may_leave d.moment d.left_since seed asks held held_now old new status
+Runs d tape tape_now held held_now old new status (Some Command.Check) = ChecksInput tape tape_now held held_now status
+Runs d tape tape_now held held_now old new status (Some (Command.Help topic)) = Tells (help_text topic) 0 held held_now status
+Runs d tape tape_now held held_now old new status (Some Command.Version) = Tells version_text 0 held held_now status
+Runs d tape tape_now held held_now old new status None = Tells usage_line 2 held held_now status
 
 -- a run of what was read asks nothing of the source
 abbrev pub AsksNothing : Option Command → Type 0
@@ -110,6 +143,8 @@ AsksNothing (Some (Command.Day journal)) = ⊥
 AsksNothing (Some (Command.Connection journal)) = ⊥
 AsksNothing (Some (Command.Notices journal)) = ⊥
 AsksNothing (Some Command.Bidder) = ⊥
+AsksNothing (Some Command.Check) = ⊥
+AsksNothing (Some (Command.Close journal ratio)) = ⊥
 AsksNothing _ = Unit {0}
 
 -- a run of what was read leaves the disk as it is
@@ -117,6 +152,7 @@ abbrev pub LeavesDisk : Option Command → Type 0
 LeavesDisk (Some (Command.Day journal)) = ⊥
 LeavesDisk (Some (Command.Connection journal)) = ⊥
 LeavesDisk (Some (Command.Notices journal)) = ⊥
+LeavesDisk (Some (Command.Close journal ratio)) = ⊥
 LeavesDisk (Some (Command.Generate seed asks)) = ⊥
 LeavesDisk _ = Unit {0}
 

@@ -8,9 +8,10 @@ abbrev pub kept_by : Option (List ℕ) → Kept
 kept_by None = Kept.InMemory
 kept_by (Some file) = Kept.Made file
 
--- what was read is kept so: a day's journal is made where it isn't there, and one whose notices are printed is never made
+-- what was read is kept so: a day's journal is made where it isn't there, and one that is printed from is never made
 abbrev pub IsKeptAs : Option Command → Kept → Type 0
 IsKeptAs (Some (Command.Day journal)) kept = kept ≡ kept_by journal
 IsKeptAs (Some (Command.Connection journal)) kept = kept ≡ kept_by journal
 IsKeptAs (Some (Command.Notices journal)) kept = kept ≡ Kept.Existing journal
+IsKeptAs (Some (Command.Close journal ratio)) kept = kept ≡ Kept.Existing journal
 IsKeptAs _ kept = kept ≡ Kept.InMemory

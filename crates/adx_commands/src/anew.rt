@@ -1,8 +1,9 @@
 //! The top call without a journal: the day begins with no history, and is kept in memory alone.
 ghost use Rattle.std.specs.Prelude.{◌≡◌, ◌≢◌, ◌≤◌, ℕ};
 ghost use Rattle.adx_io.specs.Streams.{Rises};
+ghost use Rattle.command_check.specs.Runs.{AcceptsInput, ChecksInput};
 ghost use Rattle.adx_commands.specs.Anew.{NothingStandsForNothing, RunsConnectionAnew, RunsDayAnew, RunsGeneratedAnew, TookGenerated};
-ghost use Rattle.adx_commands.specs.Commands.{IsBidder, IsCommand, IsConnection, IsDay, IsGenerated, RunsBidder};
+ghost use Rattle.adx_commands.specs.Commands.{IsBidder, IsCheck, IsCommand, IsConnection, IsDay, IsGenerated, RunsBidder};
 
 use crate::command::adx;
 use adx_io::{ByteDisk, Sink, Source};
@@ -23,6 +24,8 @@ pub fn adx_in_memory<S: Source, K: Sink>(
     ensures bidder { IsBidder words.now → RunsBidder (S.tape source.old) (S.tape source.new) (K.held sink.old) (K.held sink.new) result }
     ensures generated { (seed asks : ℕ) → IsGenerated words.now seed asks → RunsGeneratedAnew seed asks (K.held sink.old) (K.held sink.new) result }
     ensures generated_table { (seed asks : ℕ) → IsGenerated words.now seed asks → result ≡ 0 → TookGenerated seed asks (K.held sink.old) (K.held sink.new) }
+    ensures check { IsCheck words.now → ChecksInput (S.tape source.old) (S.tape source.new) (K.held sink.old) (K.held sink.new) result }
+    ensures accepted { IsCheck words.now → result ≡ 0 → AcceptsInput (S.tape source.old) (S.tape source.new) (K.held sink.old) (K.held sink.new) }
     ensures empty { NothingStandsForNothing }
     ensures usage { result ≡ 2 → IsCommand words.now → ⊥ }
     ensures read_fault { result ≡ 4 → Rises (S.faults source.old) (S.faults source.new) }

@@ -1,20 +1,26 @@
 //! The top call, from the words of a command to its exit status.
 ghost use Rattle.std.specs.Prelude.{◌≡◌, ◌≢◌, ◌⊎◌, ◌≤◌, ℕ, Some};
 ghost use Rattle.adx_io.specs.Streams.{Rises};
+ghost use Rattle.command_check.specs.Checks.{HasOneAnswer};
+ghost use Rattle.command_check.specs.Runs.{AcceptsInput, ChecksInput};
+ghost use Rattle.command_close.specs.ClosedDays.{HasOneDocument, IsClosedDay};
+ghost use Rattle.command_close.specs.Guarantees.{HasOneGuarantee, IsGuarantee};
 ghost use Rattle.command_words.specs.Helps.{help_text, version_text};
 ghost use Rattle.command_words.specs.Meanings.{HasFewAsks, IsPlain};
 ghost use Rattle.command_words.specs.declared.command.Command.{Command as Meaning};
 ghost use Rattle.command_words.specs.declared.command.Topic.{Topic as HelpTopic};
 ghost use Rattle.script_day.specs.Days.{HasOneOutput, HasOutputs};
 ghost use Rattle.adx_commands.specs.Statuses.{HasCauses, HasDiskCauses};
-ghost use Rattle.adx_commands.specs.Commands.{AsksNothing, Does, DoesAsRead, IsBidder, IsCommand, IsConnection, IsDay, IsGenerated, IsHelp, IsNotices, IsVersion, LeavesDisk, Runs, RunsBidder, RunsConnection, RunsDay, RunsGenerated, RunsNotices, Tells};
+ghost use Rattle.adx_commands.specs.Commands.{AsksNothing, Does, DoesAsRead, IsBidder, IsCheck, IsClose, IsCommand, IsConnection, IsDay, IsGenerated, IsHelp, IsNotices, IsRatio, IsVersion, LeavesDisk, Runs, RunsBidder, RunsConnection, RunsDay, RunsGenerated, RunsNotices, RunsPrint, Tells};
 
-use crate::status::{DONE, NO_COMMAND, OUT_OF_MEMORY, WRITE_FAULT, status_of};
+use crate::status::{DONE, NO_COMMAND, OUT_OF_MEMORY, WRITE_FAULT, status_of, status_of_outcome};
 use adx_books::{Generator, serve_generated};
 use adx_io::{Disk, Sink, Source, put_all};
 use adx_notices::serve_notices;
 use adx_units::Text;
 use bidder_day::serve_prices;
+use command_check::check_input;
+use command_close::{close_journal, measure_journal};
 use command_words::{Command, VERSION, command_of, help_of};
 use exchange_day::serve_exchange;
 use script_day::serve_day;
@@ -48,7 +54,7 @@ fn run<S: Source, K: Sink, D: Disk>(
     disk: &mut D,
 ) -> u8
     requires { HasFewAsks read }
-    ensures does { Does (Runs D.faults D.reads D.may_leave D.moment D.left_since (S.tape source.old) (S.tape source.new) (K.held sink.old) (K.held sink.new) disk.old disk.new result) source.old source.new disk.old disk.new read }
+    ensures does { Does (Runs D.Disk (S.tape source.old) (S.tape source.new) (K.held sink.old) (K.held sink.new) disk.old disk.new result) source.old source.new disk.old disk.new read }
     ensures causes { HasCauses (S.faults source.old) (S.faults source.new) (K.faults sink.old) (K.faults sink.new) result }
     ensures disk_causes { HasDiskCauses (D.faults disk.old) (D.faults disk.new) result }
     ensures source_same { S.place source.new ≡ S.place source.old }
@@ -72,10 +78,19 @@ fn run<S: Source, K: Sink, D: Disk>(
             let ended = serve_prices(alloc, source, sink);
             status_of(ended)
         }
+        Some(Command::Close { ratio: false, .. }) => {
+            let ended = close_journal(alloc, source, sink, disk);
+            status_of_outcome(ended)
+        }
+        Some(Command::Close { ratio: true, .. }) => {
+            let ended = measure_journal(alloc, source, sink, disk);
+            status_of_outcome(ended)
+        }
         Some(Command::Generate { seed, asks }) => {
             let ended = serve_generated(alloc, Generator { seed, asks }, sink, disk);
             status_of(ended)
         }
+        Some(Command::Check) => check_input(alloc, source, sink),
         Some(Command::Help(topic)) => tell(sink, help_of(topic), DONE),
         Some(Command::Version) => tell(sink, VERSION, DONE),
         None => tell(sink, USAGE, NO_COMMAND),
@@ -90,7 +105,7 @@ fn run_words<S: Source, K: Sink, D: Disk>(
     sink: &mut K,
     disk: &mut D,
 ) -> u8
-    ensures does { DoesAsRead (Runs D.faults D.reads D.may_leave D.moment D.left_since (S.tape source.old) (S.tape source.new) (K.held sink.old) (K.held sink.new) disk.old disk.new result) source.old source.new disk.old disk.new words.now }
+    ensures does { DoesAsRead (Runs D.Disk (S.tape source.old) (S.tape source.new) (K.held sink.old) (K.held sink.new) disk.old disk.new result) source.old source.new disk.old disk.new words.now }
     ensures causes { HasCauses (S.faults source.old) (S.faults source.new) (K.faults sink.old) (K.faults sink.new) result }
     ensures disk_causes { HasDiskCauses (D.faults disk.old) (D.faults disk.new) result }
     ensures source_same { S.place source.new ≡ S.place source.old }
@@ -123,8 +138,18 @@ fn run_words<S: Source, K: Sink, D: Disk>(
 /// The command `bidder` reads a price line, and serves the HTTP connection that comes after it: it answers requests for
 /// bids, counts the notices that it gets, and shows its books and its ledger. The disk isn't touched.
 ///
+/// The command `close` reads a roster line and ignores what comes after it. It opens the roster's day on the disk, and writes
+/// the document of the day's history: its record, and the certificate whose bound no assignment of the day's impressions
+/// passes, and which a checker accepts. With `--ratio` it writes one line instead, the numbers of the day's revenue
+/// guarantee, which holds where the day is small. Nothing is added to the history. Past 2^36 bytes of input it writes the line
+/// of a roster that is too long.
+///
 /// The command `gen` reads nothing. It takes the calls of a generated day on the disk, of so many asks by the words of a
 /// seed, and writes the closing table. It ends at once where the disk fails, with status 6, and then the sink takes nothing.
+///
+/// The command `check` reads a document of at most 2^31 bytes, the record of a closed day and its certificate after it, and
+/// writes one line: the bound that no assignment of the record's impressions earns more than, where the certificate is
+/// accepted; or the first rule that fails; or why the input is no document. The disk isn't touched.
 ///
 /// The words `--help`, alone or after a command's word, `help`, alone or before it, and `--version` ask for a text, which
 /// the sink takes.
@@ -132,18 +157,20 @@ fn run_words<S: Source, K: Sink, D: Disk>(
 /// Words in plain spelling are taken: the command's word comes first, and after it each of its options once, as two words,
 /// in any order, its value not beginning with `-`. Other spellings do what `clap` reads of them.
 ///
-/// The status is 0 where the command came to its end, and the disk met no fault: `day`, `notices`, `conn` and `bidder` read
-/// the source to its end, the latter two to that of the connection; 2 where the words aren't a command, and then the sink
-/// takes a usage line; 3 where the first line isn't a roster, for `bidder` a price line, or where the input of `day` or
-/// `notices` passes 2^36 bytes, of which one more is taken; 4 where the source failed, and then the sink took the answers
-/// to all whole lines, or the replies to all whole messages, that the source gave, where it gave the first line; 5 where
-/// the sink failed, and 12 out of memory, and then the sink took a prefix of the output; 6 where the disk failed
+/// The status is 0 where the command came to its end, and the disk met no fault: `day`, `notices`, `close`, `conn` and
+/// `bidder` read the source to its end, the latter two to that of the connection, and `check` accepted the certificate; 2
+/// where the words aren't a command, and then the sink takes a usage line; 3 where the first line isn't a roster, for
+/// `bidder` a price line, or where the input of `day`, `notices` or `close` passes 2^36 bytes, of which one more is taken,
+/// or where that of `check` is no document or passes 2^31 bytes; 4 where the source failed, and then the sink took the
+/// answers to all whole lines, or the replies to all whole messages, that the source gave, where it gave the first line; 5
+/// where the sink failed, and 12 out of memory, and then the sink took a prefix of the output; 6 where the disk failed
 /// while the day was opened or, for `gen`, at any time, and then the sink took nothing, or where the source was read to its
 /// end and the disk met a fault in a call that was given up by it, or, for `conn`, in the record of notices that waited,
 /// which were then taken one by one; 7 where the disk's file isn't a journal of the roster's day, and then the sink took a
-/// line that says why. The count of faults of the source rises exactly at 4 and that of the sink exactly at 5, except where a
-/// count is at its last value; that of the disk rises in just the calls that are answered so, and for `conn` in such
-/// records. Each input has one output for each history at the start and each choice of calls that are given up.
+/// line that says why; 8 where `check` doesn't accept the certificate. The count of faults of the source rises exactly at 4
+/// and that of the sink exactly at 5, except where a count is at its last value; that of the disk rises in just the calls
+/// that are answered so, and for `conn` in such records. Each input has one output for each history at the start and each
+/// choice of calls that are given up.
 pub fn adx<S: Source, K: Sink, D: Disk>(
     alloc: Global,
     words: &[Text],
@@ -156,10 +183,14 @@ pub fn adx<S: Source, K: Sink, D: Disk>(
     ensures bidder { IsBidder words.now → RunsBidder (S.tape source.old) (S.tape source.new) (K.held sink.old) (K.held sink.new) result }
     ensures generated { (seed asks : ℕ) → IsGenerated words.now seed asks → RunsGenerated D.faults D.reads D.may_leave D.moment D.left_since seed asks (K.held sink.old) (K.held sink.new) disk.old disk.new result }
     ensures notices { IsNotices words.now → RunsNotices D.faults D.reads D.may_leave D.moment D.left_since (S.tape source.old) (S.tape source.new) (K.held sink.old) (K.held sink.new) disk.old disk.new result }
+    ensures close { IsClose words.now → RunsPrint D.Disk IsClosedDay (S.tape source.old) (S.tape source.new) (K.held sink.old) (K.held sink.new) disk.old disk.new result }
+    ensures ratio { IsRatio words.now → RunsPrint D.Disk IsGuarantee (S.tape source.old) (S.tape source.new) (K.held sink.old) (K.held sink.new) disk.old disk.new result }
+    ensures check { IsCheck words.now → ChecksInput (S.tape source.old) (S.tape source.new) (K.held sink.old) (K.held sink.new) result }
+    ensures accepted { IsCheck words.now → result ≡ 0 → AcceptsInput (S.tape source.old) (S.tape source.new) (K.held sink.old) (K.held sink.new) }
     ensures help { (topic : HelpTopic) → IsHelp words.now topic → Tells (help_text topic) 0 (K.held sink.old) (K.held sink.new) result }
     ensures version { IsVersion words.now → Tells version_text 0 (K.held sink.old) (K.held sink.new) result }
     ensures usage { result ≡ 2 → IsCommand words.now → ⊥ }
-    ensures other { DoesAsRead (Runs D.faults D.reads D.may_leave D.moment D.left_since (S.tape source.old) (S.tape source.new) (K.held sink.old) (K.held sink.new) disk.old disk.new result) source.old source.new disk.old disk.new words.now }
+    ensures other { DoesAsRead (Runs D.Disk (S.tape source.old) (S.tape source.new) (K.held sink.old) (K.held sink.new) disk.old disk.new result) source.old source.new disk.old disk.new words.now }
     ensures unasked { (command : Meaning) → IsPlain command words.now → AsksNothing (Some command) → source.new ≡ source.old }
     ensures untouched { (command : Meaning) → IsPlain command words.now → LeavesDisk (Some command) → disk.new ≡ disk.old }
     ensures read_fault { result ≡ 4 → Rises (S.faults source.old) (S.faults source.new) }
@@ -173,6 +204,9 @@ pub fn adx<S: Source, K: Sink, D: Disk>(
     ensures disk_later { D.faults disk.old ≤ D.faults disk.new }
     ensures outputs { HasOutputs }
     ensures one_output { HasOneOutput }
+    ensures one_document { HasOneDocument }
+    ensures one_answer { HasOneAnswer }
+    ensures one_guarantee { HasOneGuarantee }
     ensures source_same { S.place source.new ≡ S.place source.old }
     ensures sink_same { K.place sink.new ≡ K.place sink.old }
     ensures disk_lasts { D.lasts disk.old disk.new }

@@ -38,8 +38,10 @@ fn kept_of(read: Option<Command>) -> Kept
         Some(Command::Day { journal }) => kept_in(journal),
         Some(Command::Connection { journal }) => kept_in(journal),
         Some(Command::Notices { journal }) => Kept::Existing(journal),
+        Some(Command::Close { journal, .. }) => Kept::Existing(journal),
         Some(Command::Bidder)
         | Some(Command::Generate { .. })
+        | Some(Command::Check)
         | Some(Command::Help(_))
         | Some(Command::Version) => Kept::InMemory,
         None => Kept::InMemory,

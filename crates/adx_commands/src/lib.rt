@@ -16,6 +16,6 @@ pub use anew::adx_in_memory;
 pub use command::adx;
 pub use kept::{Kept, kept_by_words};
 pub use status::{
-    DISK_FAULT, DONE, NO_COMMAND, NO_HISTORY, OUT_OF_MEMORY, READ_FAULT, REFUSED, WRITE_FAULT,
-    status_of,
+    DISK_FAULT, DONE, NO_COMMAND, NO_HISTORY, NOT_ACCEPTED, OUT_OF_MEMORY, READ_FAULT, REFUSED,
+    WRITE_FAULT, status_of,
 };

@@ -1,8 +1,10 @@
 //! The exit status of a command, by how it ended.
 ghost use Rattle.std.specs.Prelude.{◌≡◌};
 ghost use Rattle.adx_commands.specs.Statuses.{status_of as status_by};
+ghost use Rattle.command_runs.specs.Statuses.{status_by as status_by_outcome};
 
 use adx_io::Stop;
+use command_runs::Outcome;
 use script_day::Ending;
 
 /// The status where the input was read to its end.
@@ -26,6 +28,9 @@ pub const DISK_FAULT: u8 = 6;
 /// The status where the disk's file stands for no history of the roster.
 pub const NO_HISTORY: u8 = 7;
 
+/// The status where the certificate isn't accepted.
+pub const NOT_ACCEPTED: u8 = 8;
+
 /// The status where memory was refused.
 pub const OUT_OF_MEMORY: u8 = 12;
 
@@ -42,4 +47,11 @@ pub fn status_of(ended: Result<(), Ending>) -> u8
         Err(Ending::Stopped(Stop::WriteFault)) => WRITE_FAULT,
         Err(Ending::Stopped(Stop::OutOfMemory)) => OUT_OF_MEMORY,
     }
+}
+
+/// The exit status of a command that ended with this outcome.
+pub(crate) fn status_of_outcome(ended: Result<Outcome, Stop>) -> u8
+    ensures { result ≡ status_by_outcome ended }
+{
+    command_runs::status_of(ended)
 }

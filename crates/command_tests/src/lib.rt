@@ -5,6 +5,8 @@
 #[cfg(test)]
 mod adapters;
 #[cfg(test)]
+mod closings;
+#[cfg(test)]
 mod command_lines;
 #[cfg(test)]
 mod connections;

@@ -30,6 +30,20 @@ notices|--journal|a|b => none
 notices|--seed|7 => none
 notice|--journal|a => none
 bidder => bidder
+check => check
+close|--journal|a.journal => close a.journal
+close|--journal=a.journal => close a.journal
+close|--journal|a.journal|--ratio => ratio a.journal
+close|--ratio|--journal|a.journal => ratio a.journal
+close|--ratio|--journal=a.journal => ratio a.journal
+close => none
+close|--ratio => none
+close|--journal|a|--ratio|--ratio => none
+close|--journal|a|--ratio=true => none
+close|--journal|a|--ratio|b => none
+close|--journal|--ratio => none
+close|--journal|a|--journal|b => none
+closing|--journal|a => none
 gen|--seed|7|--asks|250 => gen 7 250
 gen|--asks|250|--seed|7 => gen 7 250
 gen|--asks=250|--seed|7 => gen 7 250
@@ -59,12 +73,16 @@ day|--journ|a => none
 day|-j|a => none
 day|day => none
 bidder|--journal|a => none
+check|--journal|a => none
+check|a => none
+Check => none
 --journal|a|day => none
 days => none
 Day => none
 help => help 
 help|day => help day
 help|gen => help gen
+help|check => help check
 help|day|--journal|a => help day
 help|days => none
 help|help => none
@@ -80,6 +98,9 @@ conn|--help => help conn
 notices|--help => help notices
 bidder|--help => help bidder
 gen|--help => help gen
+check|--help => help check
+close|--help => help close
+help|close => help close
 gen|--seed|7|--help => help gen
 day|--help|--nothing => help day
 day|--nothing|--help => none
@@ -97,6 +118,8 @@ fn name_of(topic: Topic) -> &'static str {
         Topic::Notices => "notices",
         Topic::Bidder => "bidder",
         Topic::Generate => "gen",
+        Topic::Check => "check",
+        Topic::Close => "close",
     }
 }
 
@@ -137,7 +160,20 @@ fn is_asked(command: &Option<Command>, asked: &str) -> bool {
         ) => is_with(asked, "conn", file.as_str()),
         Some(Command::Notices { journal }) => is_with(asked, "notices", journal.as_str()),
         Some(Command::Bidder) => asked == "bidder",
+        Some(
+            Command::Close {
+                journal,
+                ratio: false,
+            },
+        ) => is_with(asked, "close", journal.as_str()),
+        Some(
+            Command::Close {
+                journal,
+                ratio: true,
+            },
+        ) => is_with(asked, "ratio", journal.as_str()),
         Some(Command::Generate { seed, asks }) => is_generated(asked, *seed, *asks),
+        Some(Command::Check) => asked == "check",
         Some(Command::Help(topic)) => is_with(asked, "help", name_of(*topic)),
         Some(Command::Version) => asked == "version",
     }

@@ -1,5 +1,5 @@
--- Options in plain spelling behind a command's word: the parse has no fault, and finds each option with its value.
-use Rattle.std.proofs.Common.{◌≡◌, ◌∙◌, sym, ap, refl, ◌&&◌, ◌||◌, cond, Bool, true, false, List, [], ◌∷◌, ◌++◌, map, Option, Some, is_some, option_and_then, true≢false, arith}
+-- Options and flags in plain spelling behind a command's word: the parse has no fault, and finds each option with its value.
+use Rattle.std.proofs.Common.{◌≡◌, ◌∙◌, sym, ap, refl, ◌&&◌, ◌||◌, cond, Bool, true, false, List, [], ◌∷◌, ◌++◌, map, Option, Some, None, is_some, option_and_then, append-nil, true≢false, arith}
 use Rattle.std.specs.List.{All, IsDistinct, find, fold, list_all}
 use Rattle.std.specs.Option.{option_map, option_map_or}
 use Rattle.std.specs.Prelude.{slice_get}
@@ -21,11 +21,11 @@ use Rattle.command_words.proofs.Walks.{Ends, HasOption, both, ends, row_for}
 abbrev pub have_no_defaults : List Rule → Bool
 have_no_defaults rules = list_all (λ a. is_empty a.defaults) rules
 
-or_true : (b : Bool) → (b || true) ≡ true
+pub or_true : (b : Bool) → (b || true) ≡ true
 or_true true = refl
 or_true false = refl
 
-same_both : {X : Type 0} (b : Bool) (x : X) → cond b x x ≡ x
+pub same_both : {X : Type 0} (b : Bool) (x : X) → cond b x x ≡ x
 same_both true x = refl
 same_both false x = refl
 
@@ -37,12 +37,12 @@ both_true : (a b : Bool) → (a && b) ≡ true → (a ≡ true) × (b ≡ true)
 both_true true b e = (refl, e)
 both_true false b e = absurd (true≢false (sym e))
 
-no_default : (rows : List Row) (a : Rule) → is_empty a.defaults ≡ true → default_fault rows a ≡ []
+pub no_default : (rows : List Row) (a : Rule) → is_empty a.defaults ≡ true → default_fault rows a ≡ []
 no_default rows a none =
     ap (λ (e : Bool). cond (has_row a.id rows || e) [] (given_default_fault a a.defaults)) none
     ∙ ap (λ (e : Bool). cond e [] (given_default_fault a a.defaults)) (or_true (has_row a.id rows))
 
-no_more : (rows : List Row) (a : Rule) → is_empty a.defaults ≡ true → with_default rows a ≡ rows
+pub no_more : (rows : List Row) (a : Rule) → is_empty a.defaults ≡ true → with_default rows a ≡ rows
 no_more rows a none =
     ap (λ ds. cond (has_row a.id rows) rows (default_rows a.id (reading_by a) ds rows)) (is_nil a.defaults none) ∙ same_both (has_row a.id rows) rows
 
@@ -62,38 +62,50 @@ no_rows_more rows (a ∷ rules) none =
 
 -- ---- one command
 
--- what is asked of a command so that its options are read
-pub record IsRead (s : Shape) (given : List Given) : Type 0 where
-  pub defaults : have_no_defaults s.rules ≡ true
-  pub options : All (λ one. HasOption s.rules one.0) given
-  pub once : IsDistinct bytes_eq (map (λ one. one.0) given)
-  pub plain : All (λ one. begins_with_dash one.1 ≡ false) given
-  pub checked : check_fault s (map row_for given) false ≡ []
+-- what is asked of a command so that words behind its own are read, and these rows are its matches
+pub record IsRead (s : Shape) (words : List Text) (rows : List Row) : Type 0 where
+  -- what the words give, before defaults
+  pub found : List Row
+  pub ending : Ends s nothing_held words found
+  pub defaults : defaults_fault found s.rules ≡ []
+  pub completed : fold with_default found s.rules ≡ rows
+  pub checked : check_fault s rows false ≡ []
 
-module _ (s : Shape) (given : List Given) (is : IsRead s given) where
-  pub ending : Ends s nothing_held given
-  ending = ends s given nothing_held refl refl is.options is.plain (λ k d lt. refl) is.once
+-- options are read where no option has a default
+pub options_read : (s : Shape) (given : List Given) → have_no_defaults s.rules ≡ true → All (λ one. HasOption s.rules one.0) given → IsDistinct bytes_eq (map (λ one. one.0) given)
+    → All (λ one. begins_with_dash one.1 ≡ false) given → check_fault s (map row_for given) false ≡ [] → IsRead s (words_of given) (map row_for given)
+options_read s given none options once plain checked = record {
+  found = map row_for given;
+  ending = ends s given nothing_held refl refl options plain (λ k d lt. refl) once;
+  defaults = no_faults (map row_for given) s.rules none;
+  completed = no_rows_more (map row_for given) s.rules none;
+  checked = checked;
+}
 
-  held_is : (walk s.rules [] nothing_held (words_of given)).held ≡ ending.behind
-  held_is = ap (λ (w : Walk). w.held) ending.walks
+module _ (s : Shape) (words : List Text) (rows : List Row) (is : IsRead s words rows) where
+  held_is : (walk s.rules [] nothing_held words).held ≡ is.ending.behind
+  held_is = ap (λ (w : Walk). w.held) is.ending.walks
 
-  pub finds : finished s.rules ending.behind ≡ map row_for given
-  finds = no_rows_more (settled s.rules ending.behind).rows s.rules is.defaults ∙ ending.rows
+  all_found : (settled s.rules is.ending.behind).rows ≡ is.found
+  all_found = is.ending.rows
 
-  pub level_passes : level_fault s [] nothing_held (words_of given) false [] ≡ []
+  pub finds : finished s.rules is.ending.behind ≡ rows
+  finds = ap (λ rs. fold with_default rs s.rules) all_found ∙ is.completed
+
+  pub level_passes : level_fault s [] nothing_held words false [] ≡ []
   level_passes =
       let behind : Held → Kinds = λ h. or_else (settle_fault s.rules s.args_override_self h)
       (or_else (defaults_fault (settled s.rules h).rows s.rules) (check_fault s (finished s.rules h) false)) in
-      both (walk_fault s [] (walk_from nothing_held) (words_of given)) (behind (walk s.rules [] nothing_held (words_of given)).held) ending.taken
+      both (walk_fault s [] (walk_from nothing_held) words) (behind (walk s.rules [] nothing_held words).held) is.ending.taken
       (ap behind held_is
-      ∙ both (settle_fault s.rules s.args_override_self ending.behind)
-      (or_else (defaults_fault (settled s.rules ending.behind).rows s.rules) (check_fault s (finished s.rules ending.behind) false))
-      ending.settles
-      (both (defaults_fault (settled s.rules ending.behind).rows s.rules) (check_fault s (finished s.rules ending.behind) false)
-      (no_faults (settled s.rules ending.behind).rows s.rules is.defaults)
-      (ap (λ rows. check_fault s rows false) finds ∙ is.checked)))
+      ∙ both (settle_fault s.rules s.args_override_self is.ending.behind)
+      (or_else (defaults_fault (settled s.rules is.ending.behind).rows s.rules) (check_fault s (finished s.rules is.ending.behind) false))
+      is.ending.settles
+      (both (defaults_fault (settled s.rules is.ending.behind).rows s.rules) (check_fault s (finished s.rules is.ending.behind) false)
+      (ap (λ rs. defaults_fault rs s.rules) all_found ∙ is.defaults)
+      (ap (λ rs. check_fault s rs false) finds ∙ is.checked)))
 
-  pub rows_found : rows_after s.rules [] (words_of given) ≡ map row_for given
+  pub rows_found : rows_after s.rules [] words ≡ rows
   rows_found = ap (finished s.rules) held_is ∙ finds
 
 -- ---- the program
@@ -142,22 +154,39 @@ module _ (a : App) (word : Text) (s : Shape) (has : HasCommand a word s) where
 
 -- ---- what was found
 
-pub first_found : (name : Text) (given : List Given) → first_of name (map row_for given) ≡ value_of name given
-first_found name [] = refl
-first_found name (one ∷ given) = go (bytes_eq one.0 name) (first_found name given)
+-- beside rows of other names
+pub first_beside : (name : Text) (given : List Given) (more : List Row) → first_of name more ≡ None → first_of name (map row_for given ++ more) ≡ value_of name given
+first_beside name [] more none = none
+first_beside name (one ∷ given) more none = go (bytes_eq one.0 name) (first_beside name given more none)
   where
-    go : (b : Bool) → first_of name (map row_for given) ≡ value_of name given
-        → option_and_then (λ (r : Row). slice_get r.values 0) (cond b (Some (row_for one)) (find (λ r. bytes_eq r.id name) (map row_for given)))
+    go : (b : Bool) → first_of name (map row_for given ++ more) ≡ value_of name given
+        → option_and_then (λ (r : Row). slice_get r.values 0) (cond b (Some (row_for one)) (find (λ r. bytes_eq r.id name) (map row_for given ++ more)))
         ≡ option_map (λ (o : Given). o.1) (cond b (Some one) (find (λ o. bytes_eq o.0 name) given))
     go true e = refl
     go false e = e
 
-pub given_found : (name : Text) (given : List Given) → is_given name (map row_for given) ≡ is_some (value_of name given)
-given_found name [] = refl
-given_found name (one ∷ given) = go (bytes_eq one.0 name) (given_found name given)
+pub given_beside : (name : Text) (given : List Given) (more : List Row) → is_given name more ≡ false → is_given name (map row_for given ++ more) ≡ is_some (value_of name given)
+given_beside name [] more none = none
+given_beside name (one ∷ given) more none = go (bytes_eq one.0 name) (given_beside name given more none)
   where
-    go : (b : Bool) → is_given name (map row_for given) ≡ is_some (value_of name given)
-        → option_map_or (λ (r : Row). explicit_source r.source) (cond b (Some (row_for one)) (find (λ r. bytes_eq r.id name) (map row_for given))) false
+    go : (b : Bool) → is_given name (map row_for given ++ more) ≡ is_some (value_of name given)
+        → option_map_or (λ (r : Row). explicit_source r.source) (cond b (Some (row_for one)) (find (λ r. bytes_eq r.id name) (map row_for given ++ more))) false
         ≡ is_some (option_map (λ (o : Given). o.1) (cond b (Some one) (find (λ o. bytes_eq o.0 name) given)))
     go true e = refl
     go false e = e
+
+pub first_found : (name : Text) (given : List Given) → first_of name (map row_for given) ≡ value_of name given
+first_found name given = ap (first_of name) (sym (append-nil (map row_for given))) ∙ first_beside name given [] refl
+
+pub given_found : (name : Text) (given : List Given) → is_given name (map row_for given) ≡ is_some (value_of name given)
+given_found name given = ap (is_given name) (sym (append-nil (map row_for given))) ∙ given_beside name given [] refl
+
+-- behind rows of other names
+pub first_behind : (name : Text) (rows more : List Row) → has_row name rows ≡ false → first_of name (rows ++ more) ≡ first_of name more
+first_behind name [] more none = refl
+first_behind name (row ∷ rows) more none = go (bytes_eq row.id name) none (first_behind name rows more)
+  where
+    go : (b : Bool) → (b || has_row name rows) ≡ false → (has_row name rows ≡ false → first_of name (rows ++ more) ≡ first_of name more)
+        → option_and_then (λ (r : Row). slice_get r.values 0) (cond b (Some row) (find (λ r. bytes_eq r.id name) (rows ++ more))) ≡ first_of name more
+    go true is later = absurd (true≢false is)
+    go false is later = later is

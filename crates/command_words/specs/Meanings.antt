@@ -1,7 +1,7 @@
 -- The commands that words may name in plain spelling, and what they ask for. This project's own.
-use Rattle.std.specs.Prelude.{◌≡◌, ◌⊎◌, ℕ, ◌-◌, ◌^◌, ◌≤◌, List, [], ◌∷◌, ◌++◌, codes, Option, Some, option_and_then}
+use Rattle.std.specs.Prelude.{◌≡◌, ◌⊎◌, ℕ, ◌-◌, ◌^◌, ◌≤◌, List, [], ◌∷◌, ◌++◌, codes, true, Option, Some, option_and_then}
 use Rattle.adx_units.specs.Number.{whole_up_to}
-use Rattle.command_words.specs.Spelling.{Given, Row, Spells, dashed, value_of}
+use Rattle.command_words.specs.Spelling.{Given, Row, Spells, SpellsWith, dashed, value_of}
 use Rattle.command_words.specs.declared.command.Command.{Command}
 use Rattle.command_words.specs.declared.command.Topic.{Topic}
 use Rattle.command_words.specs.declared.command.TheConstants.{MOST_ASKS}
@@ -16,29 +16,41 @@ seed_name = codes "seed"
 abbrev pub asks_name : List ℕ
 asks_name = codes "asks"
 
+-- the name of a flag
+abbrev pub ratio_name : List ℕ
+ratio_name = codes "ratio"
+
 -- day [--journal FILE]
 abbrev pub day : Row
-day = record { word = codes "day"; needed = []; optional = journal_name ∷ [] }
+day = record { word = codes "day"; needed = []; optional = journal_name ∷ []; flags = [] }
 
 -- conn [--journal FILE]
 abbrev pub connection : Row
-connection = record { word = codes "conn"; needed = []; optional = journal_name ∷ [] }
+connection = record { word = codes "conn"; needed = []; optional = journal_name ∷ []; flags = [] }
 
 -- notices --journal FILE
 abbrev pub notices : Row
-notices = record { word = codes "notices"; needed = journal_name ∷ []; optional = [] }
+notices = record { word = codes "notices"; needed = journal_name ∷ []; optional = []; flags = [] }
 
 -- bidder
 abbrev pub bidder : Row
-bidder = record { word = codes "bidder"; needed = []; optional = [] }
+bidder = record { word = codes "bidder"; needed = []; optional = []; flags = [] }
 
 -- gen --seed N --asks M
 abbrev pub generator : Row
-generator = record { word = codes "gen"; needed = seed_name ∷ asks_name ∷ []; optional = [] }
+generator = record { word = codes "gen"; needed = seed_name ∷ asks_name ∷ []; optional = []; flags = [] }
+
+-- close --journal FILE [--ratio]
+abbrev pub closing : Row
+closing = record { word = codes "close"; needed = journal_name ∷ []; optional = []; flags = ratio_name ∷ [] }
+
+-- check
+abbrev pub check : Row
+check = record { word = codes "check"; needed = []; optional = []; flags = [] }
 
 -- the commands that the program has
 abbrev pub commands : List Row
-commands = day ∷ connection ∷ notices ∷ bidder ∷ generator ∷ []
+commands = day ∷ connection ∷ notices ∷ bidder ∷ generator ∷ closing ∷ check ∷ []
 
 -- the number that an option's value tells: decimal, without a sign or a leading zero, and at most so much
 abbrev pub number_of : ℕ → Option (List ℕ) → Option ℕ
@@ -50,6 +62,8 @@ AsksFor (Command.Day journal) row given = (row ≡ day) × (value_of journal_nam
 AsksFor (Command.Connection journal) row given = (row ≡ connection) × (value_of journal_name given ≡ journal)
 AsksFor (Command.Notices journal) row given = (row ≡ notices) × (value_of journal_name given ≡ Some journal)
 AsksFor Command.Bidder row given = row ≡ bidder
+AsksFor (Command.Close journal ratio) row given = (row ≡ closing) × (value_of journal_name given ≡ Some journal)
+AsksFor Command.Check row given = row ≡ check
 AsksFor (Command.Generate seed asks) row given =
     (row ≡ generator) × (number_of (2 ^ 64 - 1) (value_of seed_name given) ≡ Some seed) × (number_of MOST_ASKS (value_of asks_name given) ≡ Some asks)
 AsksFor (Command.Help topic) row given = ⊥
@@ -73,12 +87,15 @@ words_before_help Topic.Day = day.word ∷ []
 words_before_help Topic.Connection = connection.word ∷ []
 words_before_help Topic.Notices = notices.word ∷ []
 words_before_help Topic.Bidder = bidder.word ∷ []
+words_before_help Topic.Close = closing.word ∷ []
+words_before_help Topic.Check = check.word ∷ []
 words_before_help Topic.Generate = generator.word ∷ []
 
 -- the words ask for this in plain spelling
 abbrev pub IsPlain : Command → List (List ℕ) → Type 0
 IsPlain (Command.Help topic) words = (words ≡ words_before_help topic ++ help_word ∷ []) ⊎ (words ≡ first_help_word ∷ words_before_help topic)
 IsPlain Command.Version words = words ≡ version_word ∷ []
+IsPlain (Command.Close journal true) words = (row : Row) × (given : List Given) × SpellsWith row ratio_name given words × AsksFor (Command.Close journal true) row given
 IsPlain command words = (row : Row) × (given : List Given) × Spells row given words × AsksFor command row given
 
 -- a generated day that is asked for has at most so many asks

@@ -1,6 +1,6 @@
 -- When words are a command in plain spelling: its word, and behind it each of its options once with its value, in any
--- order. This project's own.
-use Rattle.std.specs.Prelude.{◌≡◌, ◌==◌, ℕ, List, [], ◌∷◌, ◌++◌, map, find, is_some, Bool, true, false, Option, option_map}
+-- order, and a flag before or after them. This project's own.
+use Rattle.std.specs.Prelude.{◌≡◌, ◌⊎◌, ◌==◌, ℕ, List, [], ◌∷◌, ◌++◌, map, find, is_some, Bool, true, false, Option, option_map}
 use Rattle.std.specs.List.{All, IsDistinct, list_any}
 use Rattle.std.specs.Str.{bytes_eq}
 
@@ -26,11 +26,13 @@ begins_with_dash (byte ∷ rest) = byte == 45
 abbrev pub value_of : List ℕ → List Given → Option (List ℕ)
 value_of name given = option_map (λ one. one.1) (find (λ one. bytes_eq one.0 name) given)
 
--- a command: its word, the names of the options that it needs, and of those that it takes besides
+-- a command: its word, the names of the options that it needs, and of those that it takes besides, and those of its flags,
+-- which have no value
 pub record Row : Type 0 where
   pub word : List ℕ
   pub needed : List (List ℕ)
   pub optional : List (List ℕ)
+  pub flags : List (List ℕ)
 
 -- the command has an option of this name
 abbrev pub has_option : Row → List ℕ → Bool
@@ -44,3 +46,9 @@ pub record Spells (row : Row) (given : List Given) (words : List (List ℕ)) : T
   pub once : IsDistinct bytes_eq (map (λ one. one.0) given)
   pub complete : All (λ name. is_some (value_of name given) ≡ true) row.needed
   pub plain : All (λ one. begins_with_dash one.1 ≡ false) given
+
+-- the words are this command with these options in plain spelling, and with this flag, which stands before the options or
+-- after them
+pub record SpellsWith (row : Row) (flag : List ℕ) (given : List Given) (words : List (List ℕ)) : Type 0 where
+  pub without : Spells row given (row.word ∷ words_of given)
+  pub are : (words ≡ row.word ∷ dashed flag ∷ words_of given) ⊎ (words ≡ row.word ∷ (words_of given ++ dashed flag ∷ []))

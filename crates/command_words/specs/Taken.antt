@@ -2,15 +2,17 @@
 -- needs none of it. This project's own.
 use Rattle.std.specs.Prelude.{◌≡◌, ℕ, ◌-◌, ◌^◌, List, [], ◌∷◌, ◌++◌, map, codes, Bool, true, false, if◌then◌else◌, Option, Some, None, option_and_then, option_map}
 use Rattle.std.specs.List.{fold}
+use Rattle.std.specs.Option.{option_map_or}
 use Rattle.std.specs.Str.{bytes_eq}
 use Rattle.clap.specs.Kinds.{IsAmong, Kinds}
 use Rattle.clap.specs.Faults.{fault_of}
 use Rattle.clap.specs.Simple.{App, new_app, new_rule, new_shape, subcommand_of, with_rule, with_subcommand}
 use Rattle.clap.specs.Walk.{Rule, first_of}
 use Rattle.clap.specs.Walk.{Row as Found}
+use Rattle.clap.specs.declared.builder.action.ArgAction.TheVariants.{SetTrue}
 use Rattle.clap.specs.declared.error.kind.ErrorKind.{ErrorKind}
 use Rattle.command_words.specs.Spelling.{Row}
-use Rattle.command_words.specs.Meanings.{asks_name, bidder, commands, connection, day, first_help_word, generator, help_word, journal_name, notices, number_of, seed_name}
+use Rattle.command_words.specs.Meanings.{asks_name, bidder, check, closing, commands, connection, day, first_help_word, generator, help_word, journal_name, notices, number_of, ratio_name, seed_name}
 use Rattle.command_words.specs.declared.command.Command.{Command}
 use Rattle.command_words.specs.declared.command.Topic.{Topic}
 use Rattle.command_words.specs.declared.command.TheConstants.{MOST_ASKS}
@@ -19,8 +21,12 @@ use Rattle.command_words.specs.declared.command.TheConstants.{MOST_ASKS}
 abbrev pub option_rule : Bool → List ℕ → Rule
 option_rule needed name = record (new_rule name) { long = Some name; required = needed }
 
+-- a flag, behind its name
+abbrev pub flag_rule : List ℕ → Rule
+flag_rule name = record (new_rule name) { long = Some name; action = Some SetTrue }
+
 abbrev pub rules_of : Row → List Rule
-rules_of row = map (option_rule true) row.needed ++ map (option_rule false) row.optional
+rules_of row = map (option_rule true) row.needed ++ (map (option_rule false) row.optional ++ map flag_rule row.flags)
 
 -- a command as a subcommand of clap's
 abbrev pub subcommand_for : Row → App
@@ -47,6 +53,13 @@ generate seed asks = option_and_then (λ s. option_map (λ a. Command.Generate s
 abbrev pub print_notices : Option (List ℕ) → Option Command
 print_notices = option_map (λ j. Command.Notices j)
 
+-- a flag that stands among the words has the value true, and another the value false
+abbrev pub is_set : List ℕ → List Found → Bool
+is_set name found = option_map_or (λ text. bytes_eq text (codes "true")) (first_of name found) false
+
+abbrev pub close_by : Option (List ℕ) → Bool → Option Command
+close_by journal ratio = option_map (λ j. Command.Close j ratio) journal
+
 abbrev pub command_by : List ℕ → List Found → Option Command
 command_by word found =
     if bytes_eq word day.word then Some (Command.Day (first_of journal_name found))
@@ -54,6 +67,8 @@ command_by word found =
     else if bytes_eq word notices.word then print_notices (first_of journal_name found)
     else if bytes_eq word bidder.word then Some Command.Bidder
     else if bytes_eq word generator.word then generate (number_of (2 ^ 64 - 1) (first_of seed_name found)) (number_of MOST_ASKS (first_of asks_name found))
+    else if bytes_eq word closing.word then close_by (first_of journal_name found) (is_set ratio_name found)
+    else if bytes_eq word check.word then Some Command.Check
     else None
 
 abbrev pub command_found : Option (List ℕ × List Found) → Option Command
@@ -67,6 +82,8 @@ topic_by word =
     else if bytes_eq word notices.word then Topic.Notices
     else if bytes_eq word bidder.word then Topic.Bidder
     else if bytes_eq word generator.word then Topic.Generate
+    else if bytes_eq word closing.word then Topic.Close
+    else if bytes_eq word check.word then Topic.Check
     else Topic.Program
 
 abbrev pub topic_of : List (List ℕ) → Topic

@@ -3,10 +3,10 @@ ghost use Rattle.std.specs.Prelude.{◌≡◌, ◌∷◌, [], IfOk, false, true}
 ghost use Rattle.clap.specs.Simple.{app_of};
 ghost use Rattle.clap.specs.Walk.{rule_of};
 ghost use Rattle.clap.specs.declared.builder.command.Command.TheViews.{out-Command as fields_of};
-ghost use Rattle.command_words.specs.Meanings.{bidder as bidder_row, connection as connection_row, day as day_row, generator as generator_row, notices as notices_row};
-ghost use Rattle.command_words.specs.Taken.{application as program, no_commands, option_rule, program_of, subcommand_for};
+ghost use Rattle.command_words.specs.Meanings.{bidder as bidder_row, check as check_row, closing as closing_row, connection as connection_row, day as day_row, generator as generator_row, notices as notices_row};
+ghost use Rattle.command_words.specs.Taken.{application as program, flag_rule, no_commands, option_rule, program_of, subcommand_for};
 
-use clap::{Arg, Command};
+use clap::{Arg, ArgAction, Command};
 use std::alloc::{AllocError, Global};
 
 /// An option with one value that may stand, and one that has to.
@@ -22,6 +22,14 @@ fn needed<'a>(alloc: Global, name: &'a str) -> Arg<'a>
     ensures local { result.global ≡ false }
 {
     Arg::new(alloc, name).long(name).required(true)
+}
+
+/// A flag.
+fn flag<'a>(alloc: Global, name: &'a str) -> Arg<'a>
+    ensures rule { rule_of result ≡ flag_rule name.entry.now }
+    ensures local { result.global ≡ false }
+{
+    Arg::new(alloc, name).long(name).action(ArgAction::SetTrue)
 }
 
 /// The command `day`.
@@ -60,6 +68,21 @@ fn generator<'a>(alloc: Global) -> Result<Command<'a>, AllocError>
     command.arg(needed(alloc, "asks"))
 }
 
+/// The command `close`.
+fn closing<'a>(alloc: Global) -> Result<Command<'a>, AllocError>
+    ensures { IfOk result (λ c. (app_of c ≡ subcommand_for closing_row) × ((fields_of c).has_globals ≡ false)) }
+{
+    let command = Command::new(alloc, "close").arg(needed(alloc, "journal"))?;
+    command.arg(flag(alloc, "ratio"))
+}
+
+/// The command `check`.
+fn check<'a>(alloc: Global) -> Command<'a>
+    ensures { (app_of result ≡ subcommand_for check_row) × ((fields_of result).has_globals ≡ false) }
+{
+    Command::new(alloc, "check")
+}
+
 /// The program without its commands. It has no `help` command beside `--help`.
 fn bare<'a>(alloc: Global) -> Command<'a>
     ensures { app_of result ≡ no_commands }
@@ -90,6 +113,7 @@ fn with_bidder<'a>(alloc: Global) -> Result<Command<'a>, AllocError>
 pub(crate) fn application<'a>(alloc: Global) -> Result<Command<'a>, AllocError>
     ensures { IfOk result (λ c. app_of c ≡ program) }
 {
-    let command = with_bidder(alloc)?;
-    command.subcommand(generator(alloc)?)
+    let command = with_bidder(alloc)?.subcommand(generator(alloc)?)?;
+    let command = command.subcommand(closing(alloc)?)?;
+    command.subcommand(check(alloc))
 }

@@ -15,6 +15,10 @@ pub enum Command {
     Notices { journal: Text },
     /// Serve a bidder's connection.
     Bidder,
+    /// Print the document of the day that a journal keeps, with its file; or, with `ratio`, the line of its revenue guarantee.
+    Close { journal: Text, ratio: bool },
+    /// Check the certificate of a closed day against its record.
+    Check,
     /// Take the calls of a generated day, by the words of a seed; it has at most `MOST_ASKS` asks.
     Generate { seed: u64, asks: u64 },
     /// Show the help on this.
@@ -36,6 +40,10 @@ pub enum Topic {
     Notices,
     /// The command `bidder`.
     Bidder,
+    /// The command `close`.
+    Close,
+    /// The command `check`.
+    Check,
     /// The command `gen`.
     Generate,
 }

@@ -15,17 +15,20 @@ usage: adx day [--journal FILE]
        adx notices --journal FILE
        adx bidder
        adx gen --seed N --asks M
+       adx close --journal FILE [--ratio]
+       adx check
        adx COMMAND --help
        adx help COMMAND
        adx --version
 
 status:  0  done: the input was read to its end
          2  the words aren't a command
-         3  the first line isn't of its form, or the input is too long
+         3  the first line, or the document, isn't of its form, or the input is too long
          4  standard input can't be read
          5  standard output can't be written
          6  the journal can't be read or written, or another process has it open
          7  the journal isn't one of this roster's day
+         8  the certificate isn't accepted
         12  out of memory
 At every status but 0 a line on standard error says why.
 
@@ -106,6 +109,36 @@ example:
   ./adx gen --seed 7 --asks 250
 ";
 
+/// The help on the command `close`.
+pub const CLOSE_HELP: &str = "usage: adx close --journal FILE [--ratio]
+
+in:  a roster line, on standard input; everything after it is read and ignored
+out: the record of the day in FILE, and after it the certificate whose bound no assignment of the day's impressions passes, on
+standard output; FILE keeps the same history; a FILE that doesn't exist isn't made
+--ratio: in place of that one line with the numbers of the day's revenue guarantee
+
+status: 0 done, 3 the first line isn't a roster, or the input is too long, 4 standard input can't be read, 5 standard output
+can't be written, 6 the journal can't be read or written, or another process has it open, 7 the journal isn't one of this
+roster's day, 12 out of memory
+
+example:
+  ./adx day --journal a.journal < examples/notices.day; ./adx close --journal a.journal < examples/notices.day
+";
+
+/// The help on the command `check`.
+pub const CHECK_HELP: &str = "usage: adx check
+
+in:  the record of a closed day, and its certificate after it, on standard input; at most 2^31 bytes
+out: one line on standard output: the bound that the day's impressions couldn't have earned more than, where the certificate
+is accepted; or the first rule that it breaks; or the first line that isn't of its form
+
+status: 0 the certificate is accepted, 3 the input isn't a record with a certificate after it, or is too long, 4 standard
+input can't be read, 5 standard output can't be written, 8 the certificate isn't accepted, 12 out of memory
+
+example:
+  ./adx check < examples/closed.document
+";
+
 /// The help on a topic: what goes in and out, the exit statuses, and an example.
 pub fn help_of(topic: Topic) -> &'static str
     ensures { result.now ≡ help_text topic }
@@ -116,6 +149,8 @@ pub fn help_of(topic: Topic) -> &'static str
         Topic::Connection => CONNECTION_HELP,
         Topic::Notices => NOTICES_HELP,
         Topic::Bidder => BIDDER_HELP,
+        Topic::Close => CLOSE_HELP,
+        Topic::Check => CHECK_HELP,
         Topic::Generate => GENERATOR_HELP,
     }
 }

@@ -5,7 +5,7 @@ ghost use Rattle.clap.specs.Simple.{subcommand_rows_of};
 ghost use Rattle.clap.specs.Walk.{first_of, rows_of, texts, texts as texts_in};
 ghost use Rattle.clap.specs.declared.error.kind.ErrorKind.TheVariants.{OutOfMemory as no_memory};
 ghost use Rattle.command_words.specs.Meanings.{HasFewAsks, IsPlain, asks_name, number_of, seed_name};
-ghost use Rattle.command_words.specs.Taken.{IsReadingOf, answer_by, command_by, command_found, generate, print_notices, topic_of as topic_in, topic_by, turned_round};
+ghost use Rattle.command_words.specs.Taken.{IsReadingOf, answer_by, close_by, command_by, command_found, generate, is_set as is_set_in, print_notices, topic_of as topic_in, topic_by, turned_round};
 ghost use Rattle.command_words.specs.declared.command.Command.{Command as Meaning};
 ghost use Rattle.command_words.specs.declared.command.TheConstants.{MOST_ASKS as most_asks};
 
@@ -51,6 +51,8 @@ fn topic_named(word: &str) -> Topic
         "notices" => Topic::Notices,
         "bidder" => Topic::Bidder,
         "gen" => Topic::Generate,
+        "close" => Topic::Close,
+        "check" => Topic::Check,
         _ => Topic::Program,
     }
 }
@@ -147,6 +149,27 @@ fn printed(journal: Option<Text>) -> Option<Command>
     }
 }
 
+/// Whether a flag was found.
+fn is_set(found: &ArgMatches<'_>, name: &str) -> bool
+    ensures { result ≡ is_set_in name.now (rows_of (found_of found.now)) }
+{
+    match found_text(found, name) {
+        Some(text) => text == "true",
+        None => false,
+    }
+}
+
+/// The closed day that is asked for, of the day in this file.
+fn closed(journal: Option<Text>, ratio: bool) -> Option<Command>
+    ensures read { result ≡ close_by journal ratio }
+    ensures few { HasFewAsks result }
+{
+    match journal {
+        Some(journal) => Some(Command::Close { journal, ratio }),
+        None => None,
+    }
+}
+
 /// What a command's word with the options that were found behind it asks for.
 fn command_named(
     alloc: Global,
@@ -166,6 +189,8 @@ fn command_named(
         "notices" => Ok(printed(text_found(alloc, found, "journal")?)),
         "bidder" => Ok(Some(Command::Bidder)),
         "gen" => Ok(generated(found)),
+        "close" => Ok(closed(text_found(alloc, found, "journal")?, is_set(found, "ratio"))),
+        "check" => Ok(Some(Command::Check)),
         _ => Ok(None),
     }
 }

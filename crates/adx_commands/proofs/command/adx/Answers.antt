@@ -1,4 +1,9 @@
 -- Words in plain spelling do what they ask for.
+use Rattle.std.proofs.Common.{false, true}
+use Rattle.command_check.proofs.Ended.{accepted_input}
+use Rattle.command_check.proofs.OneAnswer.{one_answer}
+use Rattle.command_close.proofs.OneDocument.{one_document}
+use Rattle.command_close.proofs.OneGuarantee.{one_guarantee}
 use Rattle.command_words.specs.declared.command.Command.{Command}
 use Rattle.script_day.proofs.OneOutput.{has_one_output}
 use Rattle.script_day.proofs.Outputs.{has_outputs}
@@ -20,6 +25,20 @@ returns-clause-generated g c = λ seed asks generated. (plain_does _ _ _ _ _ _ c
 pub returns-clause-notices : goal.returns-clause-notices
 returns-clause-notices g c = λ notices. (plain_does _ _ _ _ _ _ c.run_words.ensures.does (Command.Notices notices.0) notices.1).by_run
 
+pub returns-clause-close : goal.returns-clause-close
+returns-clause-close g c = λ close. (plain_does _ _ _ _ _ _ c.run_words.ensures.does (Command.Close close.0 false) close.1).by_run
+
+pub returns-clause-ratio : goal.returns-clause-ratio
+returns-clause-ratio g c = λ ratio. (plain_does _ _ _ _ _ _ c.run_words.ensures.does (Command.Close ratio.0 true) ratio.1).by_run
+
+pub returns-clause-check : goal.returns-clause-check
+returns-clause-check g c = λ check. (plain_does _ _ _ _ _ _ c.run_words.ensures.does Command.Check check).by_run
+
+pub returns-clause-accepted : goal.returns-clause-accepted
+returns-clause-accepted g c = λ check is.
+    accepted_input (g.S.Source.tape c.args.source.now) (g.S.Source.tape c.run_words.new.source) (g.K.Sink.held c.args.sink.now) (g.K.Sink.held c.run_words.new.sink) c.run_words.result
+    (plain_does _ _ _ _ _ _ c.run_words.ensures.does Command.Check check).by_run is
+
 pub returns-clause-help : goal.returns-clause-help
 returns-clause-help g c = λ topic help. (plain_does _ _ _ _ _ _ c.run_words.ensures.does (Command.Help topic) help).by_run
 
@@ -28,7 +47,7 @@ returns-clause-version g c = λ version. (plain_does _ _ _ _ _ _ c.run_words.ens
 
 pub returns-clause-usage : goal.returns-clause-usage
 returns-clause-usage g c = λ is command.
-    plain_taken g.D.Disk.faults g.D.Disk.reads g.D.Disk.may_leave g.D.Disk.moment g.D.Disk.left_since (g.S.Source.tape c.args.source.now) (g.S.Source.tape c.run_words.new.source)
+    plain_taken g.D.Disk (g.S.Source.tape c.args.source.now) (g.S.Source.tape c.run_words.new.source)
     (g.K.Sink.held c.args.sink.now) (g.K.Sink.held c.run_words.new.sink) c.args.disk.now c.run_words.new.disk c.args.source.now c.run_words.new.source c.run_words.result c.args.words.now
     c.run_words.ensures.does is command
 
@@ -43,3 +62,12 @@ returns-clause-outputs g c = has_outputs
 
 pub returns-clause-one_output : goal.returns-clause-one_output
 returns-clause-one_output g c = has_one_output
+
+pub returns-clause-one_answer : goal.returns-clause-one_answer
+returns-clause-one_answer g c = one_answer
+
+pub returns-clause-one_document : goal.returns-clause-one_document
+returns-clause-one_document g c = one_document
+
+pub returns-clause-one_guarantee : goal.returns-clause-one_guarantee
+returns-clause-one_guarantee g c = one_guarantee

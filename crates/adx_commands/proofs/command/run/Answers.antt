@@ -1,7 +1,7 @@
 -- The disk's count is that of the day that ran.
-use Rattle.std.proofs.Common.{rules, ◌≡◌, ◌⊎◌, ◌∙◌, sym, subst}
+use Rattle.std.proofs.Common.{arith, refl, rules, ◌≡◌, ◌⊎◌, ◌∙◌, sym, subst}
 use Rattle.script_day.proofs.DiskCounts.{day_later}
-use Rattle.adx_commands.proofs.Statuses.{counted_day, is_faulted, is_passed}
+use Rattle.adx_commands.proofs.Statuses.{counted_day, is_faulted, is_passed, not_faulted}
 use Rattle.adx_commands.proofs.command.run.Goals as goal
 
 pub returns-in-Some-Day-clause-disk_causes : goal.returns-in-Some-Day-clause-disk_causes
@@ -21,6 +21,15 @@ pub returns-in-Some-Generate-clause-disk_causes : goal.returns-in-Some-Generate-
 returns-in-Some-Generate-clause-disk_causes g c =
     let s = c.serve_generated-ended.ensures.ends in record {
       disk_fault = search rules;
-      disk_passed = search rules;
+      disk_passed = λ is.
+          c.serve_generated-ended.ensures.disk_passed
+          (not_faulted c.serve_generated-ended.result (is_passed c.serve_generated-ended.result (subst (λ n. (n ≡ 0) ⊎ (n ≡ 7)) c.status_of-in-Some-Generate.ensures is)));
       disk_later = day_later g.D.Disk.faults g.D.Disk.reads g.D.Disk.may_leave g.D.Disk.moment g.D.Disk.left_since s.course c.args.disk.now c.serve_generated-ended.new.disk s.on_disk;
     }
+
+pub returns-in-Some-Check-clause-disk_causes : goal.returns-in-Some-Check-clause-disk_causes
+returns-in-Some-Check-clause-disk_causes g c = record {
+  disk_fault = λ is. absurd (c.check_input.ensures.other.1 is);
+  disk_passed = λ either. refl;
+  disk_later = omega arith;
+}

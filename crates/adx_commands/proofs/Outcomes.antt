@@ -1,0 +1,101 @@
+-- The causes of a run that ended with an outcome, by its exit status.
+use Rattle.std.proofs.Common.{◌≡◌, ◌≢◌, ◌⊎◌, ◌∙◌, inl, inr, sym, ap, subst, refl, ℕ, Option, Result, Ok, Err, arith}
+use Rattle.adx_io.specs.declared.disk.Disk as disks
+use Rattle.adx_io.specs.declared.stop.Stop.{Stop}
+use Rattle.command_runs.specs.Runs.{HasRunCauses}
+use Rattle.command_runs.specs.Statuses.{status_by}
+use Rattle.command_runs.specs.declared.outcome.Outcome.{Outcome}
+use Rattle.deal_floor.specs.declared.roster.Roster.{Roster}
+use Rattle.history_runs.specs.Histories.{Opening}
+use Rattle.history_runs.proofs.DiskCounts.{IsLeft, disk_later, disk_rises, disk_stays}
+use Rattle.adx_commands.specs.Statuses.{HasCauses, HasDiskCauses}
+
+-- the ends that have these statuses
+read_failed : (result : Result Outcome Stop) → status_by result ≡ 4 → result ≡ Err Stop.ReadFault
+read_failed (Ok Outcome.Done) is = absurd (omega (arith, is))
+read_failed (Ok Outcome.Refused) is = absurd (omega (arith, is))
+read_failed (Ok Outcome.DiskFault) is = absurd (omega (arith, is))
+read_failed (Ok Outcome.NoHistory) is = absurd (omega (arith, is))
+read_failed (Ok Outcome.NotAccepted) is = absurd (omega (arith, is))
+read_failed (Ok Outcome.KeeperFault) is = absurd (omega (arith, is))
+read_failed (Ok Outcome.NotKept) is = absurd (omega (arith, is))
+read_failed (Ok Outcome.Pending) is = absurd (omega (arith, is))
+read_failed (Err Stop.ReadFault) is = refl
+read_failed (Err Stop.WriteFault) is = absurd (omega (arith, is))
+read_failed (Err Stop.OutOfMemory) is = absurd (omega (arith, is))
+
+write_failed : (result : Result Outcome Stop) → status_by result ≡ 5 → result ≡ Err Stop.WriteFault
+write_failed (Ok Outcome.Done) is = absurd (omega (arith, is))
+write_failed (Ok Outcome.Refused) is = absurd (omega (arith, is))
+write_failed (Ok Outcome.DiskFault) is = absurd (omega (arith, is))
+write_failed (Ok Outcome.NoHistory) is = absurd (omega (arith, is))
+write_failed (Ok Outcome.NotAccepted) is = absurd (omega (arith, is))
+write_failed (Ok Outcome.KeeperFault) is = absurd (omega (arith, is))
+write_failed (Ok Outcome.NotKept) is = absurd (omega (arith, is))
+write_failed (Ok Outcome.Pending) is = absurd (omega (arith, is))
+write_failed (Err Stop.ReadFault) is = absurd (omega (arith, is))
+write_failed (Err Stop.WriteFault) is = refl
+write_failed (Err Stop.OutOfMemory) is = absurd (omega (arith, is))
+
+disk_failed : (result : Result Outcome Stop) → status_by result ≡ 6 → result ≡ Ok Outcome.DiskFault
+disk_failed (Ok Outcome.Done) is = absurd (omega (arith, is))
+disk_failed (Ok Outcome.Refused) is = absurd (omega (arith, is))
+disk_failed (Ok Outcome.DiskFault) is = refl
+disk_failed (Ok Outcome.NoHistory) is = absurd (omega (arith, is))
+disk_failed (Ok Outcome.NotAccepted) is = absurd (omega (arith, is))
+disk_failed (Ok Outcome.KeeperFault) is = absurd (omega (arith, is))
+disk_failed (Ok Outcome.NotKept) is = absurd (omega (arith, is))
+disk_failed (Ok Outcome.Pending) is = absurd (omega (arith, is))
+disk_failed (Err Stop.ReadFault) is = absurd (omega (arith, is))
+disk_failed (Err Stop.WriteFault) is = absurd (omega (arith, is))
+disk_failed (Err Stop.OutOfMemory) is = absurd (omega (arith, is))
+
+done_at : (result : Result Outcome Stop) → status_by result ≡ 0 → result ≡ Ok Outcome.Done
+done_at (Ok Outcome.Done) is = refl
+done_at (Ok Outcome.Refused) is = absurd (omega (arith, is))
+done_at (Ok Outcome.DiskFault) is = absurd (omega (arith, is))
+done_at (Ok Outcome.NoHistory) is = absurd (omega (arith, is))
+done_at (Ok Outcome.NotAccepted) is = absurd (omega (arith, is))
+done_at (Ok Outcome.KeeperFault) is = absurd (omega (arith, is))
+done_at (Ok Outcome.NotKept) is = absurd (omega (arith, is))
+done_at (Ok Outcome.Pending) is = absurd (omega (arith, is))
+done_at (Err Stop.ReadFault) is = absurd (omega (arith, is))
+done_at (Err Stop.WriteFault) is = absurd (omega (arith, is))
+done_at (Err Stop.OutOfMemory) is = absurd (omega (arith, is))
+
+no_history_at : (result : Result Outcome Stop) → status_by result ≡ 7 → result ≡ Ok Outcome.NoHistory
+no_history_at (Ok Outcome.Done) is = absurd (omega (arith, is))
+no_history_at (Ok Outcome.Refused) is = absurd (omega (arith, is))
+no_history_at (Ok Outcome.DiskFault) is = absurd (omega (arith, is))
+no_history_at (Ok Outcome.NoHistory) is = refl
+no_history_at (Ok Outcome.NotAccepted) is = absurd (omega (arith, is))
+no_history_at (Ok Outcome.KeeperFault) is = absurd (omega (arith, is))
+no_history_at (Ok Outcome.NotKept) is = absurd (omega (arith, is))
+no_history_at (Ok Outcome.Pending) is = absurd (omega (arith, is))
+no_history_at (Err Stop.ReadFault) is = absurd (omega (arith, is))
+no_history_at (Err Stop.WriteFault) is = absurd (omega (arith, is))
+no_history_at (Err Stop.OutOfMemory) is = absurd (omega (arith, is))
+
+-- the causes of a run are those of its status
+pub caused : (read read_now write write_now : ℕ) (result : Result Outcome Stop) (status : ℕ) → HasRunCauses read read_now write write_now result → status ≡ status_by result → HasCauses read read_now write write_now status
+caused read read_now write write_now result status causes told = record {
+  read_fault = λ is. causes.read_fault (read_failed result (sym told ∙ is));
+  read_passed = λ other. causes.read_same (λ is. other (told ∙ ap status_by is));
+  write_fault = λ is. causes.write_fault (write_failed result (sym told ∙ is));
+  write_passed = λ other. causes.write_same (λ is. other (told ∙ ap status_by is));
+  source_later = causes.read_later;
+  sink_later = causes.write_later;
+}
+
+-- and so is the disk's count, where something was printed of a history
+pub counted_print : {D : Type 0} (d : disks.Ghosts D) (course : Option (Roster × Opening)) (old new : D) (result : Result Outcome Stop) (status : ℕ) → IsLeft d old new result course → status ≡ status_by result
+    → HasDiskCauses (d.faults old) (d.faults new) status
+counted_print d course old new result status left told = record {
+  disk_fault = λ is. disk_rises d old new result course left (disk_failed result (sym told ∙ is));
+  disk_passed = λ is. disk_stays d old new result course left (passed (subst (λ n. (n ≡ 0) ⊎ (n ≡ 7)) told is));
+  disk_later = disk_later d old new result course left;
+}
+  where
+    passed : (status_by result ≡ 0) ⊎ (status_by result ≡ 7) → (result ≡ Ok Outcome.Done) ⊎ (result ≡ Ok Outcome.NoHistory)
+    passed (inl is) = inl (done_at result is)
+    passed (inr is) = inr (no_history_at result is)
