@@ -1,10 +1,9 @@
 -- A request for bids on the desk: its tick and its ask, done or given up.
-use Rattle.std.proofs.Common.{◌≡◌, inl, inr, ℕ, ◌<◌, ◌≤◌, ◌^◌, List, [], ◌∷◌, length, Option, Some, None, option_map, Result, Ok, Err, OnErr, Bor, IfSome, refl, sym, ap, ◌∙◌, subst}
+use Rattle.std.proofs.Common.{◌≡◌, inl, inr, ℕ, ◌<◌, ◌^◌, List, [], ◌∷◌, length, Option, Some, None, option_map, Result, Ok, Err, OnErr, Bor, IfSome, refl, sym, ap, ◌∙◌, subst}
 use Rattle.adx_desk.specs.Asked.{ask_for}
 use Rattle.adx_desk.specs.Desks.{OnDisk}
 use Rattle.adx_desk.specs.Endings.{EndsAsk, EndsNotice}
-use Rattle.adx_desk.specs.Histories.{DeskTerms, longest_size}
-use Rattle.adx_desk.specs.Lines.{told_as}
+use Rattle.adx_desk.specs.Histories.{DeskTerms}
 use Rattle.adx_desk.specs.Rosters.{desk_terms}
 use Rattle.adx_desk.specs.Serving.{Serves}
 use Rattle.adx_desk.specs.declared.done.Done.{Done}
@@ -12,7 +11,6 @@ use Rattle.adx_desk.specs.declared.fault.DeskFault.{DeskFault}
 use Rattle.adx_desk.proofs.Rosters.{as_many_budgets, roster_terms}
 use Rattle.answer_lines.specs.Answers.{ask_told}
 use Rattle.answer_lines.specs.declared.faults.Fault.{Fault}
-use Rattle.day_journal.specs.Tails.{size_of}
 use Rattle.day_rules.specs.declared.answer.Answer.{Answer}
 use Rattle.day_rules.specs.declared.ask.Ask.{Ask}
 use Rattle.day_rules.specs.declared.entry.Entry.{Entry}
@@ -28,10 +26,10 @@ use Rattle.script_day.specs.Meanings.{Told}
 use Rattle.exchange_messages.proofs.Numbers.{lent_fits, told_fits}
 use Rattle.exchange_http.proofs.RunsCalls.{runs_legal, runs_none}
 use Rattle.exchange_http.proofs.RunsJoined.{runs_join}
-use Rattle.exchange_http.proofs.RunsOfCalls.{runs_asked, runs_refused, runs_ticked, runs_unasked, runs_unticked}
-use Rattle.exchange_http.specs.Asking.{AsksAt, LeavesAsk, StopsAt, TakesAsk}
+use Rattle.exchange_http.proofs.RunsOfCalls.{runs_asked, runs_ticked, runs_unticked}
+use Rattle.exchange_http.specs.Asking.{AsksAt, LeavesCall, StopsAt, TakesCall}
 use Rattle.exchange_http.specs.Records.{RunsOn}
-use Rattle.exchange_messages.specs.Replies.{Reply, fault_reply, tick_fault_reply}
+use Rattle.exchange_messages.specs.Replies.{Reply, tick_fault_reply}
 use Rattle.exchange_messages.specs.Selling.{MayBeTold}
 use Rattle.exchange_messages.specs.Turns.{AnswerReplies, CallReplies, ask_by}
 
@@ -54,7 +52,8 @@ done_replied r terms history next a answer copied said opened is copy after repl
     subst (λ (t : DeskTerms). AnswerReplies r (ask_reply t.day history a).answer (ask_told (with_entry history (ask_reply t.day history a).entry) (ask_reply t.day history a).answer) said) opened by_entry
 
 module _ {D : Type 0} (faults : D → ℕ) (may_leave : D → List ℕ → Type 0) (moment : D → ℕ) (left_since : D → ℕ → List ℕ → Type 0) (r : Roster) where
-  formed_here : (desk : OnDisk D) (a : Ask) → desk.desk.terms ≡ desk_terms r → IsWellFormed (length r.campaigns) a → IsWellFormed (length desk.desk.terms.day.budgets) a
+  -- the day takes it
+  pub formed_here : (desk : OnDisk D) (a : Ask) → desk.desk.terms ≡ desk_terms r → IsWellFormed (length r.campaigns) a → IsWellFormed (length desk.desk.terms.day.budgets) a
   formed_here desk a opened formed = subst (λ n. IsWellFormed n a) (sym (as_many_budgets desk.desk.terms r (length r.campaigns) opened refl)) formed
 
   -- an ask that was done
@@ -78,7 +77,7 @@ module _ {D : Type 0} (faults : D → ℕ) (may_leave : D → List ℕ → Type 
       → done.answer ≡ (ask_reply old.desk.terms.day old.desk.history a).answer → done.ask ≡ ask_for new.desk.history done.answer
       → Serves {T = Done} may_leave moment left_since old new (ask_reply old.desk.terms.day old.desk.history a).entry (Ok done)
       → EndsAsk {T = Done} (faults old.disk) (faults new.disk) old.desk new.desk (ask_reply old.desk.terms.day old.desk.history a).entry (Ok done)
-      → AnswerReplies r done.answer done.ask said → TakesAsk faults may_leave moment left_since r old new a said
+      → AnswerReplies r done.answer done.ask said → TakesCall faults may_leave moment left_since r old new (ask a) said
   ask_taken old new a done said opened legal formed undecided is copy s ends replied = record {
     told = record { call = ask a; fault = None };
     is = refl;
@@ -89,43 +88,9 @@ module _ {D : Type 0} (faults : D → ℕ) (may_leave : D → List ℕ → Type 
   pub ask_left : (old new : OnDisk D) (a : Ask) (done : Done) → old.desk.terms ≡ desk_terms r → IsLegal old.desk.terms.day old.desk.history → IsWellFormed (length r.campaigns) a → IsUndecided a
       → Serves {T = Done} may_leave moment left_since old new (ask_reply old.desk.terms.day old.desk.history a).entry (Ok done)
       → EndsAsk {T = Done} (faults old.disk) (faults new.disk) old.desk new.desk (ask_reply old.desk.terms.day old.desk.history a).entry (Ok done)
-      → LeavesAsk faults may_leave moment left_since old new a
+      → LeavesCall faults may_leave moment left_since old new (ask a)
   ask_left old new a done opened legal formed undecided s ends =
       inr (record { call = ask a; fault = None }, refl, done_runs old new a done opened legal formed undecided s ends)
-
-  -- one that was given up
-  given_up_runs : (old new : OnDisk D) (a : Ask) (fault : DeskFault) (told : Fault) → told_as fault ≡ Some told → old.desk.terms ≡ desk_terms r → IsLegal old.desk.terms.day old.desk.history → IsWellFormed (length r.campaigns) a → IsUndecided a
-      → Serves {T = Done} may_leave moment left_since old new (ask_reply old.desk.terms.day old.desk.history a).entry (Err fault)
-      → EndsAsk {T = Done} (faults old.disk) (faults new.disk) old.desk new.desk (ask_reply old.desk.terms.day old.desk.history a).entry (Err fault)
-      → ((fault ≡ DeskFault.DiskFault → ⊥) → new ≡ old) → size_of old.desk.journal ≤ longest_size old.desk.terms old.desk.history
-      → RunsOn faults may_leave moment left_since old new (record { call = ask a; fault = Some told } ∷ [])
-  given_up_runs old new a fault told is opened legal formed undecided s ends same short =
-      runs_unasked faults may_leave moment left_since {T = Done} old new a fault told is legal (formed_here old a opened formed) undecided s ends same short
-
-  pub fault_taken : (old new : OnDisk D) (a : Ask) (fault : DeskFault) (told : Fault) (said : Reply) → told_as fault ≡ Some told → old.desk.terms ≡ desk_terms r → IsLegal old.desk.terms.day old.desk.history → IsWellFormed (length r.campaigns) a → IsUndecided a
-      → Serves {T = Done} may_leave moment left_since old new (ask_reply old.desk.terms.day old.desk.history a).entry (Err fault)
-      → EndsAsk {T = Done} (faults old.disk) (faults new.disk) old.desk new.desk (ask_reply old.desk.terms.day old.desk.history a).entry (Err fault)
-      → ((fault ≡ DeskFault.DiskFault → ⊥) → new ≡ old) → size_of old.desk.journal ≤ longest_size old.desk.terms old.desk.history
-      → said ≡ fault_reply told → TakesAsk faults may_leave moment left_since r old new a said
-  fault_taken old new a fault told said is opened legal formed undecided s ends same short replied = record {
-    told = record { call = ask a; fault = Some told };
-    is = refl;
-    runs = given_up_runs old new a fault told is opened legal formed undecided s ends same short;
-    replied = replied;
-  }
-
-  pub fault_left : (old new : OnDisk D) (a : Ask) (fault : DeskFault) (told : Fault) → told_as fault ≡ Some told → old.desk.terms ≡ desk_terms r → IsLegal old.desk.terms.day old.desk.history → IsWellFormed (length r.campaigns) a → IsUndecided a
-      → Serves {T = Done} may_leave moment left_since old new (ask_reply old.desk.terms.day old.desk.history a).entry (Err fault)
-      → EndsAsk {T = Done} (faults old.disk) (faults new.disk) old.desk new.desk (ask_reply old.desk.terms.day old.desk.history a).entry (Err fault)
-      → ((fault ≡ DeskFault.DiskFault → ⊥) → new ≡ old) → size_of old.desk.journal ≤ longest_size old.desk.terms old.desk.history
-      → LeavesAsk faults may_leave moment left_since old new a
-  fault_left old new a fault told is opened legal formed undecided s ends same short =
-      inr (record { call = ask a; fault = Some told }, refl, given_up_runs old new a fault told is opened legal formed undecided s ends same short)
-
-  -- one for which memory was refused
-  pub ask_refused : (old new : OnDisk D) (a : Ask) (fault : DeskFault) → told_as fault ≡ None → IsLegal old.desk.terms.day old.desk.history → ((c : List ℕ) → left_since old.disk (moment old.disk) c → may_leave old.disk c)
-      → ((fault ≡ DeskFault.DiskFault → ⊥) → new ≡ old) → LeavesAsk faults may_leave moment left_since old new a
-  ask_refused old new a fault none legal only_now same = inl (runs_refused faults may_leave moment left_since old new fault none legal only_now same)
 
   -- no call
   pub asked_none : (old new : OnDisk D) → IsLegal old.desk.terms.day old.desk.history → ((c : List ℕ) → left_since old.disk (moment old.disk) c → may_leave old.disk c) → new ≡ old → RunsOn faults may_leave moment left_since old new []
@@ -150,7 +115,7 @@ module _ {D : Type 0} (faults : D → ℕ) (may_leave : D → List ℕ → Type 
         → a ≡ ask_by r asked answers now
         → Serves {T = Answer} may_leave moment left_since old mid (tick_reply old.desk.history now).entry (Ok answer)
         → EndsNotice {T = Answer} (faults old.disk) (faults mid.disk) old.desk mid.desk (Ok answer)
-        → TakesAsk faults may_leave moment left_since r mid new a said → AsksAt faults may_leave moment left_since r IsMoment old new asked answers said
+        → TakesCall faults may_leave moment left_since r mid new (ask a) said → AsksAt faults may_leave moment left_since r IsMoment old new asked answers said
     asked_ticked old mid new now answer a said opened legal small is_moment is s ends taken =
         let ticked : Told = record { call = tick now; fault = None } in
         let first : RunsOn faults may_leave moment left_since old mid (ticked ∷ []) = runs_ticked faults may_leave moment left_since old mid now answer legal small s ends in record {
@@ -167,7 +132,7 @@ module _ {D : Type 0} (faults : D → ℕ) (may_leave : D → List ℕ → Type 
         → a ≡ ask_by r asked answers now
         → Serves {T = Answer} may_leave moment left_since old mid (tick_reply old.desk.history now).entry (Ok answer)
         → EndsNotice {T = Answer} (faults old.disk) (faults mid.disk) old.desk mid.desk (Ok answer)
-        → LeavesAsk faults may_leave moment left_since mid new a → StopsAt faults may_leave moment left_since r IsMoment old new asked answers
+        → LeavesCall faults may_leave moment left_since mid new (ask a) → StopsAt faults may_leave moment left_since r IsMoment old new asked answers
     stopped_ticked old mid new now answer a legal small is_moment is s ends (inl none) =
         let ticked : Told = record { call = tick now; fault = None } in
         let first : RunsOn faults may_leave moment left_since old mid (ticked ∷ []) = runs_ticked faults may_leave moment left_since old mid now answer legal small s ends in record {

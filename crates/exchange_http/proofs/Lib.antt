@@ -2,7 +2,9 @@ pub mod Along
 pub mod Answered
 pub mod AskRuns
 pub mod BatchCalls
+pub mod CallRuns
 pub mod Causes
+pub mod Changes
 pub mod Comings
 pub mod Ended
 pub mod Flushing

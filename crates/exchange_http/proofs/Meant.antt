@@ -18,7 +18,7 @@ use Rattle.script_lines.proofs.SomeMeaning.{some_first}
 use Rattle.script_lines.proofs.SomeRequest.{some_request}
 use Rattle.tree_view.specs.Checks.{first_fault, judged_by}
 use Rattle.exchange_http.specs.Laws.{AreOne, HasMeaning, HasOneMeaning}
-use Rattle.exchange_messages.specs.Meanings.{BodyMeans, Meaning, MeansBy, PathMeans, ServedMeans, TreeMeans, asks, notifies, query_meaning, refused, wants_books}
+use Rattle.exchange_messages.specs.Meanings.{BodyMeans, Meaning, MeansBy, PathMeans, ServedMeans, TreeMeans, asks, budget_query_meaning, notifies, query_meaning, refused, sets_budget, wants_books, wants_meters}
 use Rattle.exchange_messages.specs.Paths.{is_served, path_named}
 use Rattle.exchange_messages.specs.declared.path.Path.{Path}
 use Rattle.exchange_messages.specs.declared.refusal.Refusal.{Refusal}
@@ -57,6 +57,8 @@ path_means : (path : Path) (request : Request) → ((m : Meaning) → PathMeans 
 path_means Path.OpenRtb request none = body_means request.body none
 path_means (Path.Notice kind) request none = none (query_meaning kind (query_of request.head.target)) refl
 path_means Path.Books request none = none wants_books refl
+path_means Path.Meters request none = none wants_meters refl
+path_means Path.Budget request none = none (budget_query_meaning (query_of request.head.target)) refl
 
 served_means : (served : Bool) (path : Path) (request : Request) → ((m : Meaning) → ServedMeans served path request m → ⊥) → ⊥
 served_means true path request none = path_means path request none
@@ -74,7 +76,9 @@ has_meaning = λ request none. means_by (path_named (path_of request.head.target
 same_one : (x y : Meaning) → y ≡ x → AreOne x y
 same_one (asks t asked) y is = subst (AreOne (asks t asked)) (sym is) refl
 same_one (notifies kind auction award) y is = is
+same_one (sets_budget seat cid change budget) y is = is
 same_one wants_books y is = is
+same_one wants_meters y is = is
 same_one (refused why) y is = is
 
 one_tree_meaning : (t : Tree) (x y : Meaning) → TreeMeans t x → TreeMeans t y → AreOne x y
@@ -97,6 +101,8 @@ one_path_meaning : (path : Path) (request : Request) (x y : Meaning) → PathMea
 one_path_meaning Path.OpenRtb request x y means other = one_body_meaning request.body x y means other
 one_path_meaning (Path.Notice kind) request x y means other = same_one x y (other ∙ sym means)
 one_path_meaning Path.Books request x y means other = same_one x y (other ∙ sym means)
+one_path_meaning Path.Meters request x y means other = same_one x y (other ∙ sym means)
+one_path_meaning Path.Budget request x y means other = same_one x y (other ∙ sym means)
 
 one_served_meaning : (served : Bool) (path : Path) (request : Request) (x y : Meaning) → ServedMeans served path request x → ServedMeans served path request y → AreOne x y
 one_served_meaning true path request x y means other = one_path_meaning path request x y means other

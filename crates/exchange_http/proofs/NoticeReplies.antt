@@ -73,6 +73,10 @@ served_no_head (Path.Notice k) Verb.Head true request kind auction award is mean
 served_no_head (Path.Notice k) Verb.Head false request kind auction award is means = absurd (cc means)
 served_no_head Path.Books Verb.Head true request kind auction award is means = absurd (cc is)
 served_no_head Path.Books Verb.Head false request kind auction award is means = absurd (cc means)
+served_no_head Path.Meters Verb.Head true request kind auction award is means = absurd (cc is)
+served_no_head Path.Meters Verb.Head false request kind auction award is means = absurd (cc means)
+served_no_head Path.Budget Verb.Head true request kind auction award is means = absurd (cc is)
+served_no_head Path.Budget Verb.Head false request kind auction award is means = absurd (cc means)
 
 named_no_head : (p : Option Path) (request : Request) (kind : NoticeKind) (auction : List ℕ) (award : ℕ) → MeansBy p request (notifies kind auction award) → is_head (verb_of_method request.head.method) ≡ false
 named_no_head None request kind auction award means = absurd (cc means)

@@ -20,7 +20,7 @@ use Rattle.script_day.specs.Meanings.{Told, turn_of}
 use Rattle.script_day.specs.OnDisk.{history_after}
 use Rattle.exchange_messages.specs.Courses.{AnswersOn, Course, begun}
 use Rattle.exchange_http.specs.Laws.{AreOne, HasOneReply}
-use Rattle.exchange_messages.specs.Meanings.{Meaning, asks, notifies, refused, wants_books}
+use Rattle.exchange_messages.specs.Meanings.{Meaning, asks, notifies, refused, sets_budget, wants_books, wants_meters}
 use Rattle.exchange_messages.specs.Replies.{Reply}
 use Rattle.exchange_http.specs.Serving.{IsMomentOf}
 use Rattle.exchange_messages.specs.Turns.{AnswerReplies, AskReplies, AsksBehind, CallReplies, IsAnswered, IsAnsweredAs, IsAsked, RepliesBy, SoldReplies, sale_reply, terms_by}
@@ -117,11 +117,19 @@ module _ (r : Roster) where
       alike : (x y : Meaning) → AreOne x y → IsAnsweredAs Works (IsMomentOf clock) r history old x told new said → IsAnsweredAs Works (IsMomentOf other_clock) r history old_too y told_too new_too other → Alike
       alike (asks t asked) (asks u again) one is also = one_asked t u asked again is also
       alike (asks t asked) (notifies kind auction award) one is also = absurd one
+      alike (asks t asked) (sets_budget seat cid change budget) one is also = absurd one
       alike (asks t asked) wants_books one is also = absurd one
+      alike (asks t asked) wants_meters one is also = absurd one
       alike (asks t asked) (refused why) one is also = absurd one
       alike (notifies kind auction award) y one (t, call, told_is, stays, replies) also =
           let too = subst (λ (m : Meaning). IsAnsweredAs Works (IsMomentOf other_clock) r history old_too m told_too new_too other) one also in
           one_call_told t too.0 told_is too.2 replies too.4
+      alike (sets_budget seat cid change budget) y one (t, call, told_is, stays, replies) also =
+          let too = subst (λ (m : Meaning). IsAnsweredAs Works (IsMomentOf other_clock) r history old_too m told_too new_too other) one also in
+          one_call_told t too.0 told_is too.2 replies too.4
+      alike wants_meters y one (none, stays, is) also =
+          let too = subst (λ (m : Meaning). IsAnsweredAs Works (IsMomentOf other_clock) r history old_too m told_too new_too other) one also in
+          (none ∙ sym too.0, is ∙ sym too.2)
       alike wants_books y one (none, stays, is) also =
           let too = subst (λ (m : Meaning). IsAnsweredAs Works (IsMomentOf other_clock) r history old_too m told_too new_too other) one also in
           (none ∙ sym too.0, is ∙ sym too.2)

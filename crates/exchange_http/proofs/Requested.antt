@@ -9,9 +9,11 @@ use Rattle.adx_json.specs.Tree.{Tree}
 use Rattle.adx_json.specs.Spelling.{spelling}
 use Rattle.adx_desk.specs.Desks.{OnDisk}
 use Rattle.answer_lines.specs.Table.{closing_table}
+use Rattle.day_meters.specs.DayMeters.{meters_after}
 use Rattle.day_rules.specs.declared.answer.Seen.{Seen}
 use Rattle.day_rules.specs.declared.entry.Entry.{Entry}
-use Rattle.day_rules.specs.Replies.{seen_in}
+use Rattle.day_rules.specs.Entries.{BudgetChange}
+use Rattle.day_rules.specs.Replies.{Call, seen_in, set_budget}
 use Rattle.deal_floor.specs.declared.place.Place.{Place}
 use Rattle.deal_floor.specs.declared.roster.Roster.{Roster}
 use Rattle.fan_out.specs.declared.answer.BidderAnswer.{BidderAnswer}
@@ -25,8 +27,10 @@ use Rattle.rtb_request.specs.ForBidders.{request_for_bidders}
 use Rattle.rtb_request.specs.declared.bid_request.BidRequest.{BidRequest}
 use Rattle.script_day.specs.Meanings.{Told}
 use Rattle.exchange_http.proofs.RunsCalls.{runs_legal, runs_none}
-use Rattle.exchange_http.specs.Asking.{AsksAt, StopsAt}
-use Rattle.exchange_messages.specs.Meanings.{Meaning, Means, asks, refused, wants_books}
+use Rattle.exchange_http.proofs.Changes.{IsChange}
+use Rattle.exchange_http.specs.Asking.{AsksAt, LeavesCall, StopsAt, TakesCall}
+use Rattle.exchange_messages.specs.Meanings.{Meaning, Means, asks, refused, sets_budget, wants_books, wants_meters}
+use Rattle.exchange_messages.specs.Meters.{meters_text}
 use Rattle.exchange_http.specs.Records.{RunsOn}
 use Rattle.exchange_messages.specs.Replies.{Reply, refusal_reply, with_status}
 use Rattle.exchange_http.specs.Running.{AnswersHere, GivesUpHere, IsFloor}
@@ -157,7 +161,7 @@ module _ {D L : Type 0} (faults : D → ℕ) (may_leave : D → List ℕ → Typ
       → GivesUpHere faults may_leave moment left_since Works IsMoment r old new lanes lanes_now m
   request_dropped old new lanes lanes_now m t asked runs left means = record {
     told = [];
-    left_unmade = inr (t, asked, means, inl (refl, left));
+    left_unmade = inr (inl (t, asked, means, inl (refl, left)));
     runs = runs;
   }
 
@@ -168,12 +172,12 @@ module _ {D L : Type 0} (faults : D → ℕ) (may_leave : D → List ℕ → Typ
       → GivesUpHere faults may_leave moment left_since Works IsMoment r old new lanes lanes_now m
   request_stopped old new lanes lanes_now m t asked answers lent same gathered (inl at) means = record {
     told = at.told;
-    left_unmade = inr (
+    left_unmade = inr (inl (
       t,
       asked,
       means,
       inr (lent, subst (λ (x : List BidderAnswer). Gathers Works (seen_in old.desk.history asked.id asked.digest) t asked lanes lanes_now x) (sym same) gathered, at.now, at.moment_is, at.ticked, at.ticks, at.calls),
-    );
+    ));
     runs = at.runs;
   }
   request_stopped old new lanes lanes_now m t asked answers lent same gathered (inr runs) means =
@@ -187,6 +191,39 @@ module _ {D L : Type 0} (faults : D → ℕ) (may_leave : D → List ℕ → Typ
   request_runs old new asked lent said (Ok a) at stopped = (at.told, at.runs)
   request_runs old new asked lent said (Err e) at (inl stopped) = (stopped.told, stopped.runs)
   request_runs old new asked lent said (Err e) at (inr runs) = ([], runs)
+
+  -- a change of a budget that was replied
+  pub change_answered : (old new : OnDisk D) (lanes : List (Lane L)) (m : Request) (meaning : Meaning) (x : BudgetChange) (said : Reply) → IsChange r.campaigns meaning x
+      → TakesCall faults may_leave moment left_since r old new (set_budget x) said → Means m meaning
+      → AnswersHere faults may_leave moment left_since Works IsMoment r old new lanes lanes m said
+  change_answered old new lanes m meaning x said named taken means = record {
+    told = taken.told ∷ [];
+    answered = record {
+      meaning = sets_budget named.seat named.cid named.change named.budget;
+      means = subst (Means m) named.meant means;
+      answered = (taken.told, taken.is ∙ ap set_budget named.is, refl, refl, taken.replied);
+    };
+    runs = taken.runs;
+  }
+
+  -- one for which memory was refused
+  pub change_stopped : (old new : OnDisk D) (lanes : List (Lane L)) (m : Request) (meaning : Meaning) (x : BudgetChange) → IsChange r.campaigns meaning x
+      → LeavesCall faults may_leave moment left_since old new (set_budget x) → Means m meaning
+      → GivesUpHere faults may_leave moment left_since Works IsMoment r old new lanes lanes m
+  change_stopped old new lanes m meaning x named (inl runs) means = record { told = []; left_unmade = inl (refl, refl); runs = runs }
+  change_stopped old new lanes m meaning x named (inr (told, is, runs)) means = record {
+    told = told ∷ [];
+    left_unmade = inr (inr (named.seat, named.cid, named.change, named.budget, subst (Means m) named.meant means, told, is ∙ ap set_budget named.is, refl, refl));
+    runs = runs;
+  }
+
+  -- either way its calls are a run
+  pub change_runs : {A E : Type 0} (old new : OnDisk D) (call : Call) (said : A → Reply) (result : Result A E)
+      → IfOk result (λ a. TakesCall faults may_leave moment left_since r old new call (said a)) → OnErr result (LeavesCall faults may_leave moment left_since old new call)
+      → (told : List Told) × RunsOn faults may_leave moment left_since old new told
+  change_runs old new call said (Ok a) taken left = (taken.told ∷ [], taken.runs)
+  change_runs old new call said (Err e) taken (inl runs) = ([], runs)
+  change_runs old new call said (Err e) taken (inr (told, is, runs)) = (told ∷ [], runs)
 
   -- a message without calls
   pub still_answered : (now : OnDisk D) (lanes : List (Lane L)) (m : Request) (meaning : Meaning) (said : Reply) → RunsOn faults may_leave moment left_since now now []
@@ -210,6 +247,11 @@ module _ {D L : Type 0} (faults : D → ℕ) (may_leave : D → List ℕ → Typ
   pub books_answered : (now : OnDisk D) (lanes : List (Lane L)) (m : Request) (said : Reply) → IsFloor r now lanes → ((c : List ℕ) → left_since now.disk (moment now.disk) c → may_leave now.disk c)
       → Means m wants_books → said ≡ with_status 200 (closing_table r.campaigns (terms_by r) now.desk.history) → AnswersHere faults may_leave moment left_since Works IsMoment r now now lanes lanes m said
   books_answered now lanes m said floor only_now means replied = still_answered now lanes m wants_books said (still_runs now lanes floor only_now) means (refl, refl, replied)
+
+  -- one that wants the meters
+  pub meters_answered : (now : OnDisk D) (lanes : List (Lane L)) (m : Request) (said : Reply) → IsFloor r now lanes → ((c : List ℕ) → left_since now.disk (moment now.disk) c → may_leave now.disk c)
+      → Means m wants_meters → said ≡ with_status 200 (meters_text (meters_after now.desk.history)) → AnswersHere faults may_leave moment left_since Works IsMoment r now now lanes lanes m said
+  meters_answered now lanes m said floor only_now means replied = still_answered now lanes m wants_meters said (still_runs now lanes floor only_now) means (refl, refl, replied)
 
   -- one whose reply wasn't made, before anything was done
   pub nothing_done : (now : OnDisk D) (lanes : List (Lane L)) (m : Request) → IsFloor r now lanes → ((c : List ℕ) → left_since now.disk (moment now.disk) c → may_leave now.disk c)

@@ -1,4 +1,4 @@
--- The runs of the desk's own calls: a notice, a tick and an ask.
+-- The runs of the desk's own calls: a notice, a tick, an ask and a change of a budget.
 use Rattle.std.proofs.Common.{◌≡◌, ℕ, ◌<◌, ◌≤◌, ◌^◌, List, [], ◌∷◌, length, Some, None, Result, Ok, Err, sym, ap, ◌∙◌, subst}
 use Rattle.std.specs.Result.{result_ok}
 use Rattle.adx_desk.specs.Desks.{OnDisk}
@@ -76,16 +76,16 @@ module _ {D : Type 0} (faults : D → ℕ) (may_leave : D → List ℕ → Type 
       → RunsOn faults may_leave moment left_since old new (record { call = ask a; fault = None } ∷ [])
   runs_asked old new a done legal formed undecided s ends = runs_done old new (ask a) done legal (formed, undecided) s ends.1
 
-  -- one that was given up by a fault that its reply tells
-  pub runs_unasked : {T : Type 0} (old new : OnDisk D) (a : Ask) (fault : DeskFault) (told : Fault) → told_as fault ≡ Some told → IsLegal old.desk.terms.day old.desk.history
-      → IsWellFormed (length old.desk.terms.day.budgets) a → IsUndecided a
-      → Serves {T = T} may_leave moment left_since old new (ask_reply old.desk.terms.day old.desk.history a).entry (Err fault)
-      → EndsAsk {T = T} (faults old.disk) (faults new.disk) old.desk new.desk (ask_reply old.desk.terms.day old.desk.history a).entry (Err fault)
+  -- an ask or a change of a budget that was given up by a fault that its reply tells
+  pub runs_given_up : {T : Type 0} (old new : OnDisk D) (call : Call) (fault : DeskFault) (told : Fault) → told_as fault ≡ Some told → IsLegal old.desk.terms.day old.desk.history
+      → IsCall (length old.desk.terms.day.budgets) call
+      → Serves {T = T} may_leave moment left_since old new (reply old.desk.terms.day old.desk.history call).entry (Err fault)
+      → EndsAsk {T = T} (faults old.disk) (faults new.disk) old.desk new.desk (reply old.desk.terms.day old.desk.history call).entry (Err fault)
       → ((fault ≡ DeskFault.DiskFault → ⊥) → new ≡ old) → size_of old.desk.journal ≤ longest_size old.desk.terms old.desk.history
-      → RunsOn faults may_leave moment left_since old new (record { call = ask a; fault = Some told } ∷ [])
-  runs_unasked old new a fault told is legal formed undecided s ends same short =
-      runs_call faults may_leave moment left_since old new (record { call = ask a; fault = Some told }) legal s.since
-      (ask_given_up faults may_leave moment left_since old new (ask a) fault told is (formed, undecided) s ends same short)
+      → RunsOn faults may_leave moment left_since old new (record { call = call; fault = Some told } ∷ [])
+  runs_given_up old new call fault told is legal taken s ends same short =
+      runs_call faults may_leave moment left_since old new (record { call = call; fault = Some told }) legal s.since
+      (ask_given_up faults may_leave moment left_since old new call fault told is taken s ends same short)
 
   -- one for which memory was refused: no call
   pub runs_refused : (old new : OnDisk D) (fault : DeskFault) → told_as fault ≡ None → IsLegal old.desk.terms.day old.desk.history → ((c : List ℕ) → left_since old.disk (moment old.disk) c → may_leave old.disk c)

@@ -1,8 +1,8 @@
--- What became of a request for bids on the desk, at a moment of the clock. Private: only private clauses cite this file.
+-- What became of a call on the desk, and of a request for bids at a moment of the clock. Private: only private clauses cite
+-- this file.
 use Rattle.std.specs.Prelude.{◌≡◌, ◌⊎◌, ℕ, List, [], ◌∷◌, None}
 use Rattle.adx_desk.specs.Desks.{OnDisk}
-use Rattle.day_rules.specs.declared.ask.Ask.{Ask}
-use Rattle.day_rules.specs.Replies.{ask, tick}
+use Rattle.day_rules.specs.Replies.{Call, ask, tick}
 use Rattle.deal_floor.specs.declared.roster.Roster.{Roster}
 use Rattle.fan_out.specs.declared.answer.BidderAnswer.{BidderAnswer}
 use Rattle.rtb_request.specs.declared.bid_request.BidRequest.{BidRequest}
@@ -12,16 +12,16 @@ use Rattle.exchange_messages.specs.Replies.{Reply}
 use Rattle.exchange_messages.specs.Turns.{AsksBehind, CallReplies, ask_by}
 
 module _ {D : Type 0} (faults : D → ℕ) (may_leave : D → List ℕ → Type 0) (moment : D → ℕ) (left_since : D → ℕ → List ℕ → Type 0) where
-  -- an ask for whose reply memory was refused: it wasn't taken, or it was
-  abbrev pub LeavesAsk : OnDisk D → OnDisk D → Ask → Type 0
-  LeavesAsk old new a =
-      RunsOn faults may_leave moment left_since old new [] ⊎ ((told : Told) × (told.call ≡ ask a) × RunsOn faults may_leave moment left_since old new (told ∷ []))
+  -- a call for whose reply memory was refused: it wasn't taken, or it was
+  abbrev pub LeavesCall : OnDisk D → OnDisk D → Call → Type 0
+  LeavesCall old new call =
+      RunsOn faults may_leave moment left_since old new [] ⊎ ((told : Told) × (told.call ≡ call) × RunsOn faults may_leave moment left_since old new (told ∷ []))
 
 module _ {D : Type 0} (faults : D → ℕ) (may_leave : D → List ℕ → Type 0) (moment : D → ℕ) (left_since : D → ℕ → List ℕ → Type 0) (r : Roster) where
-  -- an ask was taken, or given up, and replied so
-  pub record TakesAsk (old new : OnDisk D) (a : Ask) (said : Reply) : Type 0 where
+  -- a call was taken, or given up, and replied so
+  pub record TakesCall (old new : OnDisk D) (call : Call) (said : Reply) : Type 0 where
     pub told : Told
-    pub is : told.call ≡ ask a
+    pub is : told.call ≡ call
     pub runs : RunsOn faults may_leave moment left_since old new (told ∷ [])
     pub replied : CallReplies r old.desk.history told said
 

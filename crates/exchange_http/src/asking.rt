@@ -5,11 +5,11 @@ ghost use Rattle.adx_json.specs.Spelling.{spelling};
 ghost use Rattle.adx_json.specs.View.{tree_of};
 ghost use Rattle.day_rules.specs.Asks.{IsUndecided, IsWellFormed};
 ghost use Rattle.day_rules.specs.Legal.{IsLegal};
-ghost use Rattle.day_rules.specs.Replies.{seen_in};
+ghost use Rattle.day_rules.specs.Replies.{ask as ask_call, seen_in};
 ghost use Rattle.fan_out.specs.Gathering.{WereWorked};
 ghost use Rattle.fan_out.specs.Lanes.{IsWorked};
 ghost use Rattle.rtb_request.specs.ForBidders.{request_for_bidders};
-ghost use Rattle.exchange_http.specs.Asking.{AsksAt, LeavesAsk, StopsAt, TakesAsk};
+ghost use Rattle.exchange_http.specs.Asking.{AsksAt, LeavesCall, StopsAt, TakesCall};
 ghost use Rattle.exchange_messages.specs.Courses.{reply_of};
 ghost use Rattle.exchange_http.specs.Records.{RunsOn};
 ghost use Rattle.exchange_http.specs.Serving.{IsMomentOf};
@@ -66,8 +66,8 @@ fn take_ask<D: Disk>(
     requires well_formed { IsWellFormed (length roster.now.campaigns) ask }
     requires undecided { IsUndecided ask }
     requires empty { string_bytes out.old ≡ [] }
-    ensures taken { IfOk result (λ a. TakesAsk D.faults D.may_leave D.moment D.left_since roster.entry.now desk.old desk.new ask (reply_of a (string_bytes out.new))) }
-    ensures left { OnErr result (LeavesAsk D.faults D.may_leave D.moment D.left_since desk.old desk.new ask) }
+    ensures taken { IfOk result (λ a. TakesCall D.faults D.may_leave D.moment D.left_since roster.entry.now desk.old desk.new (ask_call ask) (reply_of a (string_bytes out.new))) }
+    ensures left { OnErr result (LeavesCall D.faults D.may_leave D.moment D.left_since desk.old desk.new (ask_call ask)) }
     ensures lasts { D.lasts desk.old.disk desk.new.disk }
 {
     match desk.ask(ask) {

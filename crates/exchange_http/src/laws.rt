@@ -4,8 +4,8 @@ ghost use Rattle.exchange_http.specs.Laws.{HasMeaning, HasOneMeaning, HasOneRepl
 
 use adx_links::Link;
 
-/// There is no message without a meaning, and none with two: each is a request for bids, a notice, a look at the books, or
-/// refused. Two requests for bids are one meaning where the trees of their bodies are equal.
+/// There is no message without a meaning, and none with two: each is a request for bids, a notice, a change of a budget, a
+/// look at the books or the meters, or refused. Two requests for bids are one meaning where the trees of their bodies are equal.
 pub fn has_meaning()
     ensures some { HasMeaning }
     ensures one { HasOneMeaning }

@@ -1,4 +1,4 @@
-//! The exchange on a connection: requests for bids, notices and the books over HTTP/1.1.
+//! The exchange on a connection: requests for bids, notices, changes of budgets, the books and the meters over HTTP/1.1.
 //!
 //! `serve_connection` reads messages from a source, asks bidders over links, keeps the day on a desk, and puts the reply to
 //! each message into a sink, in their order. Its contract names the messages, the calls that they made, what they were
@@ -9,6 +9,7 @@
 
 mod asking;
 mod asks;
+mod changing;
 mod clock;
 mod ending;
 mod floor;

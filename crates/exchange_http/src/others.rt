@@ -47,17 +47,17 @@ fn answer_other<D: Disk, L: Link, C: Clock, O: Outlet>(
     alloc: Global,
     floor: &mut Floor<'_, D, L, C>,
     keeping: &mut Keeping<O>,
-    other: Other,
+    other: Other<'_>,
     message: &Message<'_>,
 ) -> Result<(), Stop>
     requires floor { IsFloor floor.old.roster.now floor.old.desk.now floor.old.lanes.now.items }
     requires settled { IsSettled (O.held keeping.old.outlet) (O.left keeping.old.outlet) (O.least keeping.old.outlet) }
     ensures goes_on { OnOk result ((start : OnDisk D) (lanes : List (LaneOf L)) (tape tape_now : Option Tape) (coming : Coming) (before : Option (List ℕ)) (m : Request)
-        → Shows message.now m → WantsOther m other
+        → Shows message.now m → WantsOther m other.entry
         → IsUnderWay D.faults D.may_leave D.moment D.left_since (IsWorked L.exchanges L.course L.faults L.place) (IsMomentOf (C.moment floor.old.clock.now)) floor.old.roster.now start lanes tape tape_now (before_one m coming) before floor.old.desk.now floor.old.lanes.now.items [] false (O.held keeping.old.outlet) (O.least keeping.old.outlet) (O.waiting keeping.old.outlet)
         → IsUnderWay D.faults D.may_leave D.moment D.left_since (IsWorked L.exchanges L.course L.faults L.place) (IsMomentOf (C.moment floor.old.clock.now)) floor.old.roster.now start lanes tape tape_now coming before floor.new.desk.now floor.new.lanes.now.items [] false (O.held keeping.new.outlet) (O.least keeping.new.outlet) (O.waiting keeping.new.outlet)) }
     ensures stops { IfErr result (λ stop. (start : OnDisk D) (lanes : List (LaneOf L)) (tape tape_now : Option Tape) (coming : Coming) (before : Option (List ℕ)) (m : Request)
-        → Shows message.now m → WantsOther m other
+        → Shows message.now m → WantsOther m other.entry
         → IsUnderWay D.faults D.may_leave D.moment D.left_since (IsWorked L.exchanges L.course L.faults L.place) (IsMomentOf (C.moment floor.old.clock.now)) floor.old.roster.now start lanes tape tape_now (before_one m coming) before floor.old.desk.now floor.old.lanes.now.items [] false (O.held keeping.old.outlet) (O.least keeping.old.outlet) (O.waiting keeping.old.outlet)
         → EndsHere D.faults D.may_leave D.moment D.left_since (IsWorked L.exchanges L.course L.faults L.place) (IsMomentOf (C.moment floor.old.clock.now)) floor.old.roster.now start lanes tape tape_now before floor.new.desk.now floor.new.lanes.now.items (O.sunk keeping.new.outlet) (end_of stop)) }
     ensures waiting { keeping.new.waiting ≡ keeping.old.waiting }
@@ -92,16 +92,16 @@ pub(crate) fn take_other<D: Disk, L: Link, C: Clock, O: Outlet>(
     alloc: Global,
     floor: &mut Floor<'_, D, L, C>,
     keeping: &mut Keeping<O>,
-    other: Other,
+    other: Other<'_>,
     message: &Message<'_>,
 ) -> Result<(), Stop>
     requires floor { IsFloor floor.old.roster.now floor.old.desk.now floor.old.lanes.now.items }
     ensures goes_on { OnOk result ((start : OnDisk D) (lanes : List (LaneOf L)) (tape tape_now : Option Tape) (coming : Coming) (before : Option (List ℕ)) (m : Request)
-        → Shows message.now m → WantsOther m other
+        → Shows message.now m → WantsOther m other.entry
         → IsUnderWay D.faults D.may_leave D.moment D.left_since (IsWorked L.exchanges L.course L.faults L.place) (IsMomentOf (C.moment floor.old.clock.now)) floor.old.roster.now start lanes tape tape_now (before_one m coming) before floor.old.desk.now floor.old.lanes.now.items keeping.old.waiting.batch.calls false (O.held keeping.old.outlet) (O.least keeping.old.outlet) (O.waiting keeping.old.outlet)
         → IsUnderWay D.faults D.may_leave D.moment D.left_since (IsWorked L.exchanges L.course L.faults L.place) (IsMomentOf (C.moment floor.old.clock.now)) floor.old.roster.now start lanes tape tape_now coming before floor.new.desk.now floor.new.lanes.now.items keeping.new.waiting.batch.calls false (O.held keeping.new.outlet) (O.least keeping.new.outlet) (O.waiting keeping.new.outlet)) }
     ensures stops { IfErr result (λ stop. (start : OnDisk D) (lanes : List (LaneOf L)) (tape tape_now : Option Tape) (coming : Coming) (before : Option (List ℕ)) (m : Request)
-        → Shows message.now m → WantsOther m other
+        → Shows message.now m → WantsOther m other.entry
         → IsUnderWay D.faults D.may_leave D.moment D.left_since (IsWorked L.exchanges L.course L.faults L.place) (IsMomentOf (C.moment floor.old.clock.now)) floor.old.roster.now start lanes tape tape_now (before_one m coming) before floor.old.desk.now floor.old.lanes.now.items keeping.old.waiting.batch.calls false (O.held keeping.old.outlet) (O.least keeping.old.outlet) (O.waiting keeping.old.outlet)
         → EndsHere D.faults D.may_leave D.moment D.left_since (IsWorked L.exchanges L.course L.faults L.place) (IsMomentOf (C.moment floor.old.clock.now)) floor.old.roster.now start lanes tape tape_now before floor.new.desk.now floor.new.lanes.now.items (O.sunk keeping.new.outlet) (end_of stop)) }
     ensures floor { IsFloor floor.new.roster.now floor.new.desk.now floor.new.lanes.now.items }

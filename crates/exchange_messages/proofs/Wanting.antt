@@ -8,9 +8,9 @@ use Rattle.http_grammar.specs.declared.verb.Verb.{Verb}
 use Rattle.notice_book.specs.declared.kind.NoticeKind.{NoticeKind}
 use Rattle.script_lines.specs.declared.limits.TheConstants.{LAST_AWARD}
 use Rattle.tree_view.specs.Values.{whole_by}
-use Rattle.exchange_messages.specs.Meanings.{Meaning, Means, MeansBy, ServedMeans, notice_meaning, notifies, query_meaning, refused, wants_books}
+use Rattle.exchange_messages.specs.Meanings.{Meaning, Means, MeansBy, ServedMeans, budget_meaning, budget_query_meaning, change_meaning, notice_meaning, notifies, query_meaning, refused, wants_books, wants_meters}
 use Rattle.exchange_messages.specs.Paths.{is_served, path_named}
-use Rattle.exchange_messages.specs.Wants.{MeansSo, Wants, WantsOther, meaning_of, other_meaning}
+use Rattle.exchange_messages.specs.Wants.{MeansSo, Wants, WantsOther, change_meant, meaning_of, other_meaning}
 use Rattle.exchange_messages.specs.declared.path.Path.{Path}
 use Rattle.exchange_messages.specs.declared.refusal.Refusal.{Refusal}
 use Rattle.exchange_messages.specs.declared.wanted.Other.{Other}
@@ -42,6 +42,8 @@ by_path m p meaning named served h =
 other_told : (m : Request) (o : Other) (meaning : Meaning) → other_meaning o ≡ Some meaning → Means m meaning → WantsOther m o
 other_told m Other.Bids meaning told h = absurd (cc told)
 other_told m Other.Books meaning told h = let same : meaning ≡ wants_books = cc told in subst (Means m) same h
+other_told m Other.Meters meaning told h = let same : meaning ≡ wants_meters = cc told in subst (Means m) same h
+other_told m (Other.Budget change) meaning told h = let same : meaning ≡ change_meant change = cc told in subst (Means m) same h
 other_told m (Other.Nothing why) meaning told h = let same : meaning ≡ refused why = cc told in subst (Means m) same h
 
 wants_told : (m : Request) (w : Wanted) (meaning : Meaning) → meaning_of w ≡ Some meaning → Means m meaning → Wants m w
@@ -59,6 +61,26 @@ pub names_both : (kind : NoticeKind) (query auction : List ℕ) (award : ℕ) �
     → Some (notifies kind auction award) ≡ Some (query_meaning kind query)
 names_both kind query auction award some told = ap₂ (λ (o : Option (List ℕ)) (n : Option ℕ). Some (notice_meaning kind o n)) (sym some) (sym told)
 
+-- what a budget's query means: it names not all four texts, or it names them
+module _ (query : List ℕ) where
+  pub no_seat : value_of (codes "seat") query ≡ None → Some (refused Refusal.Call) ≡ Some (budget_query_meaning query)
+  no_seat none = λ i. Some (budget_meaning (sym none i) (value_of (codes "cid") query) (value_of (codes "change") query) (value_of (codes "budget") query))
+
+  pub no_cid : (seat : List ℕ) → value_of (codes "seat") query ≡ Some seat → value_of (codes "cid") query ≡ None → Some (refused Refusal.Call) ≡ Some (budget_query_meaning query)
+  no_cid seat first none = λ i. Some (budget_meaning (sym first i) (sym none i) (value_of (codes "change") query) (value_of (codes "budget") query))
+
+  pub no_number : (seat cid : List ℕ) → value_of (codes "seat") query ≡ Some seat → value_of (codes "cid") query ≡ Some cid → value_of (codes "change") query ≡ None
+      → Some (refused Refusal.Call) ≡ Some (budget_query_meaning query)
+  no_number seat cid first second none = λ i. Some (budget_meaning (sym first i) (sym second i) (sym none i) (value_of (codes "budget") query))
+
+  pub no_budget : (seat cid number : List ℕ) → value_of (codes "seat") query ≡ Some seat → value_of (codes "cid") query ≡ Some cid → value_of (codes "change") query ≡ Some number
+      → value_of (codes "budget") query ≡ None → Some (refused Refusal.Call) ≡ Some (budget_query_meaning query)
+  no_budget seat cid number first second third none = λ i. Some (budget_meaning (sym first i) (sym second i) (sym third i) (sym none i))
+
+  pub names_change : (seat cid number budget : List ℕ) → value_of (codes "seat") query ≡ Some seat → value_of (codes "cid") query ≡ Some cid → value_of (codes "change") query ≡ Some number
+      → value_of (codes "budget") query ≡ Some budget → Some (change_meaning seat cid number budget) ≡ Some (budget_query_meaning query)
+  names_change seat cid number budget first second third fourth = λ i. Some (budget_meaning (sym first i) (sym second i) (sym third i) (sym fourth i))
+
 pub served : (m : Request) (p : Path) (query : List ℕ) (w : Wanted) → query ≡ query_of m.head.target → path_named (path_of m.head.target) ≡ Some p
     → is_served p (verb_of_method m.head.method) ≡ true → MeansSo p query w → Wants m w
 served m Path.OpenRtb query w same named is so = subst (Wants m) (sym so) (λ meaning h. by_path m Path.OpenRtb meaning named is h)
@@ -66,3 +88,7 @@ served m (Path.Notice kind) query w same named is so =
     let meaning = query_meaning kind query in
     wants_told m w meaning so (by_path m (Path.Notice kind) meaning named is (ap (query_meaning kind) same))
 served m Path.Books query w same named is so = subst (Wants m) (sym so) (by_path m Path.Books wants_books named is refl)
+served m Path.Meters query w same named is so = subst (Wants m) (sym so) (by_path m Path.Meters wants_meters named is refl)
+served m Path.Budget query w same named is so =
+    let meaning = budget_query_meaning query in
+    wants_told m w meaning so (by_path m Path.Budget meaning named is (ap budget_query_meaning same))

@@ -1,6 +1,7 @@
 pub mod Paths
 pub mod Meanings
 pub mod Wants
+pub mod Meters
 pub mod Replies
 pub mod Outcomes
 pub mod Sales

@@ -13,7 +13,9 @@ path_named text =
     else (if bytes_eq text (codes "/notice/win") then Some (Path.Notice NoticeKind.Win)
     else (if bytes_eq text (codes "/notice/bill") then Some (Path.Notice NoticeKind.Bill)
     else (if bytes_eq text (codes "/notice/loss") then Some (Path.Notice NoticeKind.Loss)
-    else (if bytes_eq text (codes "/books") then Some Path.Books else None))))
+    else (if bytes_eq text (codes "/books") then Some Path.Books
+    else (if bytes_eq text (codes "/meters") then Some Path.Meters
+    else (if bytes_eq text (codes "/budget") then Some Path.Budget else None))))))
 
 -- the path is served by that kind of method
 abbrev pub is_served : Path → Verb → Bool
@@ -29,9 +31,19 @@ is_served Path.Books Verb.Get = true
 is_served Path.Books Verb.Head = false
 is_served Path.Books Verb.Post = false
 is_served Path.Books Verb.Other = false
+is_served Path.Meters Verb.Get = true
+is_served Path.Meters Verb.Head = false
+is_served Path.Meters Verb.Post = false
+is_served Path.Meters Verb.Other = false
+is_served Path.Budget Verb.Get = false
+is_served Path.Budget Verb.Head = false
+is_served Path.Budget Verb.Post = true
+is_served Path.Budget Verb.Other = false
 
 -- the methods that serve it
 abbrev pub methods_of : Path → Methods
 methods_of Path.OpenRtb = Methods.Post
 methods_of (Path.Notice kind) = Methods.GetAndPost
 methods_of Path.Books = Methods.Get
+methods_of Path.Meters = Methods.Get
+methods_of Path.Budget = Methods.Post

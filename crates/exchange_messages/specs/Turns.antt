@@ -4,6 +4,7 @@ use Rattle.std.specs.Prelude.{◌≡◌, ◌⊎◌, ℕ, List, [], ◌∷◌, ma
 use Rattle.adx_json.specs.Tree.{Tree}
 use Rattle.adx_json.specs.Spelling.{spelling}
 use Rattle.adx_desk.specs.Rosters.{desk_terms}
+use Rattle.adx_units.specs.declared.units.Units.{Units}
 use Rattle.answer_lines.specs.Answers.{answer_line, ask_told, below_line, budgetreused_line, conflict_line, dayfull_line, late_line, reused_line}
 use Rattle.answer_lines.specs.Table.{closing_table}
 use Rattle.answer_lines.specs.declared.faults.Fault.{Fault}
@@ -12,7 +13,9 @@ use Rattle.day_rules.specs.declared.answer.Answer.{Answer}
 use Rattle.day_rules.specs.declared.answer.Seen.{Seen}
 use Rattle.day_rules.specs.declared.ask.Ask.{Ask}
 use Rattle.day_rules.specs.declared.entry.Entry.{Entry}
-use Rattle.day_rules.specs.Replies.{ask, notice, tick, is_awarded, reply, seen_in}
+use Rattle.day_meters.specs.DayMeters.{meters_after}
+use Rattle.day_rules.specs.Entries.{change_of}
+use Rattle.day_rules.specs.Replies.{Call, ask, notice, set_budget, tick, is_awarded, reply, seen_in}
 use Rattle.day_rules.specs.Runs.{after_turn}
 use Rattle.day_rules.specs.Terms.{Terms}
 use Rattle.deal_floor.specs.declared.roster.Roster.{Roster}
@@ -25,8 +28,10 @@ use Rattle.rtb_request.specs.ForBidders.{request_for_bidders}
 use Rattle.rtb_request.specs.declared.bid_request.BidRequest.{BidRequest}
 use Rattle.rtb_response.specs.declared.bid_answer.BidAnswer.{BidAnswer}
 use Rattle.script_day.specs.Meanings.{Told, turn_of}
+use Rattle.script_lines.specs.Changes.{pair_place}
 use Rattle.http_service.specs.declared.answer.Methods.{Methods}
-use Rattle.exchange_messages.specs.Meanings.{Meaning, asks, notifies, wants_books, refused, Means}
+use Rattle.exchange_messages.specs.Meanings.{Meaning, asks, notifies, sets_budget, wants_books, wants_meters, refused, Means}
+use Rattle.exchange_messages.specs.Meters.{meters_text}
 use Rattle.exchange_messages.specs.Replies.{Reply, fault_reply, no_content, refusal_reply, tick_fault_reply, with_status}
 use Rattle.exchange_messages.specs.Sales.{IsSale}
 
@@ -86,6 +91,10 @@ RepliesBy r history t (Some fault) said = said ≡ fault_reply fault
 abbrev pub CallReplies : Roster → List Entry → Told → Reply → Type 0
 CallReplies r history t said = RepliesBy r history t t.fault said
 
+-- the call of a change of a budget: of the campaign that the roster has with the seat and the id, or of none
+abbrev pub change_call : Roster → List ℕ → List ℕ → ℕ → Units → Call
+change_call r seat cid change budget = set_budget (change_of (pair_place r.campaigns seat cid) change budget)
+
 -- Behind the tick of a request: where that was done, the request is asked at the same moment; where the disk's fault gave
 -- it up, it isn't.
 abbrev pub AsksBehind : Roster → List Entry → BidRequest → List BidderAnswer → ℕ → Told → Option Fault → List Told → Reply → Type 0
@@ -119,8 +128,12 @@ module _ {L : Type 0} (Works : List ℕ → List ℕ → Lane L → Lane L → O
   IsAnsweredAs history old (asks t asked) told new said = IsAsked history old t asked told new said
   IsAnsweredAs history old (notifies kind auction award) told new said =
       (t : Told) × (t.call ≡ notice kind auction award) × (told ≡ t ∷ []) × (new ≡ old) × CallReplies r history t said
+  IsAnsweredAs history old (sets_budget seat cid change budget) told new said =
+      (t : Told) × (t.call ≡ change_call r seat cid change budget) × (told ≡ t ∷ []) × (new ≡ old) × CallReplies r history t said
   IsAnsweredAs history old wants_books told new said =
       (told ≡ []) × (new ≡ old) × (said ≡ with_status 200 (closing_table r.campaigns (terms_by r) history))
+  IsAnsweredAs history old wants_meters told new said =
+      (told ≡ []) × (new ≡ old) × (said ≡ with_status 200 (meters_text (meters_after history)))
   IsAnsweredAs history old (refused why) told new said = (told ≡ []) × (new ≡ old) × (said ≡ refusal_reply why)
 
   -- what a message is answered, by its meaning
@@ -138,8 +151,15 @@ module _ {L : Type 0} (Works : List ℕ → List ℕ → Lane L → Lane L → O
       × (now : ℕ) × IsMoment now × (ticked : Told) × (ticked.call ≡ tick now)
       × ((told ≡ ticked ∷ []) ⊎ ((ticked.fault ≡ None) × (t : Told) × (t.call ≡ ask (ask_by r asked answers now)) × (told ≡ ticked ∷ t ∷ []))))
 
-  -- a message whose reply wasn't made: none of its calls was taken, or it is a request for bids
+  -- the call of a change of a budget whose reply wasn't made, for want of memory
+  abbrev pub LeavesChange : List (Lane L) → Request → List Told → List (Lane L) → Type 0
+  LeavesChange old request told new =
+      (seat cid : List ℕ) × (change : ℕ) × (budget : Units) × Means request (sets_budget seat cid change budget)
+      × (t : Told) × (t.call ≡ change_call r seat cid change budget) × (told ≡ t ∷ []) × (new ≡ old)
+
+  -- a message whose reply wasn't made: none of its calls was taken, or it is a request for bids or a change of a budget
   abbrev pub LeavesUnmade : List Entry → List (Lane L) → Request → List Told → List (Lane L) → Type 0
   LeavesUnmade history old request told new =
       ((told ≡ []) × (new ≡ old))
-      ⊎ ((t : Tree) × (asked : BidRequest) × Means request (asks t asked) × LeavesAsked history old t asked told new)
+      ⊎ (((t : Tree) × (asked : BidRequest) × Means request (asks t asked) × LeavesAsked history old t asked told new)
+      ⊎ LeavesChange old request told new)

@@ -15,6 +15,10 @@ pub enum Path {
     Notice(NoticeKind),
     /// `/books`: the books of the day.
     Books,
+    /// `/meters`: the meters of the day.
+    Meters,
+    /// `/budget`: a change of a campaign's budget.
+    Budget,
 }
 
 /// The path with this spelling; None where none is served.
@@ -31,6 +35,10 @@ pub(crate) fn path_named(text: &[u8]) -> Option<Path>
         Some(Path::Notice(NoticeKind::Loss))
     } else if text == b"/books".as_slice() {
         Some(Path::Books)
+    } else if text == b"/meters".as_slice() {
+        Some(Path::Meters)
+    } else if text == b"/budget".as_slice() {
+        Some(Path::Budget)
     } else {
         None
     }
@@ -41,7 +49,7 @@ pub(crate) fn is_served(path: Path, verb: Verb) -> bool
     ensures { result ≡ served_by path verb }
 {
     match path {
-        Path::OpenRtb => match verb {
+        Path::OpenRtb | Path::Budget => match verb {
             Verb::Post => true,
             Verb::Get | Verb::Head | Verb::Other => false,
         },
@@ -49,7 +57,7 @@ pub(crate) fn is_served(path: Path, verb: Verb) -> bool
             Verb::Get | Verb::Post => true,
             Verb::Head | Verb::Other => false,
         },
-        Path::Books => match verb {
+        Path::Books | Path::Meters => match verb {
             Verb::Get => true,
             Verb::Head | Verb::Post | Verb::Other => false,
         },
@@ -61,8 +69,8 @@ pub(crate) fn methods_of(path: Path) -> Methods
     ensures { result ≡ methods_by path }
 {
     match path {
-        Path::OpenRtb => Methods::Post,
+        Path::OpenRtb | Path::Budget => Methods::Post,
         Path::Notice(_) => Methods::GetAndPost,
-        Path::Books => Methods::Get,
+        Path::Books | Path::Meters => Methods::Get,
     }
 }

@@ -10,7 +10,7 @@ pub enum Refusal {
     Path,
     /// The path isn't served by this method.
     Method(Path),
-    /// The notice names no auction, or no number of an award.
+    /// The notice names no auction, or no number of an award; or the change of a budget isn't of its form.
     Call,
     /// The body is no JSON text, or memory for its tree was refused, which `refuse` answers by an error.
     Json(JsonFault),

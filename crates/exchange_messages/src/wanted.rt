@@ -2,7 +2,7 @@
 ghost use Rattle.std.specs.Prelude.{◌≡◌, IfOk};
 ghost use Rattle.http_connection.specs.Answers.{Shows};
 ghost use Rattle.http_connection.specs.Messages.{Request};
-ghost use Rattle.exchange_messages.specs.Meanings.{query_meaning};
+ghost use Rattle.exchange_messages.specs.Meanings.{budget_query_meaning, query_meaning};
 ghost use Rattle.exchange_messages.specs.Wants.{MeansSo, Wants, meaning_of};
 
 use crate::path::{Path, is_served, path_named};
@@ -14,13 +14,30 @@ use script_lines::LAST_AWARD;
 use std::alloc::Global;
 use std::borrow::CowStr;
 
+/// The texts of a query that name a change of a campaign's budget; what they spell isn't looked at yet.
+#[derive(Drop)]
+pub struct ChangeTexts<'a> {
+    /// The campaign's seat.
+    pub seat: CowStr<'a, Global>,
+    /// The campaign's id.
+    pub cid: CowStr<'a, Global>,
+    /// The number of the change.
+    pub number: CowStr<'a, Global>,
+    /// The budget in dollars.
+    pub budget: CowStr<'a, Global>,
+}
+
 /// What a message wants that is no notice, as far as its head tells.
 #[derive(Drop)]
-pub enum Other {
+pub enum Other<'a> {
     /// Bids, for the request in its body.
     Bids,
     /// The books.
     Books,
+    /// The meters.
+    Meters,
+    /// That a campaign's budget is changed, where the texts are of their form.
+    Budget(ChangeTexts<'a>),
     /// Nothing that a day is asked.
     Nothing(Refusal),
 }
@@ -31,7 +48,7 @@ pub enum Wanted<'a> {
     /// That a notice of an award of an auction is taken.
     Notice(NoticeKind, CowStr<'a, Global>, u32),
     /// Something else.
-    Other(Other),
+    Other(Other<'a>),
 }
 
 /// A notice of a kind by its query.
@@ -55,6 +72,32 @@ fn notice_in<'a>(
     }
 }
 
+/// A change of a campaign's budget by its query.
+fn change_in<'a>(alloc: Global, query: &'a [u8]) -> Result<Wanted<'a>, OutOfMemory>
+    ensures { IfOk result (λ w. meaning_of w ≡ Some (budget_query_meaning query.now)) }
+{
+    let (seat, cid) = query_values(alloc, query, "seat", "cid")?;
+    let (number, budget) = query_values(alloc, query, "change", "budget")?;
+    let Some(seat) = seat else {
+        return Ok(Wanted::Other(Other::Nothing(Refusal::Call)));
+    };
+    let Some(cid) = cid else {
+        return Ok(Wanted::Other(Other::Nothing(Refusal::Call)));
+    };
+    let Some(number) = number else {
+        return Ok(Wanted::Other(Other::Nothing(Refusal::Call)));
+    };
+    let Some(budget) = budget else {
+        return Ok(Wanted::Other(Other::Nothing(Refusal::Call)));
+    };
+    Ok(Wanted::Other(Other::Budget(ChangeTexts {
+        seat,
+        cid,
+        number,
+        budget,
+    })))
+}
+
 /// What a message to a path wants that the path is served by.
 fn wanted_of<'a>(alloc: Global, path: Path, query: &'a [u8]) -> Result<Wanted<'a>, OutOfMemory>
     ensures { IfOk result (λ w. MeansSo path query.now w) }
@@ -63,6 +106,8 @@ fn wanted_of<'a>(alloc: Global, path: Path, query: &'a [u8]) -> Result<Wanted<'a
         Path::OpenRtb => Ok(Wanted::Other(Other::Bids)),
         Path::Notice(kind) => notice_in(alloc, kind, query),
         Path::Books => Ok(Wanted::Other(Other::Books)),
+        Path::Meters => Ok(Wanted::Other(Other::Meters)),
+        Path::Budget => change_in(alloc, query),
     }
 }
 

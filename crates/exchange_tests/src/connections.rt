@@ -36,6 +36,11 @@ aPOST /openrtb HTTP/1.1~Host: x~Content-Length: 30~~{"id":"a1","imp":[{"id":"1"}
 lGET /notice/loss?auction=a1&bid=0 HTTP/1.1~Host: x~~
 cPOST /openrtb HTTP/1.1~Host: x~Content-Length: 30~~{"id":"a2","imp":[{"id":"1"}]}
 kGET /books HTTP/1.1~Host: x~~
+oGET /meters HTTP/1.1~Host: x~~
+ePOST /budget?seat=s1&cid=c1&change=1&budget=0.02 HTTP/1.1~Host: x~Content-Length: 0~~
+CHTTP/1.1 200 OK~Content-Type: application/json~Content-Length: 105~~{"entries":1,"asks":1,"awards":1,"wins":0,"bills":0,"losses":0,"expired":0,"reserved":2500000,"billed":0}
+MHTTP/1.1 200 OK~Content-Type: application/json~Content-Length: 105~~{"entries":2,"asks":1,"awards":1,"wins":0,"bills":0,"losses":0,"expired":0,"reserved":2500000,"billed":0}
+OHTTP/1.1 200 OK~Content-Type: application/json~Content-Length: 105~~{"entries":3,"asks":1,"awards":1,"wins":0,"bills":1,"losses":0,"expired":0,"reserved":0,"billed":2500000}
 DHTTP/1.1 500 Internal Server Error~Content-Type: application/json~Content-Length: 22~~{"answer":"diskfault"}
 AHTTP/1.1 200 OK~Content-Type: application/json~x-openrtb-version: 2.6~Content-Length: 267~~{"id":"a1","seatbid":[{"seat":"s1","bid":[{"id":"0","impid":"1","price":2.5,"cid":"c1","nurl":"http://localhost/notice/win?auction=a1&bid=0","burl":"http://localhost/notice/bill?auction=a1&bid=0","lurl":"http://localhost/notice/loss?auction=a1&bid=0"}]}],"cur":"USD"}
 bPOST /openrtb HTTP/1.1~Host: x~Content-Length: 41~~{"id":"a1","imp":[{"id":"1"},{"id":"2"}]}
@@ -92,6 +97,7 @@ wnm|UPU|
 wwfzn|UUFZ|
 appk|ANNW|
 alpc|ANLN|
+aoeeopo|ACNNMNO|
 bpqmk|BNNKX|
 aad|AAR|
 ghij|GHIJ|
@@ -149,7 +155,7 @@ fn copy_of(alloc: Global, place: &Place) -> Result<Place, OutOfMemory>
 }
 
 /// Adds a text in which `~` stands for CR LF, and `;` for LF alone.
-fn push_text(out: &mut String, text: &str) -> Result<(), OutOfMemory> {
+pub(crate) fn push_text(out: &mut String, text: &str) -> Result<(), OutOfMemory> {
     for letter in text.chars() {
         match letter {
             '~' => out.push_str("\r\n")?,
@@ -268,7 +274,7 @@ fn is_replied(taken: &[u8], replies: &[u8], end: ConnEnd) -> bool {
 }
 
 /// Whether a connection with these messages ends so on a desk, with these replies.
-fn is_served(
+pub(crate) fn is_served(
     alloc: Global,
     roster: &Roster,
     desk: &mut Desk<MemoryDisk>,

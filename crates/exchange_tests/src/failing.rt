@@ -24,7 +24,7 @@ const BIDDERS: [&str; 12] = [
 
 /// The disk's calls that fail, from 14 on, where the desk is open; then by their letters the messages and replies of a
 /// connection, and of one long after it. A record takes four calls, or six behind one that was left in doubt.
-const DISKS: [(&[u64], &str, &str, &str, &str); 12] = [
+const DISKS: [(&[u64], &str, &str, &str, &str); 16] = [
     (&[], "bpq", "BNN", "cpq", "NNN"),
     // In the ask.
     (&[14], "bpqc", "DUUN", "p", "U"),
@@ -42,6 +42,12 @@ const DISKS: [(&[u64], &str, &str, &str, &str); 12] = [
     // In the tick before an ask, and in the ask behind it.
     (&[18], "b", "B", "ccp", "TNE"),
     (&[22], "b", "B", "ccp", "DNE"),
+    // In a change of a budget, which is then sent again.
+    (&[18], "aeo", "ADC", "eeo", "NNM"),
+    (&[21], "aeo", "ADC", "eeo", "NNM"),
+    (&[18, 19], "aee", "ADD", "epo", "NNO"),
+    // In the batch before it, and in the notice alone.
+    (&[18, 19], "ape", "ADN", "epo", "NNO"),
 ];
 
 /// Whether two connections end so on a new day whose disk fails, with these replies; the second is long after the first.

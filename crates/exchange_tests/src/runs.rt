@@ -61,6 +61,8 @@ const RUNS: &str = r#" => {"answer":"roster","why":"cut"}; => refused
 [1,; => {"answer":"roster","why":"json syntax 3"}; => refused
 $ =>  => served
 $GET /books HTTP/1.1~Host: x~~ => HTTP/1.1 200 OK~Content-Type: application/json~Content-Length: 110~~{"seat":"s1","cid":"c1","budget":10000000,"reserved":0,"billed":0,"slab":0};{"asks":0,"awards":0,"entries":0}; => served
+$GET /meters HTTP/1.1~Host: x~~ => HTTP/1.1 200 OK~Content-Type: application/json~Content-Length: 99~~{"entries":0,"asks":0,"awards":0,"wins":0,"bills":0,"losses":0,"expired":0,"reserved":0,"billed":0} => served
+$POST /budget?seat=s1&cid=c1&change=1&budget=0.002 HTTP/1.1~Host: x~~ => HTTP/1.1 411 Length Required~Content-Type: application/json~Content-Length: 0~Connection: close~~ => served
 $GET /notice/bill?auction=a1&bid=0 HTTP/1.1~Host: x~~ => HTTP/1.1 404 Not Found~Content-Type: application/json~Content-Length: 20~~{"answer":"unknown"} => served
 $POST /openrtb HTTP/1.1~Host: x~~GET /books HTTP/1.1~Host: x~~ => HTTP/1.1 411 Length Required~Content-Type: application/json~Content-Length: 0~Connection: close~~ => served
 $POST /openrtb HTTP/1.1~Host: x~Content-Length: 9~~{} =>  => served

@@ -1,13 +1,13 @@
 //! What a message wants by its head, why it is refused, and what calls are answered that are about no ask.
 use adx_http::{Message, Verb};
 use adx_json::{JsonFault, push_number};
-use adx_units::OutOfMemory;
+use adx_units::{OutOfMemory, Units};
 use answer_lines::Fault;
 use day_rules::{Answer, Which};
 use deal_floor::Roster;
 use exchange_messages::{
-    Other, Path, Refusal, Wanted, answer_done, answer_fault, answer_tick_fault, notice_reply,
-    refuse, wanted_by,
+    ChangeTexts, Other, Path, Refusal, Wanted, answer_done, answer_fault, answer_tick_fault,
+    notice_reply, refuse, wanted_by,
 };
 use http_service::{Answer as HttpAnswer, Methods, plain};
 use notice_book::{End, NoticeKind};
@@ -24,6 +24,25 @@ GET /books wants books
 GET /books?now wants books
 POST /books wants no method
 HEAD /books wants no method
+GET /meters wants meters
+GET /meters?budget=1 wants meters
+POST /meters wants no method
+HEAD /meters wants no method
+GET /meter wants no path
+POST /budget?seat=s1&cid=c1&change=1&budget=0.02 wants budget <s1> <c1> <1> <0.02>
+POST /budget?budget=&change=x&cid=&seat= wants budget <> <> <x> <>
+POST /budget?seat=%731&c%69d=c+1&change=%31&budget=1%2e5 wants budget <s1> <c 1> <1> <1.5>
+POST /budget?seat=a&seat=b&cid=c&cid=d&change=1&change=2&budget=3&budget=4 wants budget <a> <c> <1> <3>
+POST /budget wants no call
+POST /budget?cid=c1&change=1&budget=0.02 wants no call
+POST /budget?seat=s1&change=1&budget=0.02 wants no call
+POST /budget?seat=s1&cid=c1&budget=0.02 wants no call
+POST /budget?seat=s1&cid=c1&change=1 wants no call
+POST /budget?Seat=s1&cid=c1&change=1&budget=0.02 wants no call
+GET /budget?seat=s1&cid=c1&change=1&budget=0.02 wants no method
+HEAD /budget wants no method
+PUT /budget wants no method
+POST /budgets wants no path
 GET / wants no path
 GET http://x wants no path
 GET /books/ wants no path
@@ -64,17 +83,37 @@ fn kind_word(kind: NoticeKind) -> &'static str {
     }
 }
 
-/// The words for what is wanted that is no notice.
-fn other_words(other: &Other) -> &'static str {
+/// The words for why nothing is wanted.
+fn refusal_words(why: &Refusal) -> &'static str {
+    match why {
+        Refusal::Path => "no path",
+        Refusal::Method(_) => "no method",
+        Refusal::Call => "no call",
+        Refusal::Json(_) | Refusal::Request(_) => "no body",
+    }
+}
+
+/// Writes the texts that name a change of a budget.
+fn push_change(out: &mut String, texts: &ChangeTexts<'_>) -> Result<(), OutOfMemory> {
+    out.push_str("budget <")?;
+    out.push_str(texts.seat.as_str())?;
+    out.push_str("> <")?;
+    out.push_str(texts.cid.as_str())?;
+    out.push_str("> <")?;
+    out.push_str(texts.number.as_str())?;
+    out.push_str("> <")?;
+    out.push_str(texts.budget.as_str())?;
+    Ok(out.push_str(">")?)
+}
+
+/// Writes what is wanted that is no notice.
+fn push_other(out: &mut String, other: &Other<'_>) -> Result<(), OutOfMemory> {
     match other {
-        Other::Bids => "bids",
-        Other::Books => "books",
-        Other::Nothing(why) => match why {
-            Refusal::Path => "no path",
-            Refusal::Method(_) => "no method",
-            Refusal::Call => "no call",
-            Refusal::Json(_) | Refusal::Request(_) => "no body",
-        },
+        Other::Bids => Ok(out.push_str("bids")?),
+        Other::Books => Ok(out.push_str("books")?),
+        Other::Meters => Ok(out.push_str("meters")?),
+        Other::Budget(texts) => push_change(out, texts),
+        Other::Nothing(why) => Ok(out.push_str(refusal_words(why))?),
     }
 }
 
@@ -88,7 +127,7 @@ fn push_wanted(out: &mut String, wanted: &Wanted<'_>) -> Result<(), OutOfMemory>
             out.push_str(auction.as_str())?;
             Ok(out.push_str(">")?)
         }
-        Wanted::Other(other) => Ok(out.push_str(other_words(other))?),
+        Wanted::Other(other) => push_other(out, other),
     }
 }
 
@@ -126,7 +165,7 @@ fn is_row_told(alloc: Global, row: &str) -> Result<bool, OutOfMemory> {
 
 #[test]
 fn heads_tell_what_is_wanted(rt: HostRuntime) {
-    assert_eq!(rt; HEADS.lines().count(), 28);
+    assert_eq!(rt; HEADS.lines().count(), 47);
     for row in HEADS.lines() {
         assert_eq!(rt; is_row_told(rt.alloc(), row), Ok(true), "{row}");
     }
@@ -159,6 +198,8 @@ fn paths_methods_and_calls_are_refused(rt: HostRuntime) {
         (Path::OpenRtb, Methods::Post),
         (Path::Notice(NoticeKind::Loss), Methods::GetAndPost),
         (Path::Books, Methods::Get),
+        (Path::Meters, Methods::Get),
+        (Path::Budget, Methods::Post),
     ] {
         assert_eq!(rt;
             is_refused(
@@ -313,6 +354,33 @@ fn answers_are_replied(rt: HostRuntime) {
             503,
             r#"{"answer":"dayfull","which":"auctions","count":2}"#,
         ),
+        (
+            Answer::DayFull {
+                which: Which::Changes,
+                count: 1_000_001,
+            },
+            503,
+            r#"{"answer":"dayfull","which":"changes","count":1000001}"#,
+        ),
+        (Answer::Budgeted, 204, ""),
+        (
+            Answer::BudgetReused { kept: Units(7) },
+            409,
+            r#"{"answer":"budgetreused","kept":7}"#,
+        ),
+        (
+            Answer::Late { last: 9 },
+            409,
+            r#"{"answer":"late","last":9}"#,
+        ),
+        (
+            Answer::BelowCommitted {
+                committed: Units(2_500_000),
+            },
+            409,
+            r#"{"answer":"below","committed":2500000}"#,
+        ),
+        (Answer::NoCampaign, 404, r#"{"answer":"nocampaign"}"#),
         (
             Answer::Reused {
                 kept_digest: [0x0a; 32],

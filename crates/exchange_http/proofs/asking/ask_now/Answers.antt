@@ -1,9 +1,10 @@
 -- The tick, and the ask behind it.
 use Rattle.std.proofs.Common.{◌⊎◌, inl, inr, ◌∙◌, [], refl, string_bytes}
 use Rattle.std.proofs.lemmas.Result.{IfOk-weaker}
+use Rattle.day_rules.specs.Replies.{ask}
 use Rattle.script_day.proofs.AnsweredCalls.{on_err}
 use Rattle.exchange_http.proofs.AskRuns.{asked_none, asked_ticked, asked_unticked, err_on, stopped_ticked, stopped_unticked, ticked_legal}
-use Rattle.exchange_http.specs.Asking.{LeavesAsk, StopsAt}
+use Rattle.exchange_http.specs.Asking.{LeavesCall, StopsAt}
 use Rattle.exchange_messages.specs.Courses.{reply_of}
 use Rattle.exchange_http.specs.Records.{RunsOn}
 use Rattle.exchange_http.specs.Serving.{IsMomentOf}
@@ -38,7 +39,7 @@ returns-in-Ok-clause-stopped g c =
     let clock = c.now-now.ensures in
     let old = c.args.desk.now in
     let new = c.take_ask.new.desk in
-    err_on c.take_ask.result (LeavesAsk g.D.Disk.faults g.D.Disk.may_leave g.D.Disk.moment g.D.Disk.left_since c.tick.new.self new c.in_ok-ask.ask)
+    err_on c.take_ask.result (LeavesCall g.D.Disk.faults g.D.Disk.may_leave g.D.Disk.moment g.D.Disk.left_since c.tick.new.self new (ask c.in_ok-ask.ask))
     (StopsAt g.D.Disk.faults g.D.Disk.may_leave g.D.Disk.moment g.D.Disk.left_since c.args.roster.now IsMoment old new c.args.request.now c.args.answers.now ⊎ RunsOn g.D.Disk.faults g.D.Disk.may_leave g.D.Disk.moment g.D.Disk.left_since old new [])
     (λ left. inl (stopped_ticked g.D.Disk.faults g.D.Disk.may_leave g.D.Disk.moment g.D.Disk.left_since c.args.roster.now IsMoment c.args.request.now c.args.answers.now old c.tick.new.self new c.now-now.result _ c.in_ok-ask.ask
     c.requires.legal clock.within (clock.within, clock.told) c.in_ok-ask.ensures.gives c.in-Ok.ensures.serves c.in-Ok.ensures.ends left))
