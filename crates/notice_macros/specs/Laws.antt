@@ -1,4 +1,4 @@
--- What expansion is of a template in pieces, stated of the definition: these three laws together fix it.
+-- What expansion is of a template in pieces, stated of the definition: these laws together fix it.
 use Rattle.std.specs.Prelude.{◌≡◌, ◌∷◌, ◌++◌, List, ℕ, false, None, Some}
 use Rattle.std.specs.List.{before_first, list_any}
 use Rattle.notice_macros.specs.declared.macros.Macro.{Macro}
@@ -26,3 +26,11 @@ OtherDollarsStay =
     (p : Place) (v : Values) (before behind : List ℕ)
     → macro_at (before_first is_dollar behind) ≡ None
     → expansion p v (before ++ dollar ∷ behind) ≡ expansion p v before ++ dollar ∷ expansion p v behind
+
+-- a text without `$` and without `}` behind a template stays behind its expansion
+abbrev pub TextBehindStays : Type 0
+TextBehindStays =
+    (p : Place) (v : Values) (t s : List ℕ)
+    → list_any is_dollar s ≡ false
+    → list_any is_closing s ≡ false
+    → expansion p v (t ++ s) ≡ expansion p v t ++ s
