@@ -5,15 +5,15 @@ use adx_io::{StdSink, StdSource};
 use adx_units::Text;
 use noted_streams::Noting;
 use sql_archive::SqlKeeper;
-use sqlite::{Connection, Disk, Error, ErrorCode, FileStore};
+use sqlite::{Connection, Error, ErrorCode, File, FileStore};
 
 /// Runs the command on an archive, and closes it. Where closing fails, what was answered stands in the file and the log
 /// beside it, so that the status stays.
-fn run_on_archive<D: Disk + Drop>(
+fn run_on_archive(
     rt: &HostRuntime,
     words: &[Text],
     path: &str,
-    conn: Connection<FileStore<D>>,
+    conn: Connection<FileStore<File>>,
 ) -> u8 {
     let heard = Heard::new();
     let mut source = StdSource::new(Noting::new(rt.stdin(), &heard.input));

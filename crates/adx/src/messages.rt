@@ -7,6 +7,7 @@ use adx_units::Text;
 use command_words::complaint_of;
 use noted_streams::{Reason, Told};
 use std::cell::Cell;
+use std::fmt::Display;
 
 /// What the system said of standard input, standard output and the journal's file.
 #[derive(Drop)]
