@@ -115,11 +115,7 @@ module _ {S K D P : Type 0} (s : sources.Ghosts S) (k : sinks.Ghosts K) (d : dis
 
 -- ---- words in plain spelling
 
-module _ {S K D P : Type 0} {s : sources.Ghosts S} {k : sinks.Ghosts K} {d : disks.Ghosts D} {p : keepers.Ghosts P} {o : Outside S K D P} where
-  -- they do what they ask for
-  pub plain_does : {status : ℕ} {words : List (List ℕ)} → DoesAsRead s k d p o status words → (command : Command) → IsPlain command words → Does s k d p o status (Some command)
-  plain_does {status} {words} does command plain = subst (Does s k d p o status) (plain_only words does.0 does.1 command plain) does.2
-
+module _ {S K D P : Type 0} (s : sources.Ghosts S) (k : sinks.Ghosts K) (d : disks.Ghosts D) (p : keepers.Ghosts P) (o : Outside S K D P) where
   not_refused : (command : Command) → Runs s k d p o 2 (Some command) → ⊥
   not_refused (Command.Day journal) runs = not_two runs.ending runs.told
   not_refused (Command.Connection journal) runs = not_two runs.ending runs.told
@@ -134,7 +130,12 @@ module _ {S K D P : Type 0} {s : sources.Ghosts S} {k : sinks.Ghosts K} {d : dis
   not_refused (Command.Help topic) runs = told_otherwise runs
   not_refused Command.Version runs = told_otherwise runs
 
+module _ {S K D P : Type 0} {s : sources.Ghosts S} {k : sinks.Ghosts K} {d : disks.Ghosts D} {p : keepers.Ghosts P} {o : Outside S K D P} where
+  -- they do what they ask for
+  pub plain_does : {status : ℕ} {words : List (List ℕ)} → DoesAsRead s k d p o status words → (command : Command) → IsPlain command words → Does s k d p o status (Some command)
+  plain_does {status} {words} does command plain = subst (Does s k d p o status) (plain_only words does.0 does.1 command plain) does.2
+
   -- none of them ends with the status of words that are no command
   pub plain_taken : {status : ℕ} {words : List (List ℕ)} → DoesAsRead s k d p o status words → status ≡ 2 → IsCommand words → ⊥
   plain_taken {status} {words} does is asked =
-      not_refused asked.0 (subst (λ n. Runs s k d p o n (Some asked.0)) is (plain_does does asked.0 asked.1).by_run)
+      not_refused s k d p o asked.0 (subst (λ n. Runs s k d p o n (Some asked.0)) is (plain_does does asked.0 asked.1).by_run)
