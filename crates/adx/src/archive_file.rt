@@ -1,30 +1,39 @@
 //! The file of an archive: a database of SQLite that one process holds at a time.
 use crate::messages::{Heard, say, say_not_closed, say_not_opened};
-use adx_commands::{KEEPER_FAULT, OUT_OF_MEMORY, adx_in_memory};
-use adx_io::{StdSink, StdSource};
+use crate::run::run_over;
+use adx_commands::{KEEPER_FAULT, OUT_OF_MEMORY};
 use adx_units::Text;
-use noted_streams::Noting;
+use day_archive::Keeper;
 use sql_archive::SqlKeeper;
 use sqlite::{Connection, Error, ErrorCode, File, FileStore};
 
-/// Runs the command on an archive, and closes it. Where closing fails, what was answered stands in the file and the log
-/// beside it, so that the status stays.
+/// Runs the command over a keeper, and says how it ended.
+fn run_and_say<P: Keeper>(rt: &HostRuntime, words: &[Text], path: &str, keeper: &mut P) -> u8 {
+    let heard = Heard::new();
+    let status = run_over(rt, words, &heard, keeper);
+    say(rt, words, path, &heard, status);
+    status
+}
+
+/// Closes the file of an archive, and says where that fails. What was answered stands then in the file and the log beside
+/// it.
+fn close(rt: &HostRuntime, path: &str, conn: Connection<FileStore<File>>) {
+    match conn.close() {
+        Ok(()) => {}
+        Err(error) => say_not_closed(rt, path, error),
+    }
+}
+
+/// Runs the command on an archive, and closes it. The status stays where closing fails.
 fn run_on_archive(
     rt: &HostRuntime,
     words: &[Text],
     path: &str,
     conn: Connection<FileStore<File>>,
 ) -> u8 {
-    let heard = Heard::new();
-    let mut source = StdSource::new(Noting::new(rt.stdin(), &heard.input));
-    let mut sink = StdSink::new(Noting::new(rt.stdout(), &heard.output));
     let mut keeper = SqlKeeper::new(rt.alloc(), conn);
-    let status = adx_in_memory(rt.alloc(), words, &mut source, &mut sink, &mut keeper);
-    say(rt, words, path, &heard, status);
-    match keeper.into_connection().close() {
-        Ok(()) => {}
-        Err(error) => say_not_closed(rt, path, error),
-    }
+    let status = run_and_say(rt, words, path, &mut keeper);
+    close(rt, path, keeper.into_connection());
     status
 }
 

@@ -7,7 +7,7 @@ use adx_commands::{
 };
 use adx_io::{FileDisk, StdSink, StdSource};
 use adx_units::Text;
-use day_archive::MemoryKeeper;
+use day_archive::{Keeper, MemoryKeeper};
 use noted_streams::Noting;
 use std::fs::File;
 use std::io::ErrorKind;
@@ -15,14 +15,24 @@ use std::io::ErrorKind;
 /// What stands for the name of a journal that has no file.
 const NO_FILE: &str = "the journal in memory";
 
-/// Runs the command in memory alone.
-fn run_in_memory(rt: &HostRuntime, words: &[Text], heard: &Heard) -> u8 {
+/// Runs the command between the standard streams, with its journal in memory and over this keeper of closed days.
+pub(crate) fn run_over<P: Keeper>(
+    rt: &HostRuntime,
+    words: &[Text],
+    heard: &Heard,
+    keeper: &mut P,
+) -> u8 {
     let mut source = StdSource::new(Noting::new(rt.stdin(), &heard.input));
     let mut sink = StdSink::new(Noting::new(rt.stdout(), &heard.output));
+    adx_in_memory(rt.alloc(), words, &mut source, &mut sink, keeper)
+}
+
+/// Runs the command in memory alone.
+fn run_in_memory(rt: &HostRuntime, words: &[Text], heard: &Heard) -> u8 {
     let Ok(mut keeper) = MemoryKeeper::new(rt.alloc(), &[]) else {
         return OUT_OF_MEMORY;
     };
-    adx_in_memory(rt.alloc(), words, &mut source, &mut sink, &mut keeper)
+    run_over(rt, words, heard, &mut keeper)
 }
 
 /// Runs the command on the file of a journal, where no closed days are kept.
