@@ -2,11 +2,11 @@
 //!
 //! The call `adx` of the crate `adx_commands` does all that the program does, from the words of its command
 //! line and the bytes of a source to those of a sink; its contract is the program's. This crate opens what the words name: the
-//! file of a journal, or the file of an archive of closed days, a database over which `sql_archive` keeps them. Stands on
-//! `command_words`, `adx_commands`, `day_archive`, `sql_archive`, `noted_streams`, `adx_io`, `adx_units` and the kit's `sqlite`.
+//! file of a journal, or by `archive_file` the file of an archive of closed days. Stands on `command_words`, `adx_commands`,
+//! `day_archive`, `archive_file`, `noted_streams`, `adx_io` and `adx_units`.
 #![tactic(auto)]
 
-mod archive_file;
+mod archive;
 mod journal_file;
 mod messages;
 mod run;

@@ -1,5 +1,5 @@
 //! Runs the words of a command line between the standard streams, on the disk that they ask for.
-use crate::archive_file::run_with_archive;
+use crate::archive::run_with_archive;
 use crate::journal_file::{FileFault, open_journal};
 use crate::messages::{Heard, say, say_memory, say_no_text, say_not_opened};
 use adx_commands::{
