@@ -59,7 +59,7 @@ const RUNS: [(&str, char, u8, &str); 17] = [
         "check",
         'd',
         0,
-        "{\"answer\":\"check\",\"accepted\":true,\"bound\":514}\n",
+        "{\"answer\":\"check\",\"bound\":514}\n",
     ),
     (ALL, ' ', 0, ""),
     (
