@@ -33,3 +33,17 @@ returns-in-Some-Check-clause-disk_causes g c = record {
   disk_passed = λ either. refl;
   disk_later = omega arith;
 }
+
+pub returns-in-Some-ArchivePut-clause-disk_causes : goal.returns-in-Some-ArchivePut-clause-disk_causes
+returns-in-Some-ArchivePut-clause-disk_causes g c = record {
+  disk_fault = λ is. absurd (c.keep_day.ensures.other.1 is);
+  disk_passed = λ either. refl;
+  disk_later = omega arith;
+}
+
+pub returns-in-Some-ArchiveList-clause-disk_causes : goal.returns-in-Some-ArchiveList-clause-disk_causes
+returns-in-Some-ArchiveList-clause-disk_causes g c = record {
+  disk_fault = λ is. absurd (c.list_days_of.ensures.other.2 is);
+  disk_passed = λ either. refl;
+  disk_later = omega arith;
+}
