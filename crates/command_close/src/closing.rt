@@ -9,7 +9,7 @@ ghost use Rattle.day_rules.specs.DayState.{IsDay};
 ghost use Rattle.history_runs.specs.Histories.{Printed};
 ghost use Rattle.history_runs.specs.Runs.{RunsHistory};
 ghost use Rattle.command_close.specs.ClosedDays.{HasOneDocument, IsClosedDay};
-ghost use Rattle.command_close.specs.Putting.{PutsBytes};
+ghost use Rattle.history_runs.specs.Putting.{PutsBytes};
 
 use crate::text::put_text;
 use adx_io::{Disk, Sink, Source, Stop, Talk};

@@ -2,7 +2,7 @@
 ghost use Rattle.std.specs.Prelude.{◌≡◌, [], string_bytes};
 ghost use Rattle.adx_io.specs.Talk.{HasCauses};
 ghost use Rattle.adx_io.specs.TalkState.{place_of, state_of};
-ghost use Rattle.command_close.specs.Putting.{PutsBytes};
+ghost use Rattle.history_runs.specs.Putting.{PutsBytes};
 
 use adx_io::{Sink, Source, Stop, Talk, put_all};
 

@@ -1,7 +1,7 @@
 -- The certificate after the record, or a prefix of both.
 use Rattle.bid_record.specs.Lines.{document as record_document}
 use Rattle.dual_cert.specs.Lines.{document as cert_document}
-use Rattle.command_close.proofs.Putting.{puts_first, puts_more}
+use Rattle.history_runs.proofs.Putting.{puts_first, puts_more}
 use Rattle.command_close.proofs.closing.put_both.Goals as goal
 
 pub returns-in-Ok-clause-puts : goal.returns-in-Ok-clause-puts

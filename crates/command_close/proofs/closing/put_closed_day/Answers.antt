@@ -3,7 +3,7 @@ use Rattle.std.proofs.Common.{◌++◌, refl}
 use Rattle.bid_record.specs.Lines.{document as record_document}
 use Rattle.dual_cert.specs.Lines.{document as cert_document}
 use Rattle.command_close.specs.ClosedDays.{IsClosedDay}
-use Rattle.command_close.proofs.Putting.{printed_by}
+use Rattle.history_runs.proofs.Putting.{printed_by}
 use Rattle.command_close.proofs.closing.put_closed_day.Goals as goal
 
 pub returns-in-Ok-clause-printed : goal.returns-in-Ok-clause-printed

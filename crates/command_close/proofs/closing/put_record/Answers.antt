@@ -1,6 +1,6 @@
 -- The lines were put, or a prefix of them.
 use Rattle.std.proofs.Common.{◌∙◌, ℕ, List, subst}
-use Rattle.command_close.specs.Putting.{PutsBytes}
+use Rattle.history_runs.specs.Putting.{PutsBytes}
 use Rattle.command_close.proofs.closing.put_record.Goals as goal
 
 pub returns-in-Ok-clause-puts : goal.returns-in-Ok-clause-puts
