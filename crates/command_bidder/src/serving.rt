@@ -1,12 +1,11 @@
 //! A bidder's run: its price line, and the connection after it.
 ghost use Rattle.std.specs.Prelude.{◌≡◌, ◌≢◌, ◌≤◌, length};
 ghost use Rattle.adx_io.specs.Lines.{TookLast, tape_behind};
-ghost use Rattle.adx_io.specs.Streams.{WhereTold};
 ghost use Rattle.adx_io.specs.Talk.{HasCauses};
 ghost use Rattle.adx_io.specs.TalkState.{place_of, state_of};
 ghost use Rattle.adx_io.specs.declared.line_buffer.TheConstants.{CHUNK};
 ghost use Rattle.bidder_http.specs.Messages.{BidderAnswers, BidderGivesUp};
-ghost use Rattle.command_runs.specs.Meanings.{Wrote};
+ghost use Rattle.command_runs.specs.Talks.{TalkWrote};
 ghost use Rattle.connection_runs.specs.Connections.{EndsServing};
 ghost use Rattle.http_connection.specs.declared.conn.ConnEnd.TheVariants.{ReadFault as ConnReadFault};
 ghost use Rattle.http_service.specs.Connections.{EndsWith, HasCauses as ConnCauses};
@@ -54,7 +53,7 @@ fn serve_after<S: Source, K: Sink>(
     talk: &mut Talk<'_, S, K>,
 ) -> Result<Outcome, Stop>
     requires { length talk.old.buffer.now.pending ≤ CHUNK }
-    ensures ran { WhereTold (state_of talk.old).tape (S.tape talk.new.source.now) (λ before now. Wrote (serves bidder.old bidder.new) before.left now.left (K.held talk.old.sink.now) (K.held talk.new.sink.now) result) }
+    ensures ran { TalkWrote (serves bidder.old bidder.new) talk.old talk.new result }
     ensures ends { EndsServing result }
     ensures causes { HasCauses (state_of talk.old) (state_of talk.new) result }
     ensures same { place_of talk.new ≡ place_of talk.old }

@@ -1,17 +1,17 @@
 -- What came of a connection is what a run wrote.
-use Rattle.std.proofs.Common.{◌≡◌, ◌∙◌, ◌≤◌, inl, inr, ℕ, ◌+◌, List, [], ◌∷◌, ◌++◌, Option, Result, Ok, Err, length, refl, sym, ap, subst, append_assoc, append-nil, length-append, arith}
-use Rattle.adx_io.specs.Lines.{tape_behind, with_pending}
+use Rattle.std.proofs.Common.{◌≡◌, ◌∙◌, ◌≤◌, inl, inr, ℕ, ◌+◌, List, [], ◌∷◌, ◌++◌, Option, Result, Err, length, refl, sym, ap, subst, append_assoc, append-nil, length-append, arith}
+use Rattle.adx_io.specs.Lines.{tape_behind}
 use Rattle.adx_io.specs.Streams.{Tape, Took, WhereTold}
 use Rattle.adx_io.specs.declared.line_buffer.TheConstants.{CHUNK}
 use Rattle.adx_io.specs.declared.stop.Stop.{Stop}
 use Rattle.command_runs.specs.Meanings.{Wrote}
 use Rattle.command_runs.specs.declared.outcome.Outcome.{Outcome}
 use Rattle.command_runs.proofs.Told.{told_ahead, told_source}
-use Rattle.http_connection.specs.Messages.{AreRequests, IsUnfinishedRequest, RefusesRequest, Request}
+use Rattle.http_connection.specs.Messages.{AreRequests, RefusesRequest, Request}
 use Rattle.http_connection.specs.State.{room_of}
 use Rattle.http_connection.specs.declared.conn.ConnEnd.{ConnEnd}
 use Rattle.http_grammar.specs.declared.fault.HttpFault.{HttpFault}
-use Rattle.http_service.specs.Connections.{Answering, BringsLast, EndsWith, FailsRefusing, FailsWriting, GaveUp, GivingUp, Refuses, Served}
+use Rattle.http_service.specs.Connections.{Answering, EndsWith, FailsRefusing, FailsWriting, GivingUp}
 use Rattle.http_service.specs.Replies.{refusal_bytes, reply_to}
 use Rattle.http_service.proofs.Fronts.{requests_front}
 use Rattle.connection_runs.specs.Connections.{Come, IsLast, connection, result_by}
