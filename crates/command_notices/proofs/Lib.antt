@@ -1,2 +1,2 @@
-pub mod Lines
+pub mod MoreLines
 pub mod Posted
