@@ -10,4 +10,5 @@ pub mod Loading
 pub mod Opened
 pub mod Rosters
 pub mod Lines
+pub mod Calls
 pub mod Shared

@@ -4,22 +4,20 @@ ghost use Rattle.day_journal.specs.Faults.{greatest_size};
 ghost use Rattle.day_journal.specs.Tails.{size_of};
 ghost use Rattle.day_rules.specs.Asks.{IsUndecided, IsWellFormed};
 ghost use Rattle.campaign_book.specs.Accounts.{IsBudget};
-ghost use Rattle.day_entries.specs.Entries.{entries_bytes};
 ghost use Rattle.day_meters.specs.DayMeters.{meters_after, steps_of};
 ghost use Rattle.day_rules.specs.Books.{accounts_in, ask_count, awards_of};
 ghost use Rattle.day_rules.specs.Entries.{change_of};
 ghost use Rattle.day_rules.specs.DayState.{IsDay};
-ghost use Rattle.day_rules.specs.Replies.{ask_reply, budget_reply, notice_reply, seen_in, tick_reply};
+ghost use Rattle.day_rules.specs.Replies.{seen_in};
 ghost use Rattle.day_rules.specs.Terms.{budgets_after};
+ghost use Rattle.adx_desk.specs.Calls.{batch_bytes, DeskEndsAsk, DeskEndsNotice, DeskGivesUp, DeskOpens, DeskServes, DeskServesAll, reply_to_ask, reply_to_change, reply_to_notice, reply_to_tick};
 ghost use Rattle.adx_desk.specs.Asked.{ask_for};
 ghost use Rattle.adx_desk.specs.Desks.{StandsOnDisk};
 ghost use Rattle.notice_batches.specs.Batches.{answers_in_turn, entries_in_turn};
 ghost use Rattle.adx_desk.specs.Histories.{longest_size};
-ghost use Rattle.adx_desk.specs.Endings.{EndsAsk, EndsNotice, IsWithinRise};
-ghost use Rattle.adx_desk.specs.Opened.{GivesUp, Opens};
+ghost use Rattle.adx_desk.specs.Endings.{IsWithinRise};
 ghost use Rattle.adx_desk.specs.Openings.{HasDiskCause};
 ghost use Rattle.adx_desk.specs.Rosters.{desk_terms};
-ghost use Rattle.adx_desk.specs.Serving.{Serves, ServesAll};
 ghost use Rattle.adx_desk.specs.declared.fault.DeskFault.{DeskFault as Fault};
 
 use crate::done::Done;
@@ -76,8 +74,8 @@ impl<D: Disk> Desk<D> {
     /// it did before. The refusals are `NotAJournal`, `OtherRoster`, `BadLength` and `BadEntry`, the first of them in the
     /// order of the file's bytes, and then `JournalFull`.
     pub fn open(alloc: Global, disk: D, roster: &Roster) -> Result<Desk<D>, (DeskFault, D)>
-        ensures opens { IfOk result (λ d. Opens D.reads D.may_leave D.moment D.left_since (desk_terms roster.entry.now) disk d.disk d.desk) }
-        ensures gives_up { IfErr result (λ e. GivesUp D.reads D.may_leave D.moment D.left_since (desk_terms roster.entry.now) disk e.1 e.0) }
+        ensures opens { IfOk result (λ d. DeskOpens D.Disk (desk_terms roster.entry.now) disk d.disk d.desk) }
+        ensures gives_up { IfErr result (λ e. DeskGivesUp D.Disk (desk_terms roster.entry.now) disk e.1 e.0) }
         ensures legal { IfOk result (λ d. IsDay d.desk.terms.day d.desk.history) }
         ensures same_count { IfOk result (λ d. D.faults d.disk ≡ D.faults disk) }
         ensures since { IfOk result (λ d. d.since ≡ record { count = D.faults d.disk; tells = is_some (D.reads disk) }) }
@@ -116,11 +114,11 @@ impl<D: Disk> Desk<D> {
     pub fn ask(&mut self, ask: Ask) -> Result<Done, DeskFault>
         requires formed { IsWellFormed (length self.old.desk.terms.day.budgets) ask }
         requires undecided { IsUndecided ask }
-        ensures answer { IfOk result (λ d. d.answer ≡ (ask_reply self.old.desk.terms.day self.old.desk.history ask).answer) }
+        ensures answer { IfOk result (λ d. d.answer ≡ (reply_to_ask self.old.desk ask).answer) }
         ensures copy { IfOk result (λ d. d.ask ≡ ask_for self.new.desk.history d.answer) }
-        ensures serves { Serves D.may_leave D.moment D.left_since self.old self.new (ask_reply self.old.desk.terms.day self.old.desk.history ask).entry result }
-        ensures ends { EndsAsk (D.faults self.old.disk) (D.faults self.new.disk) self.old.desk self.new.desk (ask_reply self.old.desk.terms.day self.old.desk.history ask).entry result }
-        ensures unmoved { (ask_reply self.old.desk.terms.day self.old.desk.history ask).entry ≡ None → self.new ≡ self.old }
+        ensures serves { DeskServes D.Disk self.old self.new (reply_to_ask self.old.desk ask).entry result }
+        ensures ends { DeskEndsAsk D.Disk self.old self.new (reply_to_ask self.old.desk ask).entry result }
+        ensures unmoved { (reply_to_ask self.old.desk ask).entry ≡ None → self.new ≡ self.old }
         ensures refused { IfErr result (λ e. (e ≡ Fault.DiskFault → ⊥) → self.new ≡ self.old) }
         ensures size { size_of self.old.desk.journal ≤ longest_size self.old.desk.terms self.old.desk.history }
         ensures lasts { D.lasts self.old.disk self.new.disk }
@@ -141,10 +139,10 @@ impl<D: Disk> Desk<D> {
     ) -> Result<Answer, DeskFault>
         requires change { 1 ≤ change }
         requires budget { IsBudget budget }
-        ensures answer { IfOk result (λ a. a ≡ (budget_reply self.old.desk.terms.day self.old.desk.history (change_of campaign change budget)).answer) }
-        ensures serves { Serves D.may_leave D.moment D.left_since self.old self.new (budget_reply self.old.desk.terms.day self.old.desk.history (change_of campaign change budget)).entry result }
-        ensures ends { EndsAsk (D.faults self.old.disk) (D.faults self.new.disk) self.old.desk self.new.desk (budget_reply self.old.desk.terms.day self.old.desk.history (change_of campaign change budget)).entry result }
-        ensures unmoved { (budget_reply self.old.desk.terms.day self.old.desk.history (change_of campaign change budget)).entry ≡ None → self.new ≡ self.old }
+        ensures answer { IfOk result (λ a. a ≡ (reply_to_change self.old.desk (change_of campaign change budget)).answer) }
+        ensures serves { DeskServes D.Disk self.old self.new (reply_to_change self.old.desk (change_of campaign change budget)).entry result }
+        ensures ends { DeskEndsAsk D.Disk self.old self.new (reply_to_change self.old.desk (change_of campaign change budget)).entry result }
+        ensures unmoved { (reply_to_change self.old.desk (change_of campaign change budget)).entry ≡ None → self.new ≡ self.old }
         ensures refused { IfErr result (λ e. (e ≡ Fault.DiskFault → ⊥) → self.new ≡ self.old) }
         ensures size { size_of self.old.desk.journal ≤ longest_size self.old.desk.terms self.old.desk.history }
         ensures lasts { D.lasts self.old.disk self.new.disk }
@@ -160,10 +158,10 @@ impl<D: Disk> Desk<D> {
         auction: &str,
         award: u32,
     ) -> Result<Answer, DeskFault>
-        ensures answer { IfOk result (λ a. a ≡ (notice_reply self.old.desk.history kind auction.now award).answer) }
-        ensures serves { Serves D.may_leave D.moment D.left_since self.old self.new (notice_reply self.old.desk.history kind auction.now award).entry result }
-        ensures ends { EndsNotice (D.faults self.old.disk) (D.faults self.new.disk) self.old.desk self.new.desk result }
-        ensures unmoved { (notice_reply self.old.desk.history kind auction.now award).entry ≡ None → self.new ≡ self.old }
+        ensures answer { IfOk result (λ a. a ≡ (reply_to_notice self.old.desk kind auction.now award).answer) }
+        ensures serves { DeskServes D.Disk self.old self.new (reply_to_notice self.old.desk kind auction.now award).entry result }
+        ensures ends { DeskEndsNotice D.Disk self.old self.new result }
+        ensures unmoved { (reply_to_notice self.old.desk kind auction.now award).entry ≡ None → self.new ≡ self.old }
         ensures lasts { D.lasts self.old.disk self.new.disk }
     {
         self.kept
@@ -173,10 +171,10 @@ impl<D: Disk> Desk<D> {
     /// Answers a tick at a moment in seconds. Takes no memory; its only fault is the disk's.
     pub fn tick(&mut self, now: u64) -> Result<Answer, DeskFault>
         requires { now < 2 ^ 63 }
-        ensures answer { IfOk result (λ a. a ≡ (tick_reply self.old.desk.history now).answer) }
-        ensures serves { Serves D.may_leave D.moment D.left_since self.old self.new (tick_reply self.old.desk.history now).entry result }
-        ensures ends { EndsNotice (D.faults self.old.disk) (D.faults self.new.disk) self.old.desk self.new.desk result }
-        ensures unmoved { (tick_reply self.old.desk.history now).entry ≡ None → self.new ≡ self.old }
+        ensures answer { IfOk result (λ a. a ≡ (reply_to_tick self.old.desk now).answer) }
+        ensures serves { DeskServes D.Disk self.old self.new (reply_to_tick self.old.desk now).entry result }
+        ensures ends { DeskEndsNotice D.Disk self.old self.new result }
+        ensures unmoved { (reply_to_tick self.old.desk now).entry ≡ None → self.new ≡ self.old }
         ensures lasts { D.lasts self.old.disk self.new.disk }
     {
         self.kept.tick(&mut self.disk, &mut self.notices, now)
@@ -189,11 +187,11 @@ impl<D: Disk> Desk<D> {
         requires { batch.old.answers ≡ None }
         ensures answers { OnOk result (batch.new ≡ record batch.old { answers = Some (answers_in_turn self.old.desk.history batch.old.calls) }) }
         ensures waits { OnErr result (batch.new ≡ batch.old) }
-        ensures serves { ServesAll D.may_leave D.moment D.left_since self.old self.new (entries_in_turn self.old.desk.history batch.old.calls) result }
-        ensures ends { EndsNotice (D.faults self.old.disk) (D.faults self.new.disk) self.old.desk self.new.desk result }
+        ensures serves { DeskServesAll D.Disk self.old self.new (entries_in_turn self.old.desk.history batch.old.calls) result }
+        ensures ends { DeskEndsNotice D.Disk self.old self.new result }
         ensures unmoved { entries_in_turn self.old.desk.history batch.old.calls ≡ [] → self.new ≡ self.old }
         ensures grown { OnOk result (0 < length (entries_in_turn self.old.desk.history batch.old.calls)
-            → size_of self.new.desk.journal ≡ size_of self.old.desk.journal + (length (entries_bytes self.old.desk.journal.format (entries_in_turn self.old.desk.history batch.old.calls)) + 5)) }
+            → size_of self.new.desk.journal ≡ size_of self.old.desk.journal + (length (batch_bytes self.old.desk batch.old.calls) + 5)) }
         ensures lasts { D.lasts self.old.disk self.new.disk }
     {
         self.kept.batch(&mut self.disk, &mut self.notices, batch)

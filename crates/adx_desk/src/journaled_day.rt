@@ -4,22 +4,20 @@ ghost use Rattle.std.specs.Option.{ForSome};
 ghost use Rattle.adx_io.specs.Streams.{last_count};
 ghost use Rattle.day_journal.specs.Faults.{greatest_size};
 ghost use Rattle.day_journal.specs.Tails.{size_of};
-ghost use Rattle.day_entries.specs.Entries.{Fits, IsNoticeOrMoment, entry_bytes, entries_bytes};
+ghost use Rattle.day_entries.specs.Entries.{Fits, IsNoticeOrMoment, entry_bytes};
 ghost use Rattle.day_rules.specs.Asks.{IsUndecided, IsWellFormed};
-ghost use Rattle.day_rules.specs.Books.{awards_of};
 ghost use Rattle.campaign_book.specs.Accounts.{IsBudget};
 ghost use Rattle.day_rules.specs.Entries.{asked, change_of};
 ghost use Rattle.day_rules.specs.DayState.{HasRoomFor, IsDay};
 ghost use Rattle.day_rules.specs.Legal.{MayFollow};
-ghost use Rattle.day_rules.specs.Replies.{ask_reply, budget_reply, notice_reply, tick_reply};
 ghost use Rattle.day_meters.specs.DayMeters.{meters_after, steps_of};
+ghost use Rattle.adx_desk.specs.Calls.{batch_bytes, DayEndsAsk, DayServes, DayServesAll, IsUnmoved, reply_to_ask, reply_to_change, reply_to_notice, reply_to_tick, terms_of};
 ghost use Rattle.adx_desk.specs.Asked.{ask_for};
 ghost use Rattle.notice_batches.specs.Batches.{answers_in_turn, entries_in_turn};
-ghost use Rattle.adx_desk.specs.Endings.{EndsAsk, EndsNotice, size_with};
+ghost use Rattle.adx_desk.specs.Endings.{EndsNotice, size_with};
 ghost use Rattle.notice_batches.specs.Held.{held};
 ghost use Rattle.adx_desk.specs.Histories.{longest_size};
-ghost use Rattle.adx_desk.specs.Journaled.{EndsRecord, beside, day_in, on_disk};
-ghost use Rattle.adx_desk.specs.Serving.{Serves, ServesAll};
+ghost use Rattle.adx_desk.specs.Journaled.{EndsRecord, beside, day_in};
 ghost use Rattle.adx_desk.specs.declared.fault.DeskFault.{DeskFault as Fault};
 ghost use Rattle.notice_batches.specs.declared.held.TheConstants.{NOTICE_ROOM};
 
@@ -79,7 +77,7 @@ impl JournaledDay {
     ) -> Result<JournaledDay, DeskFault>
         requires legal { IsDay day.terms day.history }
         requires short { size_of journal ≤ longest_size (record { day = day.terms; digest = digest }) day.history }
-        ensures desk { IfOk result (λ d. d.desk ≡ record { terms = record { day = day.terms; digest = digest }; history = day.history; journal = journal; faults = 0 }) }
+        ensures desk { IfOk result (λ d. d.desk ≡ record { terms = terms_of day.terms digest; history = day.history; journal = journal; faults = 0 }) }
         ensures room { OnOk result (size_of journal + held journal.format day.history ≤ greatest_size) }
         ensures full { IfErr result (λ e. (greatest_size < size_of journal + held journal.format day.history)
             × (e ≡ Fault.JournalFull (min (size_of journal + held journal.format day.history) last_count))) }
@@ -167,10 +165,10 @@ impl JournaledDay {
         requires room { HasRoomFor (day_in self.old) entry }
         requires payload { frame.now.payload ≡ entry_bytes self.old.desk.journal.format entry }
         requires fits { Fits self.old.desk.journal.format entry }
-        ensures serves { Serves D.may_leave D.moment D.left_since (on_disk self.old disk.old) (on_disk self.new disk.new) (Some entry) result }
+        ensures serves { DayServes D.Disk self.old self.new disk.old disk.new (Some entry) result }
         ensures ends { EndsRecord (D.faults disk.old) (D.faults disk.new) self.old.desk self.new.desk entry result }
         ensures always { IsNoticeOrMoment entry → size_with self.old.desk entry ≤ greatest_size }
-        ensures refused { IfErr result (λ e. (e ≡ Fault.DiskFault → ⊥) → on_disk self.new disk.new ≡ on_disk self.old disk.old) }
+        ensures refused { IfErr result (λ e. (e ≡ Fault.DiskFault → ⊥) → IsUnmoved self.old self.new disk.old disk.new) }
         ensures lasts { D.lasts disk.old disk.new }
     {
         let held = self.held_beside(&entry);
@@ -202,9 +200,9 @@ impl JournaledDay {
         requires no_ask { ForSome entry IsNoticeOrMoment }
         requires frame { NOTICE_ROOM ≤ frame.old.spare + length frame.old.payload }
         ensures answer { IfOk result (λ a. a ≡ answer) }
-        ensures serves { Serves D.may_leave D.moment D.left_since (on_disk self.old disk.old) (on_disk self.new disk.new) entry result }
+        ensures serves { DayServes D.Disk self.old self.new disk.old disk.new entry result }
         ensures ends { EndsNotice (D.faults disk.old) (D.faults disk.new) self.old.desk self.new.desk result }
-        ensures unmoved { entry ≡ None → on_disk self.new disk.new ≡ on_disk self.old disk.old }
+        ensures unmoved { entry ≡ None → IsUnmoved self.old self.new disk.old disk.new }
         ensures frame { NOTICE_ROOM ≤ frame.new.spare + length frame.new.payload }
         ensures lasts { D.lasts disk.old disk.new }
     {
@@ -230,10 +228,10 @@ impl JournaledDay {
         award: u32,
     ) -> Result<Answer, DeskFault>
         requires { NOTICE_ROOM ≤ frame.old.spare + length frame.old.payload }
-        ensures answer { IfOk result (λ a. a ≡ (notice_reply self.old.desk.history kind auction.now award).answer) }
-        ensures serves { Serves D.may_leave D.moment D.left_since (on_disk self.old disk.old) (on_disk self.new disk.new) (notice_reply self.old.desk.history kind auction.now award).entry result }
+        ensures answer { IfOk result (λ a. a ≡ (reply_to_notice self.old.desk kind auction.now award).answer) }
+        ensures serves { DayServes D.Disk self.old self.new disk.old disk.new (reply_to_notice self.old.desk kind auction.now award).entry result }
         ensures ends { EndsNotice (D.faults disk.old) (D.faults disk.new) self.old.desk self.new.desk result }
-        ensures unmoved { (notice_reply self.old.desk.history kind auction.now award).entry ≡ None → on_disk self.new disk.new ≡ on_disk self.old disk.old }
+        ensures unmoved { (reply_to_notice self.old.desk kind auction.now award).entry ≡ None → IsUnmoved self.old self.new disk.old disk.new }
         ensures frame { NOTICE_ROOM ≤ frame.new.spare + length frame.new.payload }
         ensures lasts { D.lasts disk.old disk.new }
     {
@@ -250,10 +248,10 @@ impl JournaledDay {
     ) -> Result<Answer, DeskFault>
         requires moment { now < 2 ^ 63 }
         requires frame { NOTICE_ROOM ≤ frame.old.spare + length frame.old.payload }
-        ensures answer { IfOk result (λ a. a ≡ (tick_reply self.old.desk.history now).answer) }
-        ensures serves { Serves D.may_leave D.moment D.left_since (on_disk self.old disk.old) (on_disk self.new disk.new) (tick_reply self.old.desk.history now).entry result }
+        ensures answer { IfOk result (λ a. a ≡ (reply_to_tick self.old.desk now).answer) }
+        ensures serves { DayServes D.Disk self.old self.new disk.old disk.new (reply_to_tick self.old.desk now).entry result }
         ensures ends { EndsNotice (D.faults disk.old) (D.faults disk.new) self.old.desk self.new.desk result }
-        ensures unmoved { (tick_reply self.old.desk.history now).entry ≡ None → on_disk self.new disk.new ≡ on_disk self.old disk.old }
+        ensures unmoved { (reply_to_tick self.old.desk now).entry ≡ None → IsUnmoved self.old self.new disk.old disk.new }
         ensures frame { NOTICE_ROOM ≤ frame.new.spare + length frame.new.payload }
         ensures lasts { D.lasts disk.old disk.new }
     {
@@ -308,9 +306,9 @@ impl JournaledDay {
         requires fits { Fits self.old.desk.journal.format entry }
         ensures answer { IfOk result (λ d. d.answer ≡ done.answer) }
         ensures copy { IfOk result (λ d. d.ask ≡ done.ask) }
-        ensures serves { Serves D.may_leave D.moment D.left_since (on_disk self.old disk.old) (on_disk self.new disk.new) (Some entry) result }
-        ensures ends { EndsAsk (D.faults disk.old) (D.faults disk.new) self.old.desk self.new.desk (Some entry) result }
-        ensures refused { IfErr result (λ e. (e ≡ Fault.DiskFault → ⊥) → on_disk self.new disk.new ≡ on_disk self.old disk.old) }
+        ensures serves { DayServes D.Disk self.old self.new disk.old disk.new (Some entry) result }
+        ensures ends { DayEndsAsk D.Disk self.old self.new disk.old disk.new (Some entry) result }
+        ensures refused { IfErr result (λ e. (e ≡ Fault.DiskFault → ⊥) → IsUnmoved self.old self.new disk.old disk.new) }
         ensures lasts { D.lasts disk.old disk.new }
     {
         match self.append(disk, frame, entry) {
@@ -332,9 +330,9 @@ impl JournaledDay {
         requires { MayFollow self.old.desk.terms.day self.old.desk.history entry }
         ensures answer { IfOk result (λ d. d.answer ≡ answer) }
         ensures copy { IfOk result (λ d. d.ask ≡ asked entry) }
-        ensures serves { Serves D.may_leave D.moment D.left_since (on_disk self.old disk.old) (on_disk self.new disk.new) (Some entry) result }
-        ensures ends { EndsAsk (D.faults disk.old) (D.faults disk.new) self.old.desk self.new.desk (Some entry) result }
-        ensures refused { IfErr result (λ e. (e ≡ Fault.DiskFault → ⊥) → on_disk self.new disk.new ≡ on_disk self.old disk.old) }
+        ensures serves { DayServes D.Disk self.old self.new disk.old disk.new (Some entry) result }
+        ensures ends { DayEndsAsk D.Disk self.old self.new disk.old disk.new (Some entry) result }
+        ensures refused { IfErr result (λ e. (e ≡ Fault.DiskFault → ⊥) → IsUnmoved self.old self.new disk.old disk.new) }
         ensures lasts { D.lasts disk.old disk.new }
     {
         match self.make_room(alloc, frame, &entry) {
@@ -356,12 +354,12 @@ impl JournaledDay {
     ) -> Result<Done, DeskFault>
         requires formed { IsWellFormed (length self.old.desk.terms.day.budgets) ask }
         requires undecided { IsUndecided ask }
-        ensures answer { IfOk result (λ d. d.answer ≡ (ask_reply self.old.desk.terms.day self.old.desk.history ask).answer) }
+        ensures answer { IfOk result (λ d. d.answer ≡ (reply_to_ask self.old.desk ask).answer) }
         ensures copy { IfOk result (λ d. d.ask ≡ ask_for self.new.desk.history d.answer) }
-        ensures serves { Serves D.may_leave D.moment D.left_since (on_disk self.old disk.old) (on_disk self.new disk.new) (ask_reply self.old.desk.terms.day self.old.desk.history ask).entry result }
-        ensures ends { EndsAsk (D.faults disk.old) (D.faults disk.new) self.old.desk self.new.desk (ask_reply self.old.desk.terms.day self.old.desk.history ask).entry result }
-        ensures unmoved { (ask_reply self.old.desk.terms.day self.old.desk.history ask).entry ≡ None → on_disk self.new disk.new ≡ on_disk self.old disk.old }
-        ensures refused { IfErr result (λ e. (e ≡ Fault.DiskFault → ⊥) → on_disk self.new disk.new ≡ on_disk self.old disk.old) }
+        ensures serves { DayServes D.Disk self.old self.new disk.old disk.new (reply_to_ask self.old.desk ask).entry result }
+        ensures ends { DayEndsAsk D.Disk self.old self.new disk.old disk.new (reply_to_ask self.old.desk ask).entry result }
+        ensures unmoved { (reply_to_ask self.old.desk ask).entry ≡ None → IsUnmoved self.old self.new disk.old disk.new }
+        ensures refused { IfErr result (λ e. (e ≡ Fault.DiskFault → ⊥) → IsUnmoved self.old self.new disk.old disk.new) }
         ensures size { size_of self.old.desk.journal ≤ longest_size self.old.desk.terms self.old.desk.history }
         ensures lasts { D.lasts disk.old disk.new }
     {
@@ -385,9 +383,9 @@ impl JournaledDay {
     ) -> Result<Answer, DeskFault>
         requires { MayFollow self.old.desk.terms.day self.old.desk.history entry }
         ensures answer { IfOk result (λ a. a ≡ answer) }
-        ensures serves { Serves D.may_leave D.moment D.left_since (on_disk self.old disk.old) (on_disk self.new disk.new) (Some entry) result }
-        ensures ends { EndsAsk (D.faults disk.old) (D.faults disk.new) self.old.desk self.new.desk (Some entry) result }
-        ensures refused { IfErr result (λ e. (e ≡ Fault.DiskFault → ⊥) → on_disk self.new disk.new ≡ on_disk self.old disk.old) }
+        ensures serves { DayServes D.Disk self.old self.new disk.old disk.new (Some entry) result }
+        ensures ends { DayEndsAsk D.Disk self.old self.new disk.old disk.new (Some entry) result }
+        ensures refused { IfErr result (λ e. (e ≡ Fault.DiskFault → ⊥) → IsUnmoved self.old self.new disk.old disk.new) }
         ensures lasts { D.lasts disk.old disk.new }
     {
         match self.take_room(frame, &entry) {
@@ -409,9 +407,9 @@ impl JournaledDay {
         requires payload { frame.now.payload ≡ entry_bytes self.old.desk.journal.format entry }
         requires fits { Fits self.old.desk.journal.format entry }
         ensures answer { IfOk result (λ a. a ≡ answer) }
-        ensures serves { Serves D.may_leave D.moment D.left_since (on_disk self.old disk.old) (on_disk self.new disk.new) (Some entry) result }
-        ensures ends { EndsAsk (D.faults disk.old) (D.faults disk.new) self.old.desk self.new.desk (Some entry) result }
-        ensures refused { IfErr result (λ e. (e ≡ Fault.DiskFault → ⊥) → on_disk self.new disk.new ≡ on_disk self.old disk.old) }
+        ensures serves { DayServes D.Disk self.old self.new disk.old disk.new (Some entry) result }
+        ensures ends { DayEndsAsk D.Disk self.old self.new disk.old disk.new (Some entry) result }
+        ensures refused { IfErr result (λ e. (e ≡ Fault.DiskFault → ⊥) → IsUnmoved self.old self.new disk.old disk.new) }
         ensures lasts { D.lasts disk.old disk.new }
     {
         match self.append(disk, frame, entry) {
@@ -431,11 +429,11 @@ impl JournaledDay {
     ) -> Result<Answer, DeskFault>
         requires change { 1 ≤ change }
         requires budget { IsBudget budget }
-        ensures answer { IfOk result (λ a. a ≡ (budget_reply self.old.desk.terms.day self.old.desk.history (change_of campaign change budget)).answer) }
-        ensures serves { Serves D.may_leave D.moment D.left_since (on_disk self.old disk.old) (on_disk self.new disk.new) (budget_reply self.old.desk.terms.day self.old.desk.history (change_of campaign change budget)).entry result }
-        ensures ends { EndsAsk (D.faults disk.old) (D.faults disk.new) self.old.desk self.new.desk (budget_reply self.old.desk.terms.day self.old.desk.history (change_of campaign change budget)).entry result }
-        ensures unmoved { (budget_reply self.old.desk.terms.day self.old.desk.history (change_of campaign change budget)).entry ≡ None → on_disk self.new disk.new ≡ on_disk self.old disk.old }
-        ensures refused { IfErr result (λ e. (e ≡ Fault.DiskFault → ⊥) → on_disk self.new disk.new ≡ on_disk self.old disk.old) }
+        ensures answer { IfOk result (λ a. a ≡ (reply_to_change self.old.desk (change_of campaign change budget)).answer) }
+        ensures serves { DayServes D.Disk self.old self.new disk.old disk.new (reply_to_change self.old.desk (change_of campaign change budget)).entry result }
+        ensures ends { DayEndsAsk D.Disk self.old self.new disk.old disk.new (reply_to_change self.old.desk (change_of campaign change budget)).entry result }
+        ensures unmoved { (reply_to_change self.old.desk (change_of campaign change budget)).entry ≡ None → IsUnmoved self.old self.new disk.old disk.new }
+        ensures refused { IfErr result (λ e. (e ≡ Fault.DiskFault → ⊥) → IsUnmoved self.old self.new disk.old disk.new) }
         ensures size { size_of self.old.desk.journal ≤ longest_size self.old.desk.terms self.old.desk.history }
         ensures lasts { D.lasts disk.old disk.new }
     {
@@ -454,12 +452,13 @@ impl JournaledDay {
         frame: &Frame,
         batch: &Batch,
     ) -> Result<(), DeskFault>
-        requires payload { frame.now.payload ≡ entries_bytes self.old.desk.journal.format (entries_in_turn self.old.desk.history batch.now.calls) }
+        requires payload { frame.now.payload ≡ batch_bytes self.old.desk batch.now.calls }
         requires fits { All (Fits self.old.desk.journal.format) (entries_in_turn self.old.desk.history batch.now.calls) }
         requires some { 0 < length (entries_in_turn self.old.desk.history batch.now.calls) }
-        ensures serves { ServesAll D.may_leave D.moment D.left_since (on_disk self.old disk.old) (on_disk self.new disk.new) (entries_in_turn self.old.desk.history batch.now.calls) result }
+        ensures serves { DayServesAll D.Disk self.old self.new disk.old disk.new (entries_in_turn self.old.desk.history batch.now.calls) result }
         ensures ends { EndsNotice (D.faults disk.old) (D.faults disk.new) self.old.desk self.new.desk result }
-        ensures grown { OnOk result (size_of self.new.desk.journal ≡ size_of self.old.desk.journal + (length (entries_bytes self.old.desk.journal.format (entries_in_turn self.old.desk.history batch.now.calls)) + 5)) }
+        ensures grown { OnOk result (size_of self.new.desk.journal
+            ≡ size_of self.old.desk.journal + (length (batch_bytes self.old.desk batch.now.calls) + 5)) }
         ensures lasts { D.lasts disk.old disk.new }
     {
         match self.journal.append(disk, frame, 0) {
@@ -487,11 +486,11 @@ impl JournaledDay {
         requires frame { NOTICE_ROOM ≤ frame.old.spare + length frame.old.payload }
         ensures answers { OnOk result (batch.new ≡ record batch.old { answers = Some (answers_in_turn self.old.desk.history batch.old.calls) }) }
         ensures waits { OnErr result (batch.new ≡ batch.old) }
-        ensures serves { ServesAll D.may_leave D.moment D.left_since (on_disk self.old disk.old) (on_disk self.new disk.new) (entries_in_turn self.old.desk.history batch.old.calls) result }
+        ensures serves { DayServesAll D.Disk self.old self.new disk.old disk.new (entries_in_turn self.old.desk.history batch.old.calls) result }
         ensures ends { EndsNotice (D.faults disk.old) (D.faults disk.new) self.old.desk self.new.desk result }
-        ensures unmoved { entries_in_turn self.old.desk.history batch.old.calls ≡ [] → on_disk self.new disk.new ≡ on_disk self.old disk.old }
+        ensures unmoved { entries_in_turn self.old.desk.history batch.old.calls ≡ [] → IsUnmoved self.old self.new disk.old disk.new }
         ensures grown { OnOk result (0 < length (entries_in_turn self.old.desk.history batch.old.calls)
-            → size_of self.new.desk.journal ≡ size_of self.old.desk.journal + (length (entries_bytes self.old.desk.journal.format (entries_in_turn self.old.desk.history batch.old.calls)) + 5)) }
+            → size_of self.new.desk.journal ≡ size_of self.old.desk.journal + (length (batch_bytes self.old.desk batch.old.calls) + 5)) }
         ensures frame { NOTICE_ROOM ≤ frame.new.spare + length frame.new.payload }
         ensures lasts { D.lasts disk.old disk.new }
     {

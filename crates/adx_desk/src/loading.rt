@@ -5,6 +5,7 @@ ghost use Rattle.day_journal.specs.Openings.{OnlyReads, StandsBehind};
 ghost use Rattle.day_journal.specs.Places.{IsClosed, opened};
 ghost use Rattle.day_rules.specs.DayState.{IsDay};
 ghost use Rattle.notice_batches.specs.Held.{longest_record};
+ghost use Rattle.adx_desk.specs.Calls.{terms_of};
 ghost use Rattle.adx_desk.specs.Histories.{longest_size};
 ghost use Rattle.adx_desk.specs.Loading.{HasRead, HasReadAll};
 ghost use Rattle.adx_desk.specs.Openings.{EndsByDisk, RefusesDesk, told_of};
@@ -54,13 +55,14 @@ fn read_records<D: Disk>(
     ensures legal { OnOk result (IsDay day.new.terms day.new.history) }
 
     // Whatever the disk reads: the reader moved by no more bytes than a record for each entry that it added takes.
-    ensures moved { OnOk result (opening.new.window.at + sum_by longest_record day.old.history ≤ opening.old.window.at + sum_by longest_record day.new.history) }
+    ensures moved { OnOk result (opening.new.window.at + sum_by longest_record day.old.history
+        ≤ opening.old.window.at + sum_by longest_record day.new.history) }
 
     ensures read { OnOk result ((digest file : List ℕ) → D.reads disk.old ≡ Some file → HasRead digest file opening.old day.old.history
         → HasReadAll digest file opening.new day.new.history) }
     ensures closed { OnOk result (opening.new.closed ≡ true) }
     ensures refused { IfErr result (λ e. (digest file : List ℕ) → D.reads disk.old ≡ Some file → HasRead digest file opening.old day.old.history
-        → RefusesDesk (record { day = day.old.terms; digest = digest }) file e) }
+        → RefusesDesk (terms_of day.old.terms digest) file e) }
     ensures format { opening.new.format ≡ opening.old.format }
     ensures only_reads { OnlyReads D.reads D.may_leave D.moment D.left_since disk.old disk.new }
     ensures ends { EndsByDisk (D.faults disk.old) (D.faults disk.new) result }

@@ -1,16 +1,15 @@
 //! How the day of a roster is opened on a disk.
 ghost use Rattle.std.specs.Prelude.{◌≡◌, ◌⊎◌, ◌+◌, ◌<◌, ◌≤◌, ℕ, List, [], ◌∷◌, length, true, Some, IfOk, IfErr, OnOk};
-ghost use Rattle.adx_io.specs.Disks.{AsRead, LeavesOnly};
-ghost use Rattle.day_journal.specs.Openings.{StandsBehind};
+ghost use Rattle.adx_io.specs.Disks.{LeavesOnly};
 ghost use Rattle.day_journal.specs.Places.{StandsFor, opened};
 ghost use Rattle.day_journal.specs.Tails.{Keeps, size_of};
 ghost use Rattle.day_rules.specs.DayState.{IsDay};
 ghost use Rattle.day_rules.specs.declared.entry.Entry.{Entry};
+ghost use Rattle.adx_desk.specs.Calls.{DeskGivesUp, DeskOpens, LeavesSame, OfFile, OfWholeFile, terms_of};
 ghost use Rattle.adx_desk.specs.Desks.{DeskKeeps};
-ghost use Rattle.adx_desk.specs.Histories.{IsHistoryOf, SameHistories, longest_size};
+ghost use Rattle.adx_desk.specs.Histories.{IsHistoryOf, longest_size};
 ghost use Rattle.adx_desk.specs.Loading.{HasOpened};
 ghost use Rattle.adx_desk.specs.Openings.{EndsByDisk, IsRefusal, RefusesDesk};
-ghost use Rattle.adx_desk.specs.Opened.{GivesUp, Opens};
 
 use crate::fault::DeskFault;
 use crate::journaled_day::JournaledDay;
@@ -25,13 +24,13 @@ fn begin<D: Disk>(disk: &mut D, opening: Opening, first: &Frame) -> Result<Journ
     requires closed { opening.closed ≡ true }
     requires some { 0 < length first.now.payload }
     requires start { opening.window.at ≡ length (opened opening.format []) }
-    ensures kept { IfOk result (λ journal. (file : List ℕ) → D.reads disk.old ≡ Some file → StandsBehind file opening [] → AsRead (D.reads disk.old) (D.may_leave disk.old)
-        → (tail : List ℕ) → Keeps (D.may_leave disk.new) journal (first.now.payload ∷ []) tail) }
-    ensures any_moment { (file : List ℕ) → D.reads disk.old ≡ Some file → StandsBehind file opening [] → AsRead (D.reads disk.old) (D.may_leave disk.old)
-        → LeavesOnly D.moment D.left_since disk.old disk.new (λ c. StandsFor opening.format c [] ⊎ StandsFor opening.format c (first.now.payload ∷ [])) }
+    ensures kept { IfOk result (λ journal. OfWholeFile D.Disk disk.old opening
+        (λ file. (tail : List ℕ) → Keeps (D.may_leave disk.new) journal (first.now.payload ∷ []) tail)) }
+    ensures any_moment { OfWholeFile D.Disk disk.old opening
+        (λ file. LeavesOnly D.moment D.left_since disk.old disk.new (λ c. StandsFor opening.format c [] ⊎ StandsFor opening.format c (first.now.payload ∷ []))) }
     ensures size { IfOk result (λ journal. size_of journal ≡ length (opened opening.format (first.now.payload ∷ [])) + 1) }
     ensures format { IfOk result (λ journal. journal.format ≡ opening.format) }
-    ensures refused { IfErr result (λ e. (file : List ℕ) → D.reads disk.old ≡ Some file → StandsBehind file opening [] → length first.now.payload ≤ 32 → IsRefusal e → ⊥) }
+    ensures refused { IfErr result (λ e. OfFile D.Disk disk.old opening (λ file. length first.now.payload ≤ 32 → IsRefusal e → ⊥)) }
     ensures ends { EndsByDisk (D.faults disk.old) (D.faults disk.new) result }
     ensures lasts { D.lasts disk.old disk.new }
 {
@@ -57,14 +56,14 @@ fn journal_of<D: Disk>(
     requires start { opening.window.at ≡ length (opened opening.format []) }
     ensures terms { day.new.terms ≡ day.old.terms }
     ensures legal { OnOk result (IsDay day.new.terms day.new.history) }
-    ensures opened { IfOk result (λ journal. (file : List ℕ) → D.reads disk.old ≡ Some file → StandsBehind file opening [] → AsRead (D.reads disk.old) (D.may_leave disk.old)
-        → HasOpened digest.now file (D.reads disk.new) (D.may_leave disk.new) journal day.new.history) }
-    ensures any_moment { (file : List ℕ) → D.reads disk.old ≡ Some file → StandsBehind file opening [] → AsRead (D.reads disk.old) (D.may_leave disk.old)
-        → LeavesOnly D.moment D.left_since disk.old disk.new (SameHistories (record { day = day.old.terms; digest = digest.now }) file) }
-    ensures size { IfOk result (λ journal. size_of journal ≤ longest_size (record { day = day.new.terms; digest = digest.now }) day.new.history) }
-    ensures refused { IfErr result (λ e. (file : List ℕ) → D.reads disk.old ≡ Some file → StandsBehind file opening []
-        → RefusesDesk (record { day = day.old.terms; digest = digest.now }) file e) }
-    ensures untouched { IfErr result (λ e. (file : List ℕ) → D.reads disk.old ≡ Some file → StandsBehind file opening [] → IsRefusal e → D.reads disk.new ≡ Some file) }
+    ensures opened { IfOk result (λ journal. OfWholeFile D.Disk disk.old opening
+        (λ file. HasOpened digest.now file (D.reads disk.new) (D.may_leave disk.new) journal day.new.history)) }
+    ensures any_moment { OfWholeFile D.Disk disk.old opening
+        (λ file. LeavesSame D.Disk (terms_of day.old.terms digest.now) disk.old disk.new file) }
+    ensures size { IfOk result (λ journal. size_of journal ≤ longest_size (terms_of day.new.terms digest.now) day.new.history) }
+    ensures refused { IfErr result (λ e. OfFile D.Disk disk.old opening
+        (λ file. RefusesDesk (terms_of day.old.terms digest.now) file e)) }
+    ensures untouched { IfErr result (λ e. OfFile D.Disk disk.old opening (λ file. IsRefusal e → D.reads disk.new ≡ Some file)) }
     ensures ends { EndsByDisk (D.faults disk.old) (D.faults disk.new) result }
     ensures lasts { D.lasts disk.old disk.new }
 {
@@ -92,18 +91,17 @@ fn day_behind<D: Disk>(
     requires empty { day.history ≡ [] }
     requires first { first.now.payload ≡ digest.now }
     requires start { opening.window.at ≡ length (opened opening.format []) }
-    ensures terms { IfOk result (λ d. d.desk.terms ≡ record { day = day.terms; digest = digest.now }) }
+    ensures terms { IfOk result (λ d. d.desk.terms ≡ terms_of day.terms digest.now) }
     ensures faults { IfOk result (λ d. d.desk.faults ≡ 0) }
-    ensures history { IfOk result (λ d. (file : List ℕ) → D.reads disk.old ≡ Some file → StandsBehind file opening [] → AsRead (D.reads disk.old) (D.may_leave disk.old)
-        → IsHistoryOf (record { day = day.terms; digest = digest.now }) file d.desk.history) }
-    ensures keeps { IfOk result (λ d. (file : List ℕ) → D.reads disk.old ≡ Some file → StandsBehind file opening [] → AsRead (D.reads disk.old) (D.may_leave disk.old)
-        → (tail : List Entry) → DeskKeeps (D.may_leave disk.new) d.desk tail) }
-    ensures any_moment { (file : List ℕ) → D.reads disk.old ≡ Some file → StandsBehind file opening [] → AsRead (D.reads disk.old) (D.may_leave disk.old)
-        → LeavesOnly D.moment D.left_since disk.old disk.new (SameHistories (record { day = day.terms; digest = digest.now }) file) }
-    ensures refused { IfErr result (λ e. (file : List ℕ) → D.reads disk.old ≡ Some file → StandsBehind file opening [] → AsRead (D.reads disk.old) (D.may_leave disk.old)
-        → RefusesDesk (record { day = day.terms; digest = digest.now }) file e) }
-    ensures untouched { IfErr result (λ e. (file : List ℕ) → D.reads disk.old ≡ Some file → StandsBehind file opening [] → AsRead (D.reads disk.old) (D.may_leave disk.old)
-        → IsRefusal e → D.reads disk.new ≡ Some file) }
+    ensures history { IfOk result (λ d. OfWholeFile D.Disk disk.old opening
+        (λ file. IsHistoryOf (terms_of day.terms digest.now) file d.desk.history)) }
+    ensures keeps { IfOk result (λ d. OfWholeFile D.Disk disk.old opening
+        (λ file. (tail : List Entry) → DeskKeeps (D.may_leave disk.new) d.desk tail)) }
+    ensures any_moment { OfWholeFile D.Disk disk.old opening
+        (λ file. LeavesSame D.Disk (terms_of day.terms digest.now) disk.old disk.new file) }
+    ensures refused { IfErr result (λ e. OfWholeFile D.Disk disk.old opening
+        (λ file. RefusesDesk (terms_of day.terms digest.now) file e)) }
+    ensures untouched { IfErr result (λ e. OfWholeFile D.Disk disk.old opening (λ file. IsRefusal e → D.reads disk.new ≡ Some file)) }
     ensures ends { EndsByDisk (D.faults disk.old) (D.faults disk.new) result }
     ensures lasts { D.lasts disk.old disk.new }
 {
@@ -129,8 +127,8 @@ pub(crate) fn open_on<D: Disk>(
     requires legal { IsDay day.terms day.history }
     requires empty { day.history ≡ [] }
     requires first { first.now.payload ≡ digest.now }
-    ensures opens { IfOk result (λ d. Opens D.reads D.may_leave D.moment D.left_since (record { day = day.terms; digest = digest.now }) disk.old disk.new d.desk) }
-    ensures gives_up { IfErr result (GivesUp D.reads D.may_leave D.moment D.left_since (record { day = day.terms; digest = digest.now }) disk.old disk.new) }
+    ensures opens { IfOk result (λ d. DeskOpens D.Disk (terms_of day.terms digest.now) disk.old disk.new d.desk) }
+    ensures gives_up { IfErr result (DeskGivesUp D.Disk (terms_of day.terms digest.now) disk.old disk.new) }
     ensures ends { EndsByDisk (D.faults disk.old) (D.faults disk.new) result }
     ensures lasts { D.lasts disk.old disk.new }
 {

@@ -1,7 +1,7 @@
 //! What a desk has beside its disk, made of a roster and of what the disk reads.
 ghost use Rattle.std.specs.Prelude.{◌≡◌, ◌≤◌, ◌+◌, [], length, IfOk, IfErr};
 ghost use Rattle.day_rules.specs.DayState.{IsDay};
-ghost use Rattle.adx_desk.specs.Opened.{GivesUp, Opens};
+ghost use Rattle.adx_desk.specs.Calls.{DeskGivesUp, DeskOpens};
 ghost use Rattle.adx_desk.specs.Openings.{EndsByDisk};
 ghost use Rattle.adx_desk.specs.Rosters.{desk_terms};
 ghost use Rattle.notice_batches.specs.declared.held.TheConstants.{NOTICE_ROOM as notice_room};
@@ -47,9 +47,9 @@ pub(crate) fn parts_of<D: Disk>(
     disk: &mut D,
     roster: &Roster,
 ) -> Result<Parts, DeskFault>
-    ensures opens { IfOk result (λ p. Opens D.reads D.may_leave D.moment D.left_since (desk_terms roster.entry.now) disk.old disk.new p.kept.desk) }
+    ensures opens { IfOk result (λ p. DeskOpens D.Disk (desk_terms roster.entry.now) disk.old disk.new p.kept.desk) }
     ensures room { IfOk result (λ p. notice_room ≤ p.notices.spare + length p.notices.payload) }
-    ensures gives_up { IfErr result (GivesUp D.reads D.may_leave D.moment D.left_since (desk_terms roster.entry.now) disk.old disk.new) }
+    ensures gives_up { IfErr result (DeskGivesUp D.Disk (desk_terms roster.entry.now) disk.old disk.new) }
     ensures ends { EndsByDisk (D.faults disk.old) (D.faults disk.new) result }
     ensures lasts { D.lasts disk.old disk.new }
 {

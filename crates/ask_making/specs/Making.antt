@@ -58,14 +58,19 @@ kept_of (place, x) = record {
   body = x.bid.body;
 }
 
--- the ask of a request at a moment, before a day settles it
-abbrev pub ask_of : BidRequest → List Campaign → List (Option BidAnswer) → ℕ → Ask
-ask_of r campaigns answers now = record {
+-- the ask of a request at a moment with these offers and texts; its place in the day isn't known yet
+abbrev pub ask_by_parts : BidRequest → ℕ → List Offer → List Kept → Ask
+ask_by_parts r now offers kept = record {
   auction = r.id;
   digest = r.digest;
   now = now;
   first = 0;
   imps = map (λ i. i.id) r.imps;
-  offers = map (offer_of r campaigns) (all_bids answers);
-  kept = map kept_of (enumerate_from 0 (all_bids answers));
+  offers = offers;
+  kept = kept;
 }
+
+-- the ask of a request at a moment, before a day settles it
+abbrev pub ask_of : BidRequest → List Campaign → List (Option BidAnswer) → ℕ → Ask
+ask_of r campaigns answers now =
+    ask_by_parts r now (map (offer_of r campaigns) (all_bids answers)) (map kept_of (enumerate_from 0 (all_bids answers)))

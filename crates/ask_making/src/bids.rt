@@ -1,10 +1,9 @@
 //! The bids that were taken so far: each as an offer, and with its texts.
-ghost use Rattle.std.specs.Prelude.{◌≡◌, ◌<◌, ◌≤◌, ◌+◌, ◌^◌, ◌++◌, ◌∷◌, [], ℕ, List, length, option_map, OnOk, IfOk};
-ghost use Rattle.std.specs.List.{flat_map};
+ghost use Rattle.std.specs.Prelude.{◌≡◌, ◌<◌, ◌≤◌, ◌+◌, ◌^◌, ◌∷◌, [], ℕ, length, option_map, OnOk, IfOk};
 ghost use Rattle.rtb_response.specs.declared.bid_answer.SeatBid.{SeatBid as Seat};
-ghost use Rattle.ask_making.specs.Making.{SeatedBid, seated, bids_of_seat, bids_of, offer_of as offer_by_rules, kept_of};
+ghost use Rattle.ask_making.specs.Making.{seated, bids_of_seat, bids_of, offer_of as offer_by_rules, kept_of};
 ghost use Rattle.rtb_response.specs.declared.bid.TheConstants.{MOST_BIDS};
-ghost use Rattle.ask_making.specs.Parts.{AreOf, FitsDay};
+ghost use Rattle.ask_making.specs.Parts.{FitsDay, HasTaken, bids_of_seats};
 
 use adx_units::{Offer, OutOfMemory, Text};
 use day_rules::Kept;
@@ -48,8 +47,8 @@ impl Bids {
     ) -> Result<(), OutOfMemory>
         requires few { length self.old.offers.items + MOST_BIDS < 2 ^ 32 }
         ensures few { OnOk result (length self.new.offers.items ≤ length self.old.offers.items + MOST_BIDS) }
-        ensures taken { OnOk result ((bids : List SeatedBid) → AreOf sale.entry.request.now sale.entry.roster.now.campaigns bids self.old.offers.items self.old.kept.items
-            → AreOf sale.entry.request.now sale.entry.roster.now.campaigns (bids ++ bids_of (bidder, option_map (λ x. x.now) answer.entry)) self.new.offers.items self.new.kept.items) }
+        ensures taken { OnOk result (HasTaken sale.entry.request.now sale.entry.roster.now.campaigns self.old self.new
+            (bids_of (bidder, option_map (λ x. x.now) answer.entry))) }
     {
         match answer {
             Some(answer) => {
@@ -68,10 +67,10 @@ impl Bids {
         bidder: u32,
         answer: &BidAnswer,
     ) -> Result<(), OutOfMemory>
-        requires few { length self.old.offers.items + length (flat_map (bids_of_seat bidder answer.now.bidid) answer.now.seats) < 2 ^ 32 }
-        ensures counted { OnOk result (length self.new.offers.items ≡ length self.old.offers.items + length (flat_map (bids_of_seat bidder answer.now.bidid) answer.now.seats)) }
-        ensures taken { OnOk result ((bids : List SeatedBid) → AreOf sale.entry.request.now sale.entry.roster.now.campaigns bids self.old.offers.items self.old.kept.items
-            → AreOf sale.entry.request.now sale.entry.roster.now.campaigns (bids ++ flat_map (bids_of_seat bidder answer.now.bidid) answer.now.seats) self.new.offers.items self.new.kept.items) }
+        requires few { length self.old.offers.items + length (bids_of_seats bidder answer.now) < 2 ^ 32 }
+        ensures counted { OnOk result (length self.new.offers.items ≡ length self.old.offers.items + length (bids_of_seats bidder answer.now)) }
+        ensures taken { OnOk result (HasTaken sale.entry.request.now sale.entry.roster.now.campaigns self.old self.new
+            (bids_of_seats bidder answer.now)) }
     {
         for seat in answer.seats.as_slice() {
             self.take_seat(alloc, sale, bidder, &answer.bidid, seat)?;
@@ -90,8 +89,8 @@ impl Bids {
     ) -> Result<(), OutOfMemory>
         requires few { length self.old.offers.items + length seat.now.bids < 2 ^ 32 }
         ensures counted { OnOk result (length self.new.offers.items ≡ length self.old.offers.items + length seat.now.bids) }
-        ensures taken { OnOk result ((bids : List SeatedBid) → AreOf sale.entry.request.now sale.entry.roster.now.campaigns bids self.old.offers.items self.old.kept.items
-            → AreOf sale.entry.request.now sale.entry.roster.now.campaigns (bids ++ bids_of_seat bidder bidid.now seat.now) self.new.offers.items self.new.kept.items) }
+        ensures taken { OnOk result (HasTaken sale.entry.request.now sale.entry.roster.now.campaigns self.old self.new
+            (bids_of_seat bidder bidid.now seat.now)) }
     {
         for bid in seat.bids.as_slice() {
             self.take_bid(alloc, sale, bidder, bidid, seat, bid)?;
@@ -111,8 +110,8 @@ impl Bids {
     ) -> Result<(), OutOfMemory>
         requires few { length self.old.offers.items < 2 ^ 32 }
         ensures counted { OnOk result (length self.new.offers.items ≡ length self.old.offers.items + 1) }
-        ensures taken { OnOk result ((bids : List SeatedBid) → AreOf sale.entry.request.now sale.entry.roster.now.campaigns bids self.old.offers.items self.old.kept.items
-            → AreOf sale.entry.request.now sale.entry.roster.now.campaigns (bids ++ seated bidder bidid.now seat.now bid.now ∷ []) self.new.offers.items self.new.kept.items) }
+        ensures taken { OnOk result (HasTaken sale.entry.request.now sale.entry.roster.now.campaigns self.old self.new
+            (seated bidder bidid.now seat.now bid.now ∷ [])) }
     {
         let place = self.offers.as_slice().len();
         self.kept

@@ -1,7 +1,7 @@
 //! The ask of a request and its answers.
 ghost use Rattle.std.specs.Prelude.{◌≡◌, ◌≤◌, ◌<◌, ◌^◌, length, map, option_map, IfOk};
 ghost use Rattle.day_rules.specs.Asks.{IsWellFormed, IsUndecided};
-ghost use Rattle.ask_making.specs.Making.{ask_of};
+ghost use Rattle.ask_making.specs.Making.{ask_by_parts, ask_of};
 
 use crate::bids::{Bids, Sale};
 use adx_units::{Id, OutOfMemory, Sequence};
@@ -59,7 +59,7 @@ pub fn make_ask_lent(
 
 /// The ask of a request with these bids.
 fn ask_with(alloc: Global, request: &BidRequest, bids: Bids, now: u64) -> Result<Ask, OutOfMemory>
-    ensures { IfOk result (λ a. a ≡ record { auction = request.now.id; digest = request.now.digest; now = now; first = 0; imps = map (λ i. i.id) request.now.imps; offers = bids.offers.items; kept = bids.kept.items }) }
+    ensures { IfOk result (λ a. a ≡ ask_by_parts request.now now bids.offers.items bids.kept.items) }
 {
     Ok(Ask {
         auction: request.id.copy(alloc)?,

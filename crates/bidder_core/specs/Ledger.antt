@@ -8,6 +8,7 @@ use Rattle.notice_book.specs.Rules.{ruling}
 use Rattle.notice_book.specs.declared.award.End.{End}
 use Rattle.notice_book.specs.declared.kind.NoticeKind.{NoticeKind}
 use Rattle.notice_book.specs.declared.ruling.Ruling.{Ruling}
+use Rattle.adx_units.specs.declared.units.Units.{Units}
 use Rattle.bidder_core.specs.BidIds.{is_made, price_in}
 use Rattle.bidder_core.specs.declared.ledger.LedgerRow.{LedgerRow}
 use Rattle.bidder_core.specs.declared.ruling.BidderRuling.{BidderRuling}
@@ -54,6 +55,10 @@ known_ruling (Ruling.Conflict e) = BidderRuling.Conflict e
 abbrev pub bidder_ruling : ℕ → NoticeKind → List ℕ → List ℕ → List LedgerRow → BidderRuling
 bidder_ruling prices kind auction bid rows =
     if is_made prices bid then known_ruling (ruling_in kind auction bid rows) else BidderRuling.Unknown
+
+-- the row of a notice of an auction's bid
+abbrev pub row_of : (auction bid : List ℕ) → NoticeKind → Units → LedgerRow
+row_of auction bid kind price = record { auction = auction; bid = bid; kind = kind; price = price }
 
 -- the ledger after a notice: one that counts is added at its end, and any other changes nothing
 abbrev pub rows_after : BidderRuling → LedgerRow → List LedgerRow → List LedgerRow

@@ -52,7 +52,8 @@ fn push_bids(
     imp: &Imp,
 ) -> Result<(), OutOfMemory>
     requires few { length bids.old.items ≤ MOST_BIDS }
-    ensures { OnOk result (trees_of bids.new.items ≡ take MOST_BIDS (trees_of bids.old.items ++ imp_bids line.now (imp_place, imp.now))) }
+    ensures { OnOk result (trees_of bids.new.items
+        ≡ take MOST_BIDS (trees_of bids.old.items ++ imp_bids line.now (imp_place, imp.now))) }
 {
     let prices = line.prices.as_slice();
     for (place, price) in prices.iter().enumerate() {
@@ -72,7 +73,8 @@ fn push_offered(
     price: &Price,
 ) -> Result<(), OutOfMemory>
     requires few { length bids.old.items ≤ MOST_BIDS }
-    ensures { OnOk result (trees_of bids.new.items ≡ take MOST_BIDS (trees_of bids.old.items ++ offered line.now imp_place imp.now (price_place, price.now))) }
+    ensures { OnOk result (trees_of bids.new.items
+        ≡ take MOST_BIDS (trees_of bids.old.items ++ offered line.now imp_place imp.now (price_place, price.now))) }
 {
     if price.price.0 < imp.floor.0 {
         return Ok(());
@@ -92,7 +94,8 @@ fn push_bid(
     price: &Price,
 ) -> Result<(), OutOfMemory>
     requires few { length bids.old.items ≤ MOST_BIDS }
-    ensures { OnOk result (trees_of bids.new.items ≡ take MOST_BIDS (trees_of bids.old.items ++ bid_tree_of line.now imp_place imp.now price_place price.now ∷ [])) }
+    ensures { OnOk result (trees_of bids.new.items
+        ≡ take MOST_BIDS (trees_of bids.old.items ++ bid_tree_of line.now imp_place imp.now price_place price.now ∷ [])) }
 {
     if bids.len() == MOST_BIDS {
         return Ok(());

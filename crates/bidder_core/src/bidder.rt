@@ -5,7 +5,7 @@ ghost use Rattle.tree_view.specs.Checks.{Gives};
 ghost use Rattle.deal_floor.specs.Faults.{lacks_memory};
 ghost use Rattle.bidder_core.specs.Answers.{answer_for, answer_to};
 ghost use Rattle.bidder_core.specs.BidIds.{is_made};
-ghost use Rattle.bidder_core.specs.Ledger.{AreOnce, bidder_ruling, bill_count as bill_count_of, billed_in, rows_after};
+ghost use Rattle.bidder_core.specs.Ledger.{AreOnce, bidder_ruling, bill_count as bill_count_of, billed_in, row_of, rows_after};
 ghost use Rattle.bidder_core.specs.PriceLines.{price_line_in};
 ghost use Rattle.bidder_core.specs.Seen.{seen_line};
 
@@ -87,7 +87,7 @@ impl Bidder {
         price: Units,
     ) -> Result<BidderRuling, OutOfMemory>
         ensures ruling { IfOk result (λ r. r ≡ bidder_ruling (length self.old.line.prices) kind auction.now bid.now self.old.rows) }
-        ensures rows { IfOk result (λ r. self.new.rows ≡ rows_after r (record { auction = auction.now; bid = bid.now; kind = kind; price = price }) self.old.rows) }
+        ensures rows { IfOk result (λ r. self.new.rows ≡ rows_after r (row_of auction.now bid.now kind price) self.old.rows) }
         ensures kept { OnErr result (self.new.rows ≡ self.old.rows) }
         ensures line { self.new.line ≡ self.old.line }
     {

@@ -1,7 +1,7 @@
 //! The ledger of a bidder: which notices were counted.
 ghost use Rattle.std.specs.Prelude.{◌≡◌, ◌≤◌, ◌<◌, ◌++◌, ◌∷◌, [], All, IfOk, OnErr, OnOk, length, string_bytes, true};
 ghost use Rattle.bidder_core.specs.BidIds.{is_made, price_in};
-ghost use Rattle.bidder_core.specs.Ledger.{AreOnce, bill_count as bill_count_of, billed_in, known_ruling as known_ruling_by, rows_after, ruling_in};
+ghost use Rattle.bidder_core.specs.Ledger.{AreOnce, bill_count as bill_count_of, billed_in, known_ruling as known_ruling_by, row_of, rows_after, ruling_in};
 ghost use Rattle.bidder_core.specs.LedgerState.{key_of as key_by, noticed_at as noticed_by_key, noticed_in};
 ghost use Rattle.notice_book.specs.declared.ruling.Ruling.TheVariants.{Counted};
 
@@ -131,7 +131,7 @@ impl Ledger {
         requires place { place ≡ price_in bid.now }
         requires below { place < self.old.prices }
         ensures ruling { IfOk result (λ r. r ≡ ruling_in kind auction.now bid.now self.old.rows) }
-        ensures rows { IfOk result (λ r. self.new.rows ≡ rows_after (known_ruling_by r) (record { auction = auction.now; bid = bid.now; kind = kind; price = price }) self.old.rows) }
+        ensures rows { IfOk result (λ r. self.new.rows ≡ rows_after (known_ruling_by r) (row_of auction.now bid.now kind price) self.old.rows) }
         ensures kept { OnErr result (self.new.rows ≡ self.old.rows) }
         ensures prices { self.new.prices ≡ self.old.prices }
     {

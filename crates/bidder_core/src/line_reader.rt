@@ -1,17 +1,17 @@
 //! The view of a price line, or its first fault.
-ghost use Rattle.std.specs.Prelude.{◌≡◌, ◌≤◌, ◌<◌, ◌+◌, ◌++◌, ◌∷◌, [], map, length, option_map, true, false, is_ok, IfOk, IfSome, IfNone, OnOk, Ok};
+ghost use Rattle.std.specs.Prelude.{◌≡◌, ◌≤◌, ◌<◌, ◌+◌, ◌++◌, ◌∷◌, [], map, length, true, false, is_ok, IfOk, IfSome, IfNone, OnOk, Ok};
 ghost use Rattle.std.specs.List.{list_any};
 ghost use Rattle.adx_json.specs.View.{tree_of, trees_of};
 ghost use Rattle.adx_units.specs.declared.price.TheConstants.{PRICE_LIMIT};
-ghost use Rattle.tree_view.specs.Checks.{Gives, judged};
-ghost use Rattle.tree_view.specs.Values.{items_in as items_by};
+ghost use Rattle.tree_view.specs.Checks.{Gives};
 ghost use Rattle.rtb_request.specs.Distinct.{all_distinct};
 ghost use Rattle.deal_floor.specs.Faults.{lacks_memory};
+ghost use Rattle.deal_floor.specs.Reading.{given};
 ghost use Rattle.deal_floor.specs.Forms.{text_or as text_or_by};
 ghost use Rattle.deal_floor.specs.declared.fault.RosterFault.TheVariants.{Repeated};
 ghost use Rattle.bidder_core.specs.Forms.{is_plain_base, is_url_mark as is_url_mark_by};
-ghost use Rattle.bidder_core.specs.PriceLines.{is_base_if_given as is_base_by, price_checks, price_line_in, price_list_checks, price_told, price_view, prices_checks, usual_base};
-ghost use Rattle.bidder_core.specs.Seen.{price_has_cid, seen_line, seen_price};
+ghost use Rattle.bidder_core.specs.PriceLines.{is_base_if_given as is_base_by, price_line_in, price_told, usual_base};
+ghost use Rattle.bidder_core.specs.Seen.{price_has_cid, seen_line, seen_price, campaigns_of, price_added, price_list_found, prices_found};
 ghost use Rattle.bidder_core.specs.declared.price_line.TheConstants.{MOST_PRICES};
 
 use crate::line_members::{members_of_line, members_of_price};
@@ -65,7 +65,7 @@ fn is_plain(text: &[u8]) -> bool
 
 /// Whether a value is absent or a text without a query or a fragment.
 fn is_base_if_given(value: Option<&Json>) -> bool
-    ensures { result ≡ is_base_by (option_map (λ t. tree_of t.now) value.entry) }
+    ensures { result ≡ is_base_by (given value.entry) }
 {
     match text_in(value) {
         Some(base) => is_plain(base.as_bytes()),
@@ -75,8 +75,8 @@ fn is_base_if_given(value: Option<&Json>) -> bool
 
 /// A copy of the base that a value is, or of the usual one.
 fn base_of(alloc: Global, value: Option<&Json>) -> Result<Text, OutOfMemory>
-    requires { is_base_by (option_map (λ t. tree_of t.now) value) ≡ true }
-    ensures value { IfOk result (λ t. t ≡ text_or_by usual_base (option_map (λ t. tree_of t.now) value.entry)) }
+    requires { is_base_by (given value) ≡ true }
+    ensures value { IfOk result (λ t. t ≡ text_or_by usual_base (given value.entry)) }
     ensures plain { IfOk result (λ t. is_plain_base t ≡ true) }
 {
     let base = text_or(alloc, value, "http://127.0.0.1")?;
@@ -85,8 +85,8 @@ fn base_of(alloc: Global, value: Option<&Json>) -> Result<Text, OutOfMemory>
 
 /// The prices that a value is, or the first fault of the list.
 fn prices_in(alloc: Global, value: Option<&Json>) -> Result<Sequence<Price>, RosterFault>
-    ensures gives { Gives lacks_memory (λ ps. map seen_price ps) result (judged (price_list_checks (option_map (λ t. tree_of t.now) value.entry)) (map price_view (items_by (option_map (λ t. tree_of t.now) value.entry)))) }
-    ensures distinct { IfOk result (λ ps. all_distinct (map (λ p. p.cid) ps) ≡ true) }
+    ensures gives { Gives lacks_memory (λ ps. map seen_price ps) result (price_list_found (given value.entry)) }
+    ensures distinct { IfOk result (λ ps. all_distinct (campaigns_of ps) ≡ true) }
     ensures some { IfOk result (λ ps. 1 ≤ length ps) }
     ensures few { IfOk result (λ ps. length ps ≤ MOST_PRICES) }
 {
@@ -108,8 +108,8 @@ fn prices_in(alloc: Global, value: Option<&Json>) -> Result<Sequence<Price>, Ros
 /// The prices of a list, or the first fault of any of them.
 fn prices_of(alloc: Global, trees: &[Json]) -> Result<Vec<Price>, RosterFault>
     requires few { length trees.now ≤ MOST_PRICES }
-    ensures gives { Gives lacks_memory (λ ps. map seen_price ps.items) result (judged (prices_checks [] (trees_of trees.now)) (map price_view (trees_of trees.now))) }
-    ensures distinct { IfOk result (λ ps. all_distinct (map (λ p. p.cid) ps.items) ≡ true) }
+    ensures gives { Gives lacks_memory (λ ps. map seen_price ps.items) result (prices_found (trees_of trees.now)) }
+    ensures distinct { IfOk result (λ ps. all_distinct (campaigns_of ps.items) ≡ true) }
     ensures count { IfOk result (λ ps. length ps.items ≡ length trees.now) }
 {
     let mut prices = Vec::new(alloc);
@@ -125,8 +125,8 @@ fn prices_of(alloc: Global, trees: &[Json]) -> Result<Vec<Price>, RosterFault>
 #[tactic(auto, using(crate::proofs::PriceSteps::among_prices, crate::proofs::PriceSteps::pushed_seen, crate::proofs::PriceSteps::pushed_distinct))]
 fn add_price(alloc: Global, prices: &mut Vec<Price>, tree: &Json) -> Result<(), RosterFault>
     requires room { length prices.old.items < MOST_PRICES }
-    ensures gives { Gives lacks_memory (λ _. map seen_price prices.new.items) result (judged (price_checks (map (λ p. p.cid) prices.old.items) (tree_of tree.now)) (map seen_price prices.old.items ++ price_view (tree_of tree.now) ∷ [])) }
-    ensures distinct { all_distinct (map (λ p. p.cid) prices.old.items) ≡ true → OnOk result (all_distinct (map (λ p. p.cid) prices.new.items) ≡ true) }
+    ensures gives { Gives lacks_memory (λ _. map seen_price prices.new.items) result (price_added prices.old.items (tree_of tree.now)) }
+    ensures distinct { all_distinct (campaigns_of prices.old.items) ≡ true → OnOk result (all_distinct (campaigns_of prices.new.items) ≡ true) }
     ensures count { OnOk result (length prices.new.items ≡ length prices.old.items + 1) }
 {
     let found = members_of_price(tree);
@@ -149,8 +149,8 @@ fn add_price(alloc: Global, prices: &mut Vec<Price>, tree: &Json) -> Result<(), 
 
 /// The price that a value is. None exactly where it is none.
 fn price_in(value: Option<&Json>) -> Option<Units>
-    ensures some { IfSome result (λ u. price_told (option_map (λ t. tree_of t.now) value.entry) ≡ Ok u) }
-    ensures none { IfNone result (is_ok (price_told (option_map (λ t. tree_of t.now) value.entry)) ≡ false) }
+    ensures some { IfSome result (λ u. price_told (given value.entry) ≡ Ok u) }
+    ensures none { IfNone result (is_ok (price_told (given value.entry)) ≡ false) }
     ensures in_range { IfSome result (λ u. (1 ≤ u.0) × (u.0 ≤ PRICE_LIMIT)) }
 {
     match price_of(number_in(value)?.as_bytes()) {
@@ -172,7 +172,7 @@ fn is_among(prices: &[Price], cid: &Id) -> bool
 #[tactic(auto, using(crate::proofs::PriceSteps::cids_length))]
 fn repeated(prices: &[Price]) -> RosterFault
     requires few { length prices.now < MOST_PRICES }
-    ensures { result ≡ Repeated (length (map (λ p. p.cid) prices.now)) }
+    ensures { result ≡ Repeated (length (campaigns_of prices.now)) }
 {
     RosterFault::Repeated {
         index: prices.len() as u32,

@@ -1,11 +1,10 @@
 //! A command, run over a source and a sink.
-ghost use Rattle.std.specs.Prelude.{◌≡◌, ◌≤◌, [], length};
-ghost use Rattle.adx_io.specs.Streams.{WhereTold};
+ghost use Rattle.std.specs.Prelude.{◌≡◌, ◌≤◌, []};
 ghost use Rattle.adx_io.specs.Talk.{HasCauses};
 ghost use Rattle.adx_io.specs.TalkState.{place_of, state_of};
-ghost use Rattle.command_runs.specs.Meanings.{Wrote};
 ghost use Rattle.command_runs.specs.declared.limits.TheConstants.{INPUT_LIMIT as input_limit};
 ghost use Rattle.command_runs.specs.Runs.{Runs};
+ghost use Rattle.command_runs.specs.Talks.{TalkWrote};
 
 use crate::limits::INPUT_LIMIT;
 use crate::outcome::Outcome;
@@ -42,7 +41,7 @@ pub trait Command {
         requires unwritten { (state_of talk.old).out ≡ [] }
         requires untaken { talk.old.buffer.now.pending ≡ [] }
         requires whole { (state_of talk.old).allowed ≡ input_limit }
-        ensures ran { (c : course) × leaves self.old self.new c result × WhereTold (state_of talk.old).tape (S.tape talk.new.source.now) (λ before now. Wrote (meaning c) before.left now.left (K.held talk.old.sink.now) (K.held talk.new.sink.now) result) }
+        ensures ran { (c : course) × leaves self.old self.new c result × TalkWrote (meaning c) talk.old talk.new result }
         ensures causes { HasCauses (state_of talk.old) (state_of talk.new) result }
         ensures same { place_of talk.new ≡ place_of talk.old }
         ensures stays { place self.new ≡ place self.old };
@@ -61,7 +60,8 @@ pub fn run_command<C: Command, S: Source, K: Sink>(
     source: &mut S,
     sink: &mut K,
 ) -> Result<Outcome, Stop>
-    ensures runs { (c : C.course) × C.leaves command.old command.new c result × Runs S.Source K.Sink (C.meaning c) source.old source.new sink.old sink.new result }
+    ensures runs { (c : C.course) × C.leaves command.old command.new c result
+        × Runs S.Source K.Sink (C.meaning c) source.old source.new sink.old sink.new result }
     ensures stays { C.place command.new ≡ C.place command.old }
 {
     let mut buffer = LineBuffer::new(alloc)?;

@@ -1,5 +1,5 @@
 //! A command whose input is one document, which is read whole.
-ghost use Rattle.std.specs.Prelude.{◌≡◌, ◌≤◌, ℕ, List, [], length, IfOk, string_bytes, Err, Result};
+ghost use Rattle.std.specs.Prelude.{◌≡◌, ◌≤◌, List, [], IfOk, string_bytes, Err, Result};
 ghost use Rattle.adx_io.specs.Lines.{TookLast};
 ghost use Rattle.adx_io.specs.Rest.{IsFull, ReadsRest, Within};
 ghost use Rattle.adx_io.specs.Streams.{HasReadCause, WhereTold};
@@ -7,10 +7,10 @@ ghost use Rattle.adx_io.specs.Talk.{HasCauses};
 ghost use Rattle.adx_io.specs.TalkState.{place_of, state_of};
 ghost use Rattle.adx_io.specs.declared.stop.Stop.{Stop as StopValue};
 ghost use Rattle.command_runs.specs.Documents.{Judged, MayEnd, document as document_meaning};
-ghost use Rattle.command_runs.specs.Meanings.{Wrote};
 ghost use Rattle.command_runs.specs.Runs.{Runs};
-ghost use Rattle.command_runs.specs.declared.limits.TheConstants.{DOCUMENT_LIMIT as document_limit, INPUT_LIMIT as input_limit};
+ghost use Rattle.command_runs.specs.declared.limits.TheConstants.{DOCUMENT_LIMIT as document_limit};
 ghost use Rattle.command_runs.specs.declared.outcome.Outcome.{Outcome as OutcomeValue};
+ghost use Rattle.command_runs.specs.Talks.{TalkWrote};
 
 use crate::command::{Command, run_command};
 use crate::limits::DOCUMENT_LIMIT;
@@ -50,7 +50,8 @@ pub trait Judge {
         out: &mut String,
     ) -> Result<Outcome, OutOfMemory>
         requires { string_bytes out.old ≡ [] }
-        ensures judged { (c : course) × ((ended : Result OutcomeValue StopValue) → MayEnd result ended → leaves self.old self.new c ended) × Judged (judges c) rest document.now (string_bytes out.new) result }
+        ensures judged { (c : course) × ((ended : Result OutcomeValue StopValue) → MayEnd result ended → leaves self.old self.new c ended)
+            × Judged (judges c) rest document.now (string_bytes out.new) result }
         ensures stays { place self.new ≡ place self.old };
 
     /// Where a run ends before its document is judged, the command's own state is as it was.
@@ -77,7 +78,8 @@ fn judge_document<J: Judge, S: Source, K: Sink>(
 ) -> Result<Outcome, Stop>
     requires unwritten { (state_of talk.old).out ≡ [] }
     requires untaken { talk.old.buffer.now.pending ≡ [] }
-    ensures ran { (c : J.course) × J.leaves judge.old judge.new c result × WhereTold (state_of talk.old).tape (S.tape talk.new.source.now) (λ before now. Wrote (document_meaning document_limit (J.judges c)) before.left now.left (K.held talk.old.sink.now) (K.held talk.new.sink.now) result) }
+    ensures ran { (c : J.course) × J.leaves judge.old judge.new c result
+        × TalkWrote (document_meaning document_limit (J.judges c)) talk.old talk.new result }
     ensures causes { HasCauses (state_of talk.old) (state_of talk.new) result }
     ensures same { place_of talk.new ≡ place_of talk.old }
     ensures stays { J.place judge.new ≡ J.place judge.old }
@@ -136,7 +138,8 @@ pub fn run_document<J: Judge, S: Source, K: Sink>(
     source: &mut S,
     sink: &mut K,
 ) -> Result<Outcome, Stop>
-    ensures runs { (c : J.course) × J.leaves judge.old judge.new c result × Runs S.Source K.Sink (document_meaning document_limit (J.judges c)) source.old source.new sink.old sink.new result }
+    ensures runs { (c : J.course) × J.leaves judge.old judge.new c result
+        × Runs S.Source K.Sink (document_meaning document_limit (J.judges c)) source.old source.new sink.old sink.new result }
     ensures stays { J.place judge.new ≡ J.place judge.old }
 {
     let mut document = Document { judge };

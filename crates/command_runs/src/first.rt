@@ -1,15 +1,15 @@
 //! A command whose input has a first line of its own.
 ghost use Rattle.std.specs.Prelude.{◌≡◌, ◌≤◌, ◌++◌, List, ℕ, [], length, IfOk, OnOk, string_bytes, Option, Some, None};
 ghost use Rattle.adx_io.specs.Lines.{Keeps};
-ghost use Rattle.adx_io.specs.Streams.{WhereTold};
 ghost use Rattle.adx_io.specs.Talk.{HasCauses};
 ghost use Rattle.adx_io.specs.TalkState.{place_of, state_of};
 ghost use Rattle.adx_io.specs.declared.line_buffer.TheConstants.{CHUNK};
 ghost use Rattle.command_runs.specs.Firsts.{FindsFirst, FindsHead, IsLackIn, KeepsOut, LeavesFirst, by_first};
-ghost use Rattle.command_runs.specs.Meanings.{PutsEnd, Wrote};
+ghost use Rattle.command_runs.specs.Meanings.{PutsEnd};
 ghost use Rattle.command_runs.specs.Runs.{Runs};
 ghost use Rattle.command_runs.specs.declared.outcome.Outcome.TheVariants.{Refused};
 ghost use Rattle.command_runs.specs.declared.limits.TheConstants.{INPUT_LIMIT as input_limit, LINE_LIMIT as line_limit};
+ghost use Rattle.command_runs.specs.Talks.{OfLine, TalkWrote};
 
 use crate::command::{Command, run_command};
 use crate::limits::LINE_LIMIT;
@@ -78,7 +78,8 @@ pub trait Led {
     ) -> Result<Outcome, Stop>
         requires unwritten { (state_of talk.old).out ≡ [] }
         requires ahead { length talk.old.buffer.now.pending ≤ CHUNK }
-        ensures ran { (c : course) × leaves self.old self.new head c result × WhereTold (state_of talk.old).tape (S.tape talk.new.source.now) (λ before now. Wrote (meaning head (state_of talk.old).allowed c) before.left now.left (K.held talk.old.sink.now) (K.held talk.new.sink.now) result) }
+        ensures ran { (c : course) × leaves self.old self.new head c result
+            × TalkWrote (meaning head (state_of talk.old).allowed c) talk.old talk.new result }
         ensures causes { HasCauses (state_of talk.old) (state_of talk.new) result }
         ensures same { place_of talk.new ≡ place_of talk.old }
         ensures stays { place self.new ≡ place self.old };
@@ -91,7 +92,8 @@ fn head_in<L: Led>(
     buffer: &LineBuffer,
     out: &mut String,
 ) -> Result<Option<L::Head>, OutOfMemory>
-    ensures finds { IfOk result (λ head. (line : List ℕ) → Keeps line_limit buffer.now.overlong buffer.now.line line → FindsFirst L.heads input_limit line (string_bytes out.old) (string_bytes out.new) head) }
+    ensures finds { IfOk result (λ head. OfLine buffer.now.overlong buffer.now.line
+        (λ line. FindsFirst L.heads input_limit line (string_bytes out.old) (string_bytes out.new) head)) }
     ensures kept { IfOk result (KeepsOut (string_bytes out.old) (string_bytes out.new)) }
 {
     match buffer.line() {
@@ -142,7 +144,8 @@ fn lead<L: Led, S: Source, K: Sink>(
 ) -> Result<Outcome, Stop>
     requires unwritten { (state_of talk.old).out ≡ [] }
     requires whole { (state_of talk.old).allowed ≡ input_limit }
-    ensures ran { (c : Option (L.Head × L.course)) × LeavesFirst L.leaves led.old led.new c result × WhereTold (state_of talk.old).tape (S.tape talk.new.source.now) (λ before now. Wrote (by_first L.heads input_limit L.meaning c) before.left now.left (K.held talk.old.sink.now) (K.held talk.new.sink.now) result) }
+    ensures ran { (c : Option (L.Head × L.course)) × LeavesFirst L.leaves led.old led.new c result
+        × TalkWrote (by_first L.heads input_limit L.meaning c) talk.old talk.new result }
     ensures causes { HasCauses (state_of talk.old) (state_of talk.new) result }
     ensures same { place_of talk.new ≡ place_of talk.old }
     ensures stays { L.place led.new ≡ L.place led.old }
@@ -207,7 +210,8 @@ pub fn run_led<L: Led, S: Source, K: Sink>(
     source: &mut S,
     sink: &mut K,
 ) -> Result<Outcome, Stop>
-    ensures runs { (c : Option (L.Head × L.course)) × LeavesFirst L.leaves led.old led.new c result × Runs S.Source K.Sink (by_first L.heads input_limit L.meaning c) source.old source.new sink.old sink.new result }
+    ensures runs { (c : Option (L.Head × L.course)) × LeavesFirst L.leaves led.old led.new c result
+        × Runs S.Source K.Sink (by_first L.heads input_limit L.meaning c) source.old source.new sink.old sink.new result }
     ensures stays { L.place led.new ≡ L.place led.old }
 {
     let mut first = FirstLine { led };

@@ -1,13 +1,13 @@
 //! A command that answers its input line by line.
-ghost use Rattle.std.specs.Prelude.{◌≡◌, ◌≤◌, ◌<◌, ◌+◌, ◌^◌, ◌++◌, List, ℕ, [], length, IfOk, OnErr, OnOk, string_bytes};
+ghost use Rattle.std.specs.Prelude.{◌≡◌, ◌≤◌, ◌<◌, ◌+◌, ◌^◌, ◌++◌, List, [], IfOk, OnErr, OnOk, string_bytes};
 ghost use Rattle.adx_io.specs.Lines.{Keeps};
-ghost use Rattle.adx_io.specs.Streams.{WhereTold};
 ghost use Rattle.adx_io.specs.Talk.{HasCauses};
 ghost use Rattle.adx_io.specs.TalkState.{place_of, state_of};
-ghost use Rattle.command_runs.specs.Meanings.{PutsEnd, Wrote};
+ghost use Rattle.command_runs.specs.Meanings.{PutsEnd};
 ghost use Rattle.command_runs.specs.Scripts.{PutsAnswer, PutsClosing, script};
-ghost use Rattle.command_runs.specs.declared.limits.TheConstants.{INPUT_LIMIT as input_limit, LINE_LIMIT as line_limit};
+ghost use Rattle.command_runs.specs.declared.limits.TheConstants.{LINE_LIMIT as line_limit};
 ghost use Rattle.command_runs.specs.declared.outcome.Outcome.TheVariants.{Refused};
+ghost use Rattle.command_runs.specs.Talks.{OfLine, TalkWrote};
 
 use crate::limits::LINE_LIMIT;
 use crate::outcome::Outcome;
@@ -38,8 +38,10 @@ pub trait Answer {
         out: &mut String,
     ) -> Result<(), OutOfMemory>
         requires { string_bytes out.old ≡ [] }
-        ensures answered { OnOk result ((line : List ℕ) → Keeps line_limit buffer.now.overlong buffer.now.line line → answering.answers self.old number line (string_bytes out.new) self.new) }
-        ensures gave_up { OnErr result ((line : List ℕ) → Keeps line_limit buffer.now.overlong buffer.now.line line → answering.gives_up self.old number line self.new) }
+        ensures answered { OnOk result (OfLine buffer.now.overlong buffer.now.line
+            (λ line. answering.answers self.old number line (string_bytes out.new) self.new)) }
+        ensures gave_up { OnErr result (OfLine buffer.now.overlong buffer.now.line
+            (λ line. answering.gives_up self.old number line self.new)) }
         ensures stays { place self.new ≡ place self.old };
 
     /// Ends the run after the last line, by the bytes after its newline, which the buffer keeps, and writes the end of the output.
@@ -51,7 +53,8 @@ pub trait Answer {
         out: &mut String,
     ) -> Result<Outcome, OutOfMemory>
         requires { string_bytes out.old ≡ [] }
-        ensures closes { IfOk result (λ outcome. (piece : List ℕ) → Keeps line_limit buffer.now.overlong buffer.now.line piece → answering.closes self.now number piece outcome (string_bytes out.new)) };
+        ensures closes { IfOk result (λ outcome. OfLine buffer.now.overlong buffer.now.line
+            (λ piece. answering.closes self.now number piece outcome (string_bytes out.new))) };
 
     /// Writes the answer that the input passes its limit in the line with this number.
     fn push_past(number: u64, out: &mut String) -> Result<(), OutOfMemory>
@@ -67,7 +70,8 @@ fn close_lines<A: Answer, S: Source, K: Sink>(
     talk: &mut Talk<'_, S, K>,
 ) -> Result<Outcome, Stop>
     requires unwritten { (state_of talk.old).out ≡ [] }
-    ensures puts { PutsClosing A.answering answer.now number (Keeps line_limit talk.old.buffer.now.overlong talk.old.buffer.now.line) (state_of talk.old).held (state_of talk.new).held result }
+    ensures puts { PutsClosing A.answering answer.now number (Keeps line_limit talk.old.buffer.now.overlong talk.old.buffer.now.line)
+        (state_of talk.old).held (state_of talk.new).held result }
     ensures rest { (talk.new.source ≡ talk.old.source) × (talk.new.buffer ≡ talk.old.buffer) }
     ensures causes { HasCauses (state_of talk.old) (state_of talk.new) result }
     ensures same { place_of talk.new ≡ place_of talk.old }
@@ -103,7 +107,8 @@ fn answer_next<A: Answer, S: Source, K: Sink>(
     talk: &mut Talk<'_, S, K>,
 ) -> Result<(), Stop>
     requires unwritten { (state_of talk.old).out ≡ [] }
-    ensures steps { PutsAnswer A.answering answer.old answer.new number (Keeps line_limit talk.old.buffer.now.overlong talk.old.buffer.now.line) (state_of talk.old).held (state_of talk.new).held result }
+    ensures steps { PutsAnswer A.answering answer.old answer.new number (Keeps line_limit talk.old.buffer.now.overlong talk.old.buffer.now.line)
+        (state_of talk.old).held (state_of talk.new).held result }
     ensures unwritten { OnOk result ((state_of talk.new).out ≡ []) }
     ensures rest { (talk.new.source ≡ talk.old.source) × (talk.new.buffer ≡ talk.old.buffer) × (talk.new.room ≡ talk.old.room) }
     ensures causes { HasCauses (state_of talk.old) (state_of talk.new) result }
@@ -132,7 +137,7 @@ pub fn answer_lines<A: Answer, S: Source, K: Sink>(
 ) -> Result<Outcome, Stop>
     requires unwritten { (state_of talk.old).out ≡ [] }
     requires within { first + (state_of talk.old).allowed < 2 ^ 64 }
-    ensures ran { WhereTold (state_of talk.old).tape (S.tape talk.new.source.now) (λ before now. Wrote (script A.answering answer.old first (state_of talk.old).allowed answer.new) before.left now.left (K.held talk.old.sink.now) (K.held talk.new.sink.now) result) }
+    ensures ran { TalkWrote (script A.answering answer.old first (state_of talk.old).allowed answer.new) talk.old talk.new result }
     ensures causes { HasCauses (state_of talk.old) (state_of talk.new) result }
     ensures same { place_of talk.new ≡ place_of talk.old }
     ensures stays { A.place answer.new ≡ A.place answer.old }

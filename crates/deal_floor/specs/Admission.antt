@@ -36,6 +36,11 @@ pub record Case : Type 0 where
   pub seat : SeatBid
   pub bid : Bid
 
+-- the case of a bid by its parts
+abbrev pub case_by_parts : BidRequest → List Campaign → ℕ → List ℕ → SeatBid → Bid → Case
+case_by_parts request campaigns bidder bidid seat bid =
+    record { request = request; campaigns = campaigns; bidder = bidder; bidid = bidid; seat = seat; bid = bid }
+
 -- the place of the impression that a bid names by its impid
 abbrev pub place_of_imp : BidRequest → Bid → Option ℕ
 place_of_imp r b = position (imp_has_id b.impid) r.imps

@@ -7,3 +7,4 @@ pub mod Reasons
 pub mod Admission
 pub mod Sales
 pub mod Order
+pub mod Reading

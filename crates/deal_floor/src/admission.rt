@@ -3,7 +3,7 @@ ghost use Rattle.std.specs.Prelude.{◌≡◌, ◌≤◌, ◌<◌, ◌⊎◌, �
 ghost use Rattle.adx_units.specs.declared.offer.TheConstants.{ADMITTED};
 ghost use Rattle.adx_units.specs.declared.price.TheConstants.{PRICE_LIMIT};
 ghost use Rattle.rtb_request.specs.Distinct.{is_among as is_among_by};
-ghost use Rattle.deal_floor.specs.Admission.{admitted, refused_offer, kept_length, life_by, number_or_zero, allows as allows_by};
+ghost use Rattle.deal_floor.specs.Admission.{admitted, refused_offer, kept_length, life_by, number_or_zero, allows as allows_by, case_by_parts};
 ghost use Rattle.deal_floor.specs.declared.terms.TheConstants.{MOST_KEPT, MOST_LIFE, NO_IMP};
 
 use crate::asked::{Asked, place_of_imp, sale_of};
@@ -25,7 +25,7 @@ pub fn admit(
     seat: &SeatBid,
     bid: &Bid,
 ) -> Result<Offer, Reason>
-    ensures gives { result ≡ admitted (record { request = request.now; campaigns = roster.entry.now.campaigns; bidder = bidder; bidid = bidid.now; seat = seat.now; bid = bid.now }) }
+    ensures gives { result ≡ admitted (case_by_parts request.now roster.entry.now.campaigns bidder bidid.now seat.now bid.now) }
     ensures reason { IfOk result (λ o. o.reason ≡ ADMITTED) }
     ensures imp { IfOk result (λ o. o.imp < length request.now.imps) }
     ensures campaign { IfOk result (λ o. o.campaign < length roster.entry.now.campaigns) }

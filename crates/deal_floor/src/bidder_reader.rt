@@ -2,13 +2,13 @@
 ghost use Rattle.std.specs.Prelude.{◌≡◌, ◌≤◌, ◌<◌, ◌+◌, ◌++◌, ◌∷◌, [], map, length, true, IfOk, OnOk};
 ghost use Rattle.std.specs.List.{list_any};
 ghost use Rattle.adx_json.specs.View.{tree_of, trees_of};
-ghost use Rattle.tree_view.specs.Checks.{Gives, judged};
+ghost use Rattle.tree_view.specs.Checks.{Gives};
 ghost use Rattle.rtb_request.specs.Distinct.{all_distinct};
 ghost use Rattle.deal_floor.specs.Faults.{lacks_memory};
-ghost use Rattle.deal_floor.specs.Rosters.{bidder_checks, bidders_checks, place_view};
 ghost use Rattle.deal_floor.specs.Seen.{seen_place, place_has_name};
 ghost use Rattle.deal_floor.specs.declared.fault.RosterFault.TheVariants.{Repeated};
 ghost use Rattle.deal_floor.specs.declared.place.TheConstants.{MOST_BIDDERS};
+ghost use Rattle.deal_floor.specs.Reading.{names_of, place_added, places_found};
 
 use crate::fault::{Field, RosterFault, bad_field};
 use crate::members::bidder_members;
@@ -22,8 +22,8 @@ use tree_view::is_text_if_given;
 /// The bidders of a list, or the first fault of any of them.
 pub(crate) fn bidders_of(alloc: Global, trees: &[Json]) -> Result<Vec<Place>, RosterFault>
     requires few { length trees.now ≤ MOST_BIDDERS }
-    ensures gives { Gives lacks_memory (λ ps. map seen_place ps.items) result (judged (bidders_checks [] (trees_of trees.now)) (map place_view (trees_of trees.now))) }
-    ensures distinct { IfOk result (λ ps. all_distinct (map (λ p. p.name) ps.items) ≡ true) }
+    ensures gives { Gives lacks_memory (λ ps. map seen_place ps.items) result (places_found (trees_of trees.now)) }
+    ensures distinct { IfOk result (λ ps. all_distinct (names_of ps.items) ≡ true) }
     ensures count { IfOk result (λ ps. length ps.items ≡ length trees.now) }
 {
     let mut bidders = Vec::new(alloc);
@@ -39,8 +39,9 @@ pub(crate) fn bidders_of(alloc: Global, trees: &[Json]) -> Result<Vec<Place>, Ro
 #[tactic(auto, using(crate::proofs::BidderSteps::among_bidders, crate::proofs::BidderSteps::pushed_seen, crate::proofs::BidderSteps::pushed_distinct))]
 fn add_bidder(alloc: Global, bidders: &mut Vec<Place>, tree: &Json) -> Result<(), RosterFault>
     requires room { length bidders.old.items < MOST_BIDDERS }
-    ensures gives { Gives lacks_memory (λ _. map seen_place bidders.new.items) result (judged (bidder_checks (map (λ p. p.name) bidders.old.items) (tree_of tree.now)) (map seen_place bidders.old.items ++ place_view (tree_of tree.now) ∷ [])) }
-    ensures distinct { all_distinct (map (λ p. p.name) bidders.old.items) ≡ true → OnOk result (all_distinct (map (λ p. p.name) bidders.new.items) ≡ true) }
+    ensures gives { Gives lacks_memory (λ _. map seen_place bidders.new.items) result (place_added bidders.old.items (tree_of tree.now)) }
+    ensures distinct { all_distinct (names_of bidders.old.items) ≡ true
+        → OnOk result (all_distinct (names_of bidders.new.items) ≡ true) }
     ensures count { OnOk result (length bidders.new.items ≡ length bidders.old.items + 1) }
 {
     let found = bidder_members(tree);
@@ -82,7 +83,7 @@ fn is_among(bidders: &[Place], name: &Id) -> bool
 #[tactic(auto, using(crate::proofs::BidderSteps::names_length))]
 fn repeated(bidders: &[Place]) -> RosterFault
     requires few { length bidders.now < MOST_BIDDERS }
-    ensures { result ≡ Repeated (length (map (λ p. p.name) bidders.now)) }
+    ensures { result ≡ Repeated (length (names_of bidders.now)) }
 {
     RosterFault::Repeated {
         index: bidders.len() as u32,

@@ -1,16 +1,16 @@
 //! The view of a campaign's tree, or its first fault.
-ghost use Rattle.std.specs.Prelude.{◌≡◌, ◌≤◌, ◌<◌, ◌+◌, ◌++◌, ◌∷◌, [], map, length, option_map, true, IfOk, OnOk};
+ghost use Rattle.std.specs.Prelude.{◌≡◌, ◌≤◌, ◌<◌, ◌+◌, ◌++◌, ◌∷◌, [], map, length, true, IfOk, OnOk};
 ghost use Rattle.std.specs.List.{position};
 ghost use Rattle.adx_json.specs.View.{tree_of, trees_of};
-ghost use Rattle.tree_view.specs.Checks.{Gives, judged};
+ghost use Rattle.tree_view.specs.Checks.{Gives};
 ghost use Rattle.deal_floor.specs.Faults.{lacks_memory};
 ghost use Rattle.deal_floor.specs.Forms.{place_in as place_by};
 ghost use Rattle.deal_floor.specs.Pairs.{pair_of, all_pairs_distinct, have_bidders};
-ghost use Rattle.deal_floor.specs.Rosters.{campaign_checks, campaigns_checks, campaign_view};
 ghost use Rattle.deal_floor.specs.Seen.{seen_campaign, place_has_name};
 ghost use Rattle.deal_floor.specs.declared.fault.RosterFault.TheVariants.{Repeated};
 ghost use Rattle.deal_floor.specs.declared.campaign.TheConstants.{MOST_CAMPAIGNS};
 ghost use Rattle.deal_floor.specs.declared.place.TheConstants.{MOST_BIDDERS};
+ghost use Rattle.deal_floor.specs.Reading.{campaign_added, campaigns_found, given, names_of};
 
 use crate::campaign::Campaign;
 use crate::campaigns::Campaigns;
@@ -31,7 +31,7 @@ pub(crate) fn campaigns_of(
 ) -> Result<Campaigns, RosterFault>
     requires bidders { length bidders.now ≤ MOST_BIDDERS }
     requires few { length trees.now ≤ MOST_CAMPAIGNS }
-    ensures gives { Gives lacks_memory (λ cs. map seen_campaign cs) result (judged (campaigns_checks (map (λ p. p.name) bidders.now) [] (trees_of trees.now)) (map (campaign_view (map (λ p. p.name) bidders.now)) (trees_of trees.now))) }
+    ensures gives { Gives lacks_memory (λ cs. map seen_campaign cs) result (campaigns_found (names_of bidders.now) (trees_of trees.now)) }
     ensures distinct { IfOk result (λ cs. all_pairs_distinct (map pair_of cs) ≡ true) }
     ensures known { IfOk result (λ cs. have_bidders (length bidders.now) cs ≡ true) }
     ensures count { IfOk result (λ cs. length cs ≡ length trees.now) }
@@ -55,9 +55,12 @@ fn add_campaign(
 ) -> Result<(), RosterFault>
     requires bidders { length bidders.now ≤ MOST_BIDDERS }
     requires room { length campaigns.old < MOST_CAMPAIGNS }
-    ensures gives { Gives lacks_memory (λ _. map seen_campaign campaigns.new) result (judged (campaign_checks (map (λ p. p.name) bidders.now) (map pair_of campaigns.old) (tree_of tree.now)) (map seen_campaign campaigns.old ++ campaign_view (map (λ p. p.name) bidders.now) (tree_of tree.now) ∷ [])) }
-    ensures distinct { all_pairs_distinct (map pair_of campaigns.old) ≡ true → OnOk result (all_pairs_distinct (map pair_of campaigns.new) ≡ true) }
-    ensures known { have_bidders (length bidders.now) campaigns.old ≡ true → OnOk result (have_bidders (length bidders.now) campaigns.new ≡ true) }
+    ensures gives { Gives lacks_memory (λ _. map seen_campaign campaigns.new) result
+        (campaign_added (names_of bidders.now) campaigns.old (tree_of tree.now)) }
+    ensures distinct { all_pairs_distinct (map pair_of campaigns.old) ≡ true
+        → OnOk result (all_pairs_distinct (map pair_of campaigns.new) ≡ true) }
+    ensures known { have_bidders (length bidders.now) campaigns.old ≡ true
+        → OnOk result (have_bidders (length bidders.now) campaigns.new ≡ true) }
     ensures count { OnOk result (length campaigns.new ≡ length campaigns.old + 1) }
 {
     let found = campaign_members(tree);
@@ -88,7 +91,7 @@ fn add_campaign(
 
 /// The place of the bidder whose name a value is. None exactly where it is no bidder's name.
 fn place_in(bidders: &[Place], value: Option<&Json>) -> Option<usize>
-    ensures { result ≡ place_by (map (λ p. p.name) bidders.now) (option_map (λ t. tree_of t.now) value.entry) }
+    ensures { result ≡ place_by (names_of bidders.now) (given value.entry) }
 {
     match text_in(value) {
         Some(name) => place_of_name(bidders, name),

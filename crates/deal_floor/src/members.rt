@@ -1,8 +1,9 @@
 //! The members that the roster's readers read, as they lie in their trees: one walk over each object.
-ghost use Rattle.std.specs.Prelude.{◌≡◌, option_map, codes};
+ghost use Rattle.std.specs.Prelude.{◌≡◌, codes};
 ghost use Rattle.adx_json.specs.Named.{member_in};
 ghost use Rattle.adx_json.specs.View.{tree_of};
 ghost use Rattle.deal_floor.specs.Forms.{member_within};
+ghost use Rattle.deal_floor.specs.Reading.{given};
 
 use adx_json::Json;
 use tree_view::{members_in, met};
@@ -20,13 +21,13 @@ pub(crate) struct RosterMembers<'a> {
 }
 
 pub(crate) fn roster_members(tree: &Json) -> RosterMembers<'_>
-    ensures day { option_map (λ t. tree_of t.now) result.day ≡ member_in (codes "day") (tree_of tree.now) }
-    ensures base { option_map (λ t. tree_of t.now) result.base ≡ member_in (codes "base") (tree_of tree.now) }
-    ensures now { option_map (λ t. tree_of t.now) result.now ≡ member_in (codes "now") (tree_of tree.now) }
-    ensures bidders { option_map (λ t. tree_of t.now) result.bidders ≡ member_in (codes "bidders") (tree_of tree.now) }
-    ensures campaigns { option_map (λ t. tree_of t.now) result.campaigns ≡ member_in (codes "campaigns") (tree_of tree.now) }
-    ensures replies { option_map (λ t. tree_of t.now) result.replies ≡ member_in (codes "replies") (tree_of tree.now) }
-    ensures limits { option_map (λ t. tree_of t.now) result.limits ≡ member_in (codes "limits") (tree_of tree.now) }
+    ensures day { given result.day ≡ member_in (codes "day") (tree_of tree.now) }
+    ensures base { given result.base ≡ member_in (codes "base") (tree_of tree.now) }
+    ensures now { given result.now ≡ member_in (codes "now") (tree_of tree.now) }
+    ensures bidders { given result.bidders ≡ member_in (codes "bidders") (tree_of tree.now) }
+    ensures campaigns { given result.campaigns ≡ member_in (codes "campaigns") (tree_of tree.now) }
+    ensures replies { given result.replies ≡ member_in (codes "replies") (tree_of tree.now) }
+    ensures limits { given result.limits ≡ member_in (codes "limits") (tree_of tree.now) }
 {
     let mut day = None;
     let mut base = None;
@@ -65,10 +66,10 @@ pub(crate) struct BidderMembers<'a> {
 }
 
 pub(crate) fn bidder_members(tree: &Json) -> BidderMembers<'_>
-    ensures name { option_map (λ t. tree_of t.now) result.name ≡ member_in (codes "name") (tree_of tree.now) }
-    ensures host { option_map (λ t. tree_of t.now) result.host ≡ member_in (codes "host") (tree_of tree.now) }
-    ensures port { option_map (λ t. tree_of t.now) result.port ≡ member_in (codes "port") (tree_of tree.now) }
-    ensures path { option_map (λ t. tree_of t.now) result.path ≡ member_in (codes "path") (tree_of tree.now) }
+    ensures name { given result.name ≡ member_in (codes "name") (tree_of tree.now) }
+    ensures host { given result.host ≡ member_in (codes "host") (tree_of tree.now) }
+    ensures port { given result.port ≡ member_in (codes "port") (tree_of tree.now) }
+    ensures path { given result.path ≡ member_in (codes "path") (tree_of tree.now) }
 {
     let mut name = None;
     let mut host = None;
@@ -98,10 +99,10 @@ pub(crate) struct CampaignMembers<'a> {
 }
 
 pub(crate) fn campaign_members(tree: &Json) -> CampaignMembers<'_>
-    ensures bidder { option_map (λ t. tree_of t.now) result.bidder ≡ member_in (codes "bidder") (tree_of tree.now) }
-    ensures seat { option_map (λ t. tree_of t.now) result.seat ≡ member_in (codes "seat") (tree_of tree.now) }
-    ensures cid { option_map (λ t. tree_of t.now) result.cid ≡ member_in (codes "cid") (tree_of tree.now) }
-    ensures budget { option_map (λ t. tree_of t.now) result.budget ≡ member_in (codes "budget") (tree_of tree.now) }
+    ensures bidder { given result.bidder ≡ member_in (codes "bidder") (tree_of tree.now) }
+    ensures seat { given result.seat ≡ member_in (codes "seat") (tree_of tree.now) }
+    ensures cid { given result.cid ≡ member_in (codes "cid") (tree_of tree.now) }
+    ensures budget { given result.budget ≡ member_in (codes "budget") (tree_of tree.now) }
 {
     let mut bidder = None;
     let mut seat = None;
@@ -130,9 +131,9 @@ pub(crate) struct LimitsMembers<'a> {
 }
 
 fn limits_members(tree: &Json) -> LimitsMembers<'_>
-    ensures auctions { option_map (λ t. tree_of t.now) result.auctions ≡ member_in (codes "auctions") (tree_of tree.now) }
-    ensures bids { option_map (λ t. tree_of t.now) result.bids ≡ member_in (codes "bids") (tree_of tree.now) }
-    ensures text { option_map (λ t. tree_of t.now) result.text ≡ member_in (codes "text") (tree_of tree.now) }
+    ensures auctions { given result.auctions ≡ member_in (codes "auctions") (tree_of tree.now) }
+    ensures bids { given result.bids ≡ member_in (codes "bids") (tree_of tree.now) }
+    ensures text { given result.text ≡ member_in (codes "text") (tree_of tree.now) }
 {
     let mut auctions = None;
     let mut bids = None;
@@ -151,9 +152,9 @@ fn limits_members(tree: &Json) -> LimitsMembers<'_>
 
 /// The members of limits that may be absent.
 pub(crate) fn members_of_limits(limits: Option<&Json>) -> LimitsMembers<'_>
-    ensures auctions { option_map (λ t. tree_of t.now) result.auctions ≡ member_within (codes "auctions") (option_map (λ t. tree_of t.now) limits.entry) }
-    ensures bids { option_map (λ t. tree_of t.now) result.bids ≡ member_within (codes "bids") (option_map (λ t. tree_of t.now) limits.entry) }
-    ensures text { option_map (λ t. tree_of t.now) result.text ≡ member_within (codes "text") (option_map (λ t. tree_of t.now) limits.entry) }
+    ensures auctions { given result.auctions ≡ member_within (codes "auctions") (given limits.entry) }
+    ensures bids { given result.bids ≡ member_within (codes "bids") (given limits.entry) }
+    ensures text { given result.text ≡ member_within (codes "text") (given limits.entry) }
 {
     match limits {
         Some(tree) => limits_members(tree),

@@ -1,20 +1,18 @@
 //! The view of a roster's tree, or its first fault.
-ghost use Rattle.std.specs.Prelude.{◌≡◌, ℕ, ◌≤◌, List, ◌++◌, map, length, codes, option_map, Some, true, IfOk, OnOk, string_bytes};
-ghost use Rattle.adx_json.specs.Tree.{list, no_items, item};
+ghost use Rattle.std.specs.Prelude.{◌≡◌, ℕ, ◌≤◌, List, ◌++◌, map, length, Some, true, IfOk, OnOk, string_bytes};
 ghost use Rattle.adx_json.specs.Spelling.{spelling};
 ghost use Rattle.adx_json.specs.View.{tree_of, trees_of};
-ghost use Rattle.sha2.specs.Sha256.{sha256};
-ghost use Rattle.tree_view.specs.Checks.{Gives, judged};
-ghost use Rattle.tree_view.specs.Values.{items_in as items_by, texts_in as texts_by, text_or_empty};
+ghost use Rattle.tree_view.specs.Checks.{Gives};
 ghost use Rattle.rtb_request.specs.Distinct.{all_distinct};
 ghost use Rattle.deal_floor.specs.Faults.{lacks_memory};
-ghost use Rattle.deal_floor.specs.Forms.{is_date, text_or as text_or_by, whole_or as whole_or_by};
+ghost use Rattle.deal_floor.specs.Forms.{is_date};
 ghost use Rattle.deal_floor.specs.Pairs.{pair_of, all_pairs_distinct, have_bidders};
-ghost use Rattle.deal_floor.specs.Rosters.{roster_in, head_checks, replies_checks, bidder_list_checks, place_view, campaign_list_checks, campaign_view, limits_checks, limits_view, or_null};
+ghost use Rattle.deal_floor.specs.Rosters.{roster_in, or_null};
 ghost use Rattle.deal_floor.specs.Seen.{seen_place, seen_campaign, seen_limits, seen_roster};
 ghost use Rattle.deal_floor.specs.declared.campaign.TheConstants.{MOST_CAMPAIGNS};
 ghost use Rattle.deal_floor.specs.declared.place.TheConstants.{MOST_BIDDERS};
 ghost use Rattle.deal_floor.specs.declared.roster.TheConstants.{MOST_NOW};
+ghost use Rattle.deal_floor.specs.Reading.{bidder_list_found, campaign_list_found, digest_by, given, head_found, limits_found, names_of, replies_found, roster_of_parts};
 
 use crate::bidder_reader::bidders_of;
 use crate::campaign::MOST_CAMPAIGNS;
@@ -79,13 +77,14 @@ fn roster_with(
     requires now_in_range { head.now ≤ MOST_NOW }
     requires some_bidder { 1 ≤ length bidders }
     requires few_bidders { length bidders ≤ MOST_BIDDERS }
-    requires distinct_names { all_distinct (map (λ p. p.name) bidders) ≡ true }
+    requires distinct_names { all_distinct (names_of bidders) ≡ true }
     requires some_campaign { 1 ≤ length campaigns }
     requires few_campaigns { length campaigns ≤ MOST_CAMPAIGNS }
     requires distinct_pairs { all_pairs_distinct (map pair_of campaigns) ≡ true }
     requires known_bidders { have_bidders (length bidders) campaigns ≡ true }
     requires few_replies { length replies.now ≤ length bidders }
-    ensures { IfOk result (λ r. seen_roster r ≡ record { day = head.entry.day.now; base = text_or_by (codes "http://localhost") (option_map (λ t. tree_of t.now) found.entry.base); now = head.entry.now; bidders = map seen_place bidders; campaigns = map seen_campaign campaigns; replies = map (λ t. texts_by (Some t)) (trees_of replies.now); limits = seen_limits limits; digest = sha256 (spelling (list (item (or_null (option_map (λ t. tree_of t.now) found.entry.day)) (item (or_null (option_map (λ t. tree_of t.now) found.entry.campaigns)) no_items)))) }) }
+    ensures { IfOk result (λ r. seen_roster r ≡ roster_of_parts head.entry.day.now head.entry.now bidders campaigns (trees_of replies.now) limits
+        (given found.entry.base) (given found.entry.day) (given found.entry.campaigns)) }
 {
     Ok(Roster {
         day: head.day.copy(alloc)?,
@@ -112,7 +111,8 @@ fn head_of<'a>(
     base: Option<&Json>,
     now: Option<&Json>,
 ) -> Result<Head<'a>, RosterFault>
-    ensures gives { Gives {V = List ℕ × ℕ} lacks_memory (λ h. (h.day.now, h.now)) result (judged (head_checks (option_map (λ t. tree_of t.now) day.entry) (option_map (λ t. tree_of t.now) base.entry) (option_map (λ t. tree_of t.now) now.entry)) (text_or_empty (option_map (λ t. tree_of t.now) day.entry), whole_or_by 0 MOST_NOW (option_map (λ t. tree_of t.now) now.entry))) }
+    ensures gives { Gives {V = List ℕ × ℕ} lacks_memory (λ h. (h.day.now, h.now)) result
+        (head_found (given day.entry) (given base.entry) (given now.entry)) }
     ensures dated { IfOk result (λ h. is_date h.day.now ≡ true) }
     ensures small { IfOk result (λ h. h.now ≤ MOST_NOW) }
 {
@@ -130,7 +130,7 @@ fn head_of<'a>(
 
 /// The trees of the replies to so many bidders, or the first fault of the list.
 fn reply_trees_of(bidders: usize, value: Option<&Json>) -> Result<&[Json], RosterFault>
-    ensures gives { Gives lacks_memory (λ ts. trees_of ts.now) result (judged (replies_checks bidders (option_map (λ t. tree_of t.now) value.entry)) (items_by (option_map (λ t. tree_of t.now) value.entry))) }
+    ensures gives { Gives lacks_memory (λ ts. trees_of ts.now) result (replies_found bidders (given value.entry)) }
     ensures few { IfOk result (λ ts. length ts.now ≤ bidders) }
 {
     if !is_list_if_given(value) {
@@ -148,8 +148,8 @@ fn reply_trees_of(bidders: usize, value: Option<&Json>) -> Result<&[Json], Roste
 
 /// The bidders that a value is, or the first fault of the list.
 fn bidders_in(alloc: Global, value: Option<&Json>) -> Result<Sequence<Place>, RosterFault>
-    ensures gives { Gives lacks_memory (λ ps. map seen_place ps) result (judged (bidder_list_checks (option_map (λ t. tree_of t.now) value.entry)) (map place_view (items_by (option_map (λ t. tree_of t.now) value.entry)))) }
-    ensures distinct { IfOk result (λ ps. all_distinct (map (λ p. p.name) ps) ≡ true) }
+    ensures gives { Gives lacks_memory (λ ps. map seen_place ps) result (bidder_list_found (given value.entry)) }
+    ensures distinct { IfOk result (λ ps. all_distinct (names_of ps) ≡ true) }
     ensures some { IfOk result (λ ps. 1 ≤ length ps) }
     ensures few { IfOk result (λ ps. length ps ≤ MOST_BIDDERS) }
 {
@@ -173,7 +173,7 @@ fn campaigns_in(
     value: Option<&Json>,
 ) -> Result<Campaigns, RosterFault>
     requires bidders { length bidders.now ≤ MOST_BIDDERS }
-    ensures gives { Gives lacks_memory (λ cs. map seen_campaign cs) result (judged (campaign_list_checks (map (λ p. p.name) bidders.now) (option_map (λ t. tree_of t.now) value.entry)) (map (campaign_view (map (λ p. p.name) bidders.now)) (items_by (option_map (λ t. tree_of t.now) value.entry)))) }
+    ensures gives { Gives lacks_memory (λ cs. map seen_campaign cs) result (campaign_list_found (names_of bidders.now) (given value.entry)) }
     ensures distinct { IfOk result (λ cs. all_pairs_distinct (map pair_of cs) ≡ true) }
     ensures known { IfOk result (λ cs. have_bidders (length bidders.now) cs ≡ true) }
     ensures some { IfOk result (λ cs. 1 ≤ length cs) }
@@ -191,7 +191,7 @@ fn campaigns_in(
 
 /// The limits that a value gives, or the first fault of any of them.
 fn limits_in(value: Option<&Json>) -> Result<Limits, RosterFault>
-    ensures { Gives lacks_memory seen_limits result (judged (limits_checks (option_map (λ t. tree_of t.now) value.entry)) (limits_view (option_map (λ t. tree_of t.now) value.entry))) }
+    ensures { Gives lacks_memory seen_limits result (limits_found (given value.entry)) }
 {
     let found = members_of_limits(value);
     if !is_object_if_given(value) {
@@ -219,7 +219,7 @@ fn digest_of(
     day: Option<&Json>,
     campaigns: Option<&Json>,
 ) -> Result<[u8; 32], OutOfMemory>
-    ensures { IfOk result (λ d. d ≡ sha256 (spelling (list (item (or_null (option_map (λ t. tree_of t.now) day.entry)) (item (or_null (option_map (λ t. tree_of t.now) campaigns.entry)) no_items))))) }
+    ensures { IfOk result (λ d. d ≡ digest_by (given day.entry) (given campaigns.entry)) }
 {
     let mut text = String::new(alloc);
     text.push_str("[")?;
@@ -231,7 +231,7 @@ fn digest_of(
 }
 
 fn push_or_null(out: &mut String, value: Option<&Json>) -> Result<(), OutOfMemory>
-    ensures { OnOk result (string_bytes out.new ≡ string_bytes out.old ++ spelling (or_null (option_map (λ t. tree_of t.now) value.entry))) }
+    ensures { OnOk result (string_bytes out.new ≡ string_bytes out.old ++ spelling (or_null (given value.entry))) }
 {
     match value {
         Some(value) => push_value(out, value),

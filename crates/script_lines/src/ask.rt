@@ -1,11 +1,12 @@
 //! Asks of a script.
-ghost use Rattle.std.specs.Prelude.{◌≡◌, ◌≤◌, ◌<◌, ◌^◌, length, option_map, IfOk, IfErr, OnOk};
+ghost use Rattle.std.specs.Prelude.{◌≡◌, ◌≤◌, ◌<◌, ◌^◌, length, IfOk, IfErr, OnOk};
 ghost use Rattle.std.specs.List.{AllZip};
 ghost use Rattle.adx_json.specs.View.{tree_of, trees_of};
 ghost use Rattle.day_rules.specs.Asks.{IsWellFormed, IsUndecided};
 ghost use Rattle.script_lines.specs.Members.{answers_in as answers_by, ask_moment as ask_moment_by};
 ghost use Rattle.script_lines.specs.Meanings.{AskMeans, GivesAnswer};
 ghost use Rattle.script_lines.specs.Found.{FindsAsk, FindsRequest};
+ghost use Rattle.deal_floor.specs.Reading.{given};
 
 use crate::members::{LineMembers, answers_in, ask_moment};
 use crate::refusal::{LineFault, Refusal};
@@ -25,7 +26,8 @@ pub(crate) fn ask_line(
     request: &Json,
     members: LineMembers<'_>,
 ) -> Result<Ask, LineFault>
-    ensures means { FindsAsk roster.entry.now (tree_of request.now) (answers_by (length roster.entry.now.bidders) (option_map (λ t. tree_of t.now) members.entry.answers)) (ask_moment_by (option_map (λ t. tree_of t.now) members.entry.now)) result }
+    ensures means { FindsAsk roster.entry.now (tree_of request.now)
+        (answers_by (length roster.entry.now.bidders) (given members.entry.answers)) (ask_moment_by (given members.entry.now)) result }
     ensures well_formed { IfOk result (IsWellFormed (length roster.entry.now.campaigns)) }
     ensures undecided { IfOk result IsUndecided }
 {

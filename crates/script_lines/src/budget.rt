@@ -1,11 +1,11 @@
 //! Changes of campaigns' budgets.
 ghost use Rattle.std.specs.Prelude.{◌≡◌, option_map, IfSome, length};
-ghost use Rattle.adx_json.specs.View.{tree_of};
 ghost use Rattle.day_rules.specs.Replies.{set_budget};
 ghost use Rattle.day_rules.specs.Runs.{IsCall};
 ghost use Rattle.tree_view.specs.Values.{number_in as number_by, text_in as text_by};
 ghost use Rattle.script_lines.specs.Changes.{change_in, change_named, change_told, pair_place};
 ghost use Rattle.script_lines.specs.Members.{change_number as change_number_by};
+ghost use Rattle.deal_floor.specs.Reading.{given};
 
 use crate::limits::LAST_CHANGE;
 use adx_json::Json;
@@ -76,7 +76,8 @@ pub(crate) fn change_of(
     change: Option<&Json>,
     budget: Option<&Json>,
 ) -> Option<Change>
-    ensures value { option_map change_told result ≡ change_in roster.entry.now.campaigns (text_by (option_map (λ t. tree_of t.now) seat.entry)) (text_by (option_map (λ t. tree_of t.now) cid.entry)) (number_by (option_map (λ t. tree_of t.now) change.entry)) (number_by (option_map (λ t. tree_of t.now) budget.entry)) }
+    ensures value { option_map change_told result ≡ change_in roster.entry.now.campaigns
+        (text_by (given seat.entry)) (text_by (given cid.entry)) (number_by (given change.entry)) (number_by (given budget.entry)) }
     ensures ready { IfSome result (λ c. IsCall (length roster.entry.now.campaigns) (set_budget (change_told c))) }
 {
     let Some(seat) = text_in(seat) else {

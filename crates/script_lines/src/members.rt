@@ -5,6 +5,7 @@ ghost use Rattle.adx_json.specs.View.{tree_of, trees_of};
 ghost use Rattle.tree_view.specs.Values.{number_in as number_by, whole_by};
 ghost use Rattle.script_lines.specs.Members.{answers_in as answers_by, ask_moment as ask_moment_by, is_null_or_object, is_null_or_object as is_null_or_object_by};
 ghost use Rattle.std.specs.List.{list_all};
+ghost use Rattle.deal_floor.specs.Reading.{given};
 
 use crate::limits::LATEST_MOMENT;
 use adx_json::Json;
@@ -29,17 +30,17 @@ pub(crate) struct LineMembers<'a> {
 
 /// The members of a line's value. A value that is no object has none.
 pub(crate) fn line_members(value: &Json) -> LineMembers<'_>
-    ensures ask { option_map (λ t. tree_of t.now) result.ask ≡ member_in (codes "ask") (tree_of value.now) }
-    ensures answers { option_map (λ t. tree_of t.now) result.answers ≡ member_in (codes "answers") (tree_of value.now) }
-    ensures now { option_map (λ t. tree_of t.now) result.now ≡ member_in (codes "now") (tree_of value.now) }
-    ensures notice { option_map (λ t. tree_of t.now) result.notice ≡ member_in (codes "notice") (tree_of value.now) }
-    ensures auction { option_map (λ t. tree_of t.now) result.auction ≡ member_in (codes "auction") (tree_of value.now) }
-    ensures bid { option_map (λ t. tree_of t.now) result.bid ≡ member_in (codes "bid") (tree_of value.now) }
-    ensures tick { option_map (λ t. tree_of t.now) result.tick ≡ member_in (codes "tick") (tree_of value.now) }
-    ensures budget { option_map (λ t. tree_of t.now) result.budget ≡ member_in (codes "budget") (tree_of value.now) }
-    ensures seat { option_map (λ t. tree_of t.now) result.seat ≡ member_in (codes "seat") (tree_of value.now) }
-    ensures cid { option_map (λ t. tree_of t.now) result.cid ≡ member_in (codes "cid") (tree_of value.now) }
-    ensures change { option_map (λ t. tree_of t.now) result.change ≡ member_in (codes "change") (tree_of value.now) }
+    ensures ask { given result.ask ≡ member_in (codes "ask") (tree_of value.now) }
+    ensures answers { given result.answers ≡ member_in (codes "answers") (tree_of value.now) }
+    ensures now { given result.now ≡ member_in (codes "now") (tree_of value.now) }
+    ensures notice { given result.notice ≡ member_in (codes "notice") (tree_of value.now) }
+    ensures auction { given result.auction ≡ member_in (codes "auction") (tree_of value.now) }
+    ensures bid { given result.bid ≡ member_in (codes "bid") (tree_of value.now) }
+    ensures tick { given result.tick ≡ member_in (codes "tick") (tree_of value.now) }
+    ensures budget { given result.budget ≡ member_in (codes "budget") (tree_of value.now) }
+    ensures seat { given result.seat ≡ member_in (codes "seat") (tree_of value.now) }
+    ensures cid { given result.cid ≡ member_in (codes "cid") (tree_of value.now) }
+    ensures change { given result.change ≡ member_in (codes "change") (tree_of value.now) }
 {
     let mut ask: Option<&Json> = None;
     let mut answers: Option<&Json> = None;
@@ -82,7 +83,7 @@ pub(crate) fn line_members(value: &Json) -> LineMembers<'_>
 
 /// The whole number of at most `most` that a value is.
 pub(crate) fn whole_in(value: Option<&Json>, most: u64) -> Option<u64>
-    ensures value { result ≡ whole_by most (number_by (option_map (λ t. tree_of t.now) value.entry)) }
+    ensures value { result ≡ whole_by most (number_by (given value.entry)) }
     ensures small { IfSome result (λ n. n ≤ most) }
 {
     whole_up_to(number_in(value)?.as_bytes(), most)
@@ -90,7 +91,7 @@ pub(crate) fn whole_in(value: Option<&Json>, most: u64) -> Option<u64>
 
 /// The moment of an ask; 0 where none is given.
 pub(crate) fn ask_moment(value: Option<&Json>) -> Option<u64>
-    ensures value { result ≡ ask_moment_by (option_map (λ t. tree_of t.now) value.entry) }
+    ensures value { result ≡ ask_moment_by (given value.entry) }
     ensures small { IfSome result (λ n. n ≤ LATEST_MOMENT) }
 {
     if value.is_none() {
@@ -101,7 +102,7 @@ pub(crate) fn ask_moment(value: Option<&Json>) -> Option<u64>
 
 /// The answers that a line gives for so many bidders. None where they aren't of their form.
 pub(crate) fn answers_in(value: Option<&Json>, bidders: usize) -> Option<&[Json]>
-    ensures value { option_map (λ ts. trees_of ts.now) result ≡ answers_by bidders (option_map (λ t. tree_of t.now) value.entry) }
+    ensures value { option_map (λ ts. trees_of ts.now) result ≡ answers_by bidders (given value.entry) }
     ensures few { IfSome result (λ ts. length ts.now ≤ bidders) }
 {
     match value {

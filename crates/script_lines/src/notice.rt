@@ -1,10 +1,11 @@
 //! Notices of a script.
-ghost use Rattle.std.specs.Prelude.{◌≡◌, option_map, IfOk};
+ghost use Rattle.std.specs.Prelude.{◌≡◌, IfOk};
 ghost use Rattle.adx_json.specs.View.{tree_of};
 ghost use Rattle.tree_view.specs.Values.{text_in as text_by};
 ghost use Rattle.script_lines.specs.Members.{kind_named as kind_by_word, kind_in, award_in};
 ghost use Rattle.script_lines.specs.Meanings.{notice_meaning};
 ghost use Rattle.script_lines.specs.Found.{meaning_of_notice};
+ghost use Rattle.deal_floor.specs.Reading.{given};
 
 use crate::limits::LAST_AWARD;
 use crate::members::whole_in;
@@ -44,7 +45,8 @@ pub(crate) fn notice_of(
     auction: Option<&Json>,
     award: Option<&Json>,
 ) -> Result<Option<Notice>, OutOfMemory>
-    ensures { IfOk result (λ found. meaning_of_notice found ≡ notice_meaning (kind_in (tree_of kind.now)) (text_by (option_map (λ t. tree_of t.now) auction.entry)) (award_in (option_map (λ t. tree_of t.now) award.entry))) }
+    ensures { IfOk result (λ found. meaning_of_notice found
+        ≡ notice_meaning (kind_in (tree_of kind.now)) (text_by (given auction.entry)) (award_in (given award.entry))) }
 {
     let Some(word) = text_in(Some(kind)) else {
         return Ok(None);
