@@ -14,14 +14,15 @@ use Rattle.day_rules.specs.declared.entry.Entry.{Entry}
 use Rattle.day_rules.specs.Laws.{Arrival, arrival_reply}
 use Rattle.day_rules.specs.Legal.{IsLegal}
 use Rattle.deal_floor.specs.declared.roster.Roster.{Roster}
-use Rattle.script_day.specs.OnDisk.{history_after}
-use Rattle.exchange_http.specs.Records.{RunsOn}
-use Rattle.exchange_http.specs.Running.{AreOutcomes, IsOutcome, TakesNotices, told_all, told_by}
-use Rattle.exchange_http.proofs.RunsCalls.{runs_none}
-use Rattle.exchange_http.proofs.RunsJoined.{runs_join}
-use Rattle.exchange_http.proofs.RunsOfCalls.{runs_notice}
-use Rattle.exchange_http.proofs.RunsOutcomes.{outcomes_in_turn, outcomes_more, told_more}
-use Rattle.exchange_http.proofs.RunsTogether.{batch_done, batch_given_up}
+use Rattle.desk_runs.specs.OnDisk.{history_after}
+use Rattle.desk_runs.specs.Records.{RunsOn}
+use Rattle.exchange_http.specs.Running.{AreOutcomes, IsOutcome, TakesNotices}
+use Rattle.desk_runs.specs.Told.{told_all, told_by}
+use Rattle.desk_runs.proofs.RunsCalls.{runs_none}
+use Rattle.desk_runs.proofs.RunsJoined.{runs_join}
+use Rattle.desk_runs.proofs.RunsOfCalls.{runs_notice}
+use Rattle.desk_runs.proofs.RunsOutcomes.{outcomes_in_turn, outcomes_more, told_more}
+use Rattle.desk_runs.proofs.RunsTogether.{batch_done, batch_given_up}
 
 -- the outcome of one call
 outcome_of : (r : Roster) (history : List Entry) (x : Arrival) (result : Result Answer DeskFault) → IfOk result (λ (a : Answer). a ≡ (arrival_reply history x).answer) → IsOutcome r history x (result_ok result)

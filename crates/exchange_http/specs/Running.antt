@@ -24,12 +24,13 @@ use Rattle.http_grammar.specs.declared.fault.HttpFault.{HttpFault}
 use Rattle.http_service.specs.Connections.{AreSpent, Brings, BringsLast, CloseLast, Gave, GoOn, TookFront}
 use Rattle.http_service.specs.Replies.{answer_bytes}
 use Rattle.http_service.specs.declared.limits.TheConstants.{MESSAGE_LIMIT, REQUEST_LIMIT}
-use Rattle.script_day.specs.Meanings.{Told}
-use Rattle.script_day.specs.OnDisk.{history_after}
+use Rattle.desk_runs.specs.Meanings.{Told}
+use Rattle.desk_runs.specs.OnDisk.{history_after}
 use Rattle.exchange_messages.specs.Courses.{AnswersOn, GivesUpOn, begun}
 use Rattle.exchange_http.specs.Gathered.{Moves, Replied, count_of}
 use Rattle.exchange_messages.specs.Meanings.{Means, notifies}
-use Rattle.exchange_http.specs.Records.{RunsOn, call_by}
+use Rattle.desk_runs.specs.Records.{RunsOn}
+use Rattle.desk_calls.specs.Together.{call_by}
 use Rattle.exchange_messages.specs.Outcomes.{outcome_reply}
 use Rattle.exchange_messages.specs.Replies.{Reply}
 use Rattle.exchange_http.specs.Serving.{AreLanes, EndsWith, IsAny}
