@@ -52,7 +52,8 @@ MayEnd None result = EndsHeadless result
 MayEnd (Some (bidder, now)) result = EndsServing result
 
 -- A bidder ran so over a source and a sink.
-pub record BidderRuns {S K : Type 0} (s : source.Ghosts S) (k : sink.Ghosts K) (old new : S) (sink_old sink_new : K) (result : Result Outcome Stop) : Type 0 where
+pub record BidderRuns {S K : Type 0} (s : source.Ghosts S) (k : sink.Ghosts K) (old new : S) (sink_old sink_new : K)
+    (result : Result Outcome Stop) : Type 0 where
   pub course : Option (BidderState × BidderState)
   pub ends : MayEnd course result
   pub runs : Runs s k (bidder_command course) old new sink_old sink_new result

@@ -1,16 +1,15 @@
 //! A bidder's run: its price line, and the connection after it.
-ghost use Rattle.std.specs.Prelude.{◌≡◌, ◌≢◌, ◌≤◌, length};
-ghost use Rattle.adx_io.specs.Lines.{TookLast, tape_behind};
+ghost use Rattle.std.specs.Prelude.{◌≡◌, ◌≤◌, [], length};
+ghost use Rattle.adx_io.specs.Lines.{TookLast};
 ghost use Rattle.adx_io.specs.Talk.{HasCauses};
 ghost use Rattle.adx_io.specs.TalkState.{place_of, state_of};
 ghost use Rattle.adx_io.specs.declared.line_buffer.TheConstants.{CHUNK};
-ghost use Rattle.bidder_http.specs.Messages.{BidderAnswers, BidderGivesUp};
 ghost use Rattle.command_runs.specs.Talks.{TalkWrote};
 ghost use Rattle.connection_runs.specs.Connections.{EndsServing};
 ghost use Rattle.http_connection.specs.declared.conn.ConnEnd.TheVariants.{ReadFault as ConnReadFault};
-ghost use Rattle.http_service.specs.Connections.{EndsWith, HasCauses as ConnCauses};
-ghost use Rattle.http_service.specs.declared.limits.TheConstants.{REQUEST_LIMIT as request_limit};
+ghost use Rattle.http_service.specs.Connections.{HasCauses as ConnCauses};
 ghost use Rattle.command_bidder.specs.Bidders.{BidderRuns, serves};
+ghost use Rattle.command_bidder.specs.Serving.{ServedRest};
 
 use crate::prices::{prices_of, push_prices_lack};
 use adx_io::{LineBuffer, Lines, Sink, Source, Stop, Talk};
@@ -36,7 +35,7 @@ fn serve_rest<S: Source, K: Sink>(
     ensures last { TookLast (S.tape source.new) buffer.new.pending }
     ensures ahead { length buffer.new.pending ≤ CHUNK }
     ensures read_out { result ≡ ConnReadFault → buffer.new.pending ≡ [] }
-    ensures ends { EndsWith BidderAnswers BidderGivesUp request_limit (tape_behind buffer.old.pending (S.tape source.old)) (tape_behind buffer.new.pending (S.tape source.new)) (K.held sink.old) (K.held sink.new) bidder.old bidder.new result }
+    ensures ends { ServedRest S.Source K.Sink source.old source.new buffer.old buffer.new sink.old sink.new bidder.old bidder.new result }
     ensures causes { ConnCauses (S.faults source.old) (S.faults source.new) (K.faults sink.old) (K.faults sink.new) result }
     ensures source_same { S.place source.new ≡ S.place source.old }
     ensures sink_same { K.place sink.new ≡ K.place sink.old }

@@ -6,7 +6,7 @@ use Rattle.bidder_core.specs.Seen.{BidderState}
 use Rattle.command_runs.specs.declared.limits.TheConstants.{LINE_LIMIT}
 use Rattle.script_lines.specs.declared.refusal.RosterRefusal.{RosterRefusal}
 use Rattle.price_lines.specs.declared.fault.PricesFault.{PricesFault}
-use Rattle.price_lines.specs.PriceLines.{FindsPriceLine, IsPriceLine, RefusesPriceLine}
+use Rattle.price_lines.specs.PriceLines.{IsPriceLine, RefusesPriceLine}
 
 -- the document begins with this line and its newline
 abbrev pub IsFirstLine : List ℕ → List ℕ → Type 0

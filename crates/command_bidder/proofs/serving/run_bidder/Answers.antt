@@ -2,5 +2,5 @@
 use Rattle.command_bidder.proofs.Bidders.{bidder_runs}
 use Rattle.command_bidder.proofs.serving.run_bidder.Goals as goal
 
-pub returns-clause-runs : goal.returns-clause-runs
-returns-clause-runs g c = bidder_runs g.S.Source g.K.Sink _ _ _ _ _ _ c.run_led.result c.run_led.ensures.runs
+pub returns : goal.returns
+returns g c = bidder_runs g.S.Source g.K.Sink _ _ _ _ _ _ c.run_led.result c.run_led.ensures.runs
