@@ -1,15 +1,15 @@
 -- Bytes that are put in pieces, and what is printed by them.
-use Rattle.std.proofs.Common.{◌≡◌, ◌∙◌, ℕ, List, ◌++◌, Option, Result, Ok, Err, IfErr, OnErr, OnOk, inr, sym, ap, subst, append_assoc}
+use Rattle.std.proofs.Common.{◌≡◌, ◌∙◌, ℕ, List, [], ◌++◌, Option, Result, Ok, Err, IfErr, OnErr, OnOk, inr, refl, sym, ap, subst, append_assoc, append-nil}
 use Rattle.adx_io.specs.Streams.{Took}
 use Rattle.adx_io.specs.declared.stop.Stop.{Stop}
 use Rattle.adx_io.specs.Talk.{PutsAll, PutsSome, TalkState}
-use Rattle.adx_io.proofs.Moved.{took_both}
+use Rattle.adx_io.proofs.Moved.{took_both, took_none}
 use Rattle.command_runs.specs.Meanings.{TookPrefix}
 use Rattle.command_runs.proofs.Ran.{some_taken}
 use Rattle.day_rules.specs.declared.entry.Entry.{Entry}
 use Rattle.deal_floor.specs.declared.roster.Roster.{Roster}
 use Rattle.history_runs.specs.Histories.{Printed, Prints}
-use Rattle.command_close.specs.Putting.{PutsBytes}
+use Rattle.history_runs.specs.Putting.{PutsBytes, PutsFront, PutsPiece}
 
 -- some bytes were put, and then a prefix of more
 prefix_more : (held mid now : Option (List ℕ)) (first more : List ℕ) → Took held mid first → TookPrefix mid now more → TookPrefix held now (first ++ more)
@@ -46,3 +46,39 @@ printed_by prints r history held now bytes (Ok done) is puts = (bytes, is, puts)
 printed_by prints r history held now bytes (Err Stop.ReadFault) is puts = absurd puts
 printed_by prints r history held now bytes (Err Stop.WriteFault) is puts = (bytes, is, puts)
 printed_by prints r history held now bytes (Err Stop.OutOfMemory) is puts = inr (bytes, is, puts)
+
+-- memory was refused before more was written
+pub puts_none : (held : Option (List ℕ)) (bytes : List ℕ) → PutsBytes held held bytes (Err Stop.OutOfMemory)
+puts_none held bytes = ([], bytes, refl, took_none held)
+
+-- nothing was put yet, and all is still to be put
+pub front_none : (held : Option (List ℕ)) (bytes : List ℕ) → PutsFront held held bytes bytes
+front_none held bytes = record { front = []; took = took_none held; split = refl }
+
+-- the rest of some bytes was put behind their front, or a prefix of it
+pub puts_behind : (held mid now : Option (List ℕ)) (bytes rest : List ℕ) (result : Result (Unit {0}) Stop) → PutsFront held mid bytes rest → PutsBytes mid now rest result → PutsBytes held now bytes result
+puts_behind held mid now bytes rest result before puts =
+    subst (λ (b : List ℕ). PutsBytes held now b result) (sym before.split) (puts_more held mid now before.front rest result before.took puts)
+
+-- more was written behind the rest, and a front of both was put
+pub front_on : (held mid now : Option (List ℕ)) (bytes between more rest : List ℕ) → PutsFront held mid bytes between → PutsFront mid now (between ++ more) rest → PutsFront held now (bytes ++ more) rest
+front_on held mid now bytes between more rest before step = record {
+  front = before.front ++ step.front;
+  took = took_both held mid now before.front step.front before.took step.took;
+  split = ap (λ (b : List ℕ). b ++ more) before.split ∙ append_assoc before.front between more
+      ∙ ap (λ (b : List ℕ). before.front ++ b) step.split ∙ sym (append_assoc before.front step.front rest);
+}
+
+-- the run was cut short at it, so that of all that was to come a prefix was put
+pub stops_on : (held mid now : Option (List ℕ)) (bytes between more others : List ℕ) (stop : Stop) → PutsFront held mid bytes between → PutsBytes mid now (between ++ more) (Err stop)
+    → PutsBytes held now ((bytes ++ more) ++ others) (Err stop)
+stops_on held mid now bytes between more others stop before step =
+    puts_first held now (bytes ++ more) others stop
+    (subst (λ (b : List ℕ). PutsBytes held now b (Err stop)) (sym (append_assoc before.front between more) ∙ ap (λ (b : List ℕ). b ++ more) (sym before.split))
+    (puts_more held mid now before.front (between ++ more) (Err stop) before.took step))
+
+-- what was written was put, once it was a piece
+pub piece_put : (before now : TalkState) (result : Result (Unit {0}) Stop) → OnOk result (PutsAll before now) → IfErr result (λ stop. stop ≡ Stop.WriteFault) → OnErr result (PutsSome before now)
+    → PutsPiece before.held now.held before.out now.out result
+piece_put before now (Ok done) all fault part = record { front = before.out; took = all.took; split = sym (append-nil before.out) ∙ ap (λ (r : List ℕ). before.out ++ r) (sym all.none) }
+piece_put before now (Err stop) all fault part = puts_out before now before.out (Err stop) refl all fault part
