@@ -1,8 +1,8 @@
 -- The day's terms are the roster's.
 use Rattle.std.proofs.Common.{◌∙◌, ◌++◌, length, ap, sym, string_bytes}
 use Rattle.answer_lines.specs.Table.{closing_table}
-use Rattle.script_day.proofs.AnswerLaws.{budgets_counted}
-use Rattle.script_day.proofs.script.push_books.Goals as goal
+use Rattle.desk_runs.proofs.Terms.{budgets_counted}
+use Rattle.desk_runs.proofs.table.push_books.Goals as goal
 
 pub push_campaigns-requires : goal.push_campaigns-requires
 push_campaigns-requires g c = budgets_counted c.args.roster.now c.args.desk.now.desk.terms.day c.requires ∙ ap (λ cs. length cs) (sym c.as_slice.ensures)

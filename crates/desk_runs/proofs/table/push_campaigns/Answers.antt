@@ -5,7 +5,7 @@ use Rattle.day_rules.specs.Books.{ask_count, awards_of}
 use Rattle.day_rules.specs.Terms.{budgets_after}
 use Rattle.day_rules.proofs.Budgets.{budgets_length}
 use Rattle.day_rules.proofs.Money.{accounts_length}
-use Rattle.script_day.proofs.script.push_campaigns.Goals as goal
+use Rattle.desk_runs.proofs.table.push_campaigns.Goals as goal
 
 pub push_table-requires-clause-rows : goal.push_table-requires-clause-rows
 push_table-requires-clause-rows g c =
