@@ -10,4 +10,5 @@ pub mod RunsOfCalls
 pub mod RunsOutcomes
 pub mod RunsRecords
 pub mod RunsTogether
+pub mod Terms
 pub mod ToldAnswers
