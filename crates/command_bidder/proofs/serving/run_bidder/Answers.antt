@@ -3,4 +3,4 @@ use Rattle.command_bidder.proofs.Bidders.{bidder_runs}
 use Rattle.command_bidder.proofs.serving.run_bidder.Goals as goal
 
 pub returns : goal.returns
-returns g c = bidder_runs g.S.Source g.K.Sink _ _ _ _ _ _ c.run_led.result c.run_led.ensures.runs
+returns g c = record { runs = bidder_runs g.S.Source g.K.Sink _ _ _ _ _ _ c.run_led.result c.run_led.ensures.runs }
