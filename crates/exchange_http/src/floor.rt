@@ -27,7 +27,7 @@ use exchange_messages::{ChangeTexts, Other, Refusal, push_meters, refuse};
 use fan_out::Lane;
 use http_service::{Answer as HttpAnswer, plain};
 use rtb_request::{BidRequest, RequestFault};
-use script_day::push_books;
+use desk_runs::push_books;
 use script_lines::read_change;
 use std::alloc::Global;
 
