@@ -5,12 +5,12 @@ use Rattle.adx_io.specs.declared.disk.Disk as disks
 use Rattle.adx_io.specs.declared.sink.Sink as sinks
 use Rattle.adx_io.specs.declared.source.Source as sources
 use Rattle.adx_io.specs.declared.stop.Stop.{Stop}
-use Rattle.bidder_day.specs.Bidding.{EndsBidder}
-use Rattle.bidder_day.proofs.Ends.{unbegun as unattended}
+use Rattle.command_bidder.specs.Bidders.{bidder_command}
 use Rattle.command_archive.proofs.Unbegun.{unkept, unlisted_days}
 use Rattle.command_check.proofs.Ended.{unbegun as unchecked}
 use Rattle.command_close.specs.ClosedDays.{IsClosedDay}
 use Rattle.command_close.specs.Guarantees.{IsGuarantee}
+use Rattle.command_notices.specs.PostLines.{AreNotices}
 use Rattle.command_runs.specs.Statuses.{status_by}
 use Rattle.command_runs.specs.declared.outcome.Outcome.{Outcome}
 use Rattle.command_runs.proofs.Ran.{unbegun_wrote}
@@ -24,9 +24,8 @@ use Rattle.desk_runs.specs.Courses.{unopened}
 use Rattle.script_day.specs.declared.ending.Ending.{Ending}
 use Rattle.script_day.proofs.Days.{unbegun as unserved}
 use Rattle.adx_books.specs.GeneratedEnds.{ServesGenerated}
-use Rattle.adx_notices.proofs.Ends.{unbegun as unprinted}
 use Rattle.exchange_day.proofs.Ends.{unbegun as unconnected}
-use Rattle.adx_commands.specs.Commands.{Does, DoesAsRead, IsCommand, Outside, Runs, RunsPrint}
+use Rattle.adx_commands.specs.Commands.{Does, DoesAsRead, IsCommand, Outside, Runs, RunsBidder, RunsPrint}
 use Rattle.adx_commands.specs.Statuses.{status_of}
 
 -- ---- the status of words that are no command
@@ -77,8 +76,14 @@ still source sink disk keeper = record {
 }
 
 module _ {S K D P : Type 0} (s : sources.Ghosts S) (k : sinks.Ghosts K) (d : disks.Ghosts D) (p : keepers.Ghosts P) (source : S) (sink : K) (disk : D) (keeper : P) where
-  bidder_unserved : EndsBidder (s.tape source) (s.tape source) (k.held sink) (k.held sink) no_memory
-  bidder_unserved = unattended (s.tape source) (k.held sink)
+  bidder_unserved : RunsBidder (s.tape source) (s.tape source) (k.held sink) (k.held sink) 12
+  bidder_unserved = record {
+    course = None;
+    ended = Err Stop.OutOfMemory;
+    told = refl;
+    ends = tt;
+    wrote = unbegun_wrote (bidder_command None) (s.tape source) (k.held sink) (λ left. (refl, inr (([], All-nil (λ b. b ≢ 10), inl ([], zero-le, refl)), refl)));
+  }
 
   generated_untaken : (seed asks : ℕ) → ServesGenerated d.faults d.reads d.may_leave d.moment d.left_since seed asks (k.held sink) (k.held sink) disk disk no_memory
   generated_untaken seed asks = record { course = unopened; ends = (refl, refl); on_disk = refl }
@@ -96,8 +101,8 @@ module _ {S K D P : Type 0} (s : sources.Ghosts S) (k : sinks.Ghosts K) (d : dis
   unstarted : (read : Option Command) → Runs s k d p (still source sink disk keeper) 12 read
   unstarted (Some (Command.Day journal)) = record { ending = no_memory; told = refl; serves = unserved d.faults d.reads d.may_leave d.moment d.left_since (s.tape source) (k.held sink) disk }
   unstarted (Some (Command.Connection journal)) = record { ending = no_memory; told = refl; ends = unconnected d.faults d.reads d.may_leave d.moment d.left_since (s.tape source) (k.held sink) disk }
-  unstarted (Some (Command.Notices journal)) = record { ending = no_memory; told = refl; ends = unprinted d.faults d.reads d.may_leave d.moment d.left_since (s.tape source) (k.held sink) disk }
-  unstarted (Some Command.Bidder) = record { ending = no_memory; told = refl; ends = bidder_unserved }
+  unstarted (Some (Command.Notices journal)) = unclosed AreNotices
+  unstarted (Some Command.Bidder) = bidder_unserved
   unstarted (Some (Command.Close journal false)) = unclosed IsClosedDay
   unstarted (Some (Command.Close journal true)) = unclosed IsGuarantee
   unstarted (Some (Command.Generate seed asks)) = record { ending = no_memory; told = refl; serves = generated_untaken seed asks }
@@ -119,8 +124,8 @@ module _ {S K D P : Type 0} (s : sources.Ghosts S) (k : sinks.Ghosts K) (d : dis
   not_refused : (command : Command) → Runs s k d p o 2 (Some command) → ⊥
   not_refused (Command.Day journal) runs = not_two runs.ending runs.told
   not_refused (Command.Connection journal) runs = not_two runs.ending runs.told
-  not_refused (Command.Notices journal) runs = not_two runs.ending runs.told
-  not_refused Command.Bidder runs = not_two runs.ending runs.told
+  not_refused (Command.Notices journal) runs = not_two_by runs.ended runs.told
+  not_refused Command.Bidder runs = not_two_by runs.ended runs.told
   not_refused (Command.Close journal false) runs = not_two_by runs.ended runs.told
   not_refused (Command.Close journal true) runs = not_two_by runs.ended runs.told
   not_refused (Command.Generate seed asks) runs = not_two runs.ending runs.told

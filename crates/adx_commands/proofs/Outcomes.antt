@@ -2,6 +2,9 @@
 use Rattle.std.proofs.Common.{◌≡◌, ◌⊎◌, ◌∙◌, inl, inr, sym, ap, subst, refl, ℕ, Option, Result, Ok, Err, arith}
 use Rattle.adx_io.specs.declared.disk.Disk as disks
 use Rattle.adx_io.specs.declared.stop.Stop.{Stop}
+use Rattle.bidder_core.specs.Seen.{BidderState}
+use Rattle.command_bidder.specs.Bidders.{MayEnd}
+use Rattle.command_bidder.proofs.Bidders.{no_disk_fault}
 use Rattle.command_runs.specs.Runs.{HasRunCauses}
 use Rattle.command_runs.specs.Statuses.{status_by}
 use Rattle.command_runs.specs.declared.outcome.Outcome.{Outcome}
@@ -99,3 +102,11 @@ counted_print d course old new result status left told = record {
     passed : (status_by result ≡ 0) ⊎ (status_by result ≡ 7) → (result ≡ Ok Outcome.Done) ⊎ (result ≡ Ok Outcome.NoHistory)
     passed (inl is) = inl (done_at result is)
     passed (inr is) = inr (no_history_at result is)
+
+-- a bidder's run meets no disk
+pub counted_bidder : (count : ℕ) (course : Option (BidderState × BidderState)) (result : Result Outcome Stop) (status : ℕ) → MayEnd course result → status ≡ status_by result → HasDiskCauses count count status
+counted_bidder count course result status ends told = record {
+  disk_fault = λ is. absurd (no_disk_fault course result ends (disk_failed result (sym told ∙ is)));
+  disk_passed = λ either. refl;
+  disk_later = omega arith;
+}

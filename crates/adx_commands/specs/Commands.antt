@@ -7,14 +7,15 @@ use Rattle.adx_io.specs.declared.disk.Disk as disks
 use Rattle.adx_io.specs.declared.stop.Stop.{Stop}
 use Rattle.adx_io.specs.declared.sink.Sink as sinks
 use Rattle.adx_io.specs.declared.source.Source as sources
-use Rattle.adx_notices.specs.Notices.{EndsNotices}
-use Rattle.bidder_day.specs.Bidding.{EndsBidder}
+use Rattle.bidder_core.specs.Seen.{BidderState}
+use Rattle.command_bidder.specs.Bidders.{MayEnd, bidder_command}
 use Rattle.command_archive.specs.Keeps.{KeepsAs}
 use Rattle.command_archive.specs.Lists.{ListsAs}
 use Rattle.command_archive.specs.declared.list.Query.{Query}
 use Rattle.command_check.specs.Runs.{ChecksInput}
 use Rattle.command_close.specs.ClosedDays.{IsClosedDay}
 use Rattle.command_close.specs.Guarantees.{IsGuarantee}
+use Rattle.command_notices.specs.PostLines.{AreNotices}
 use Rattle.command_runs.specs.Firsts.{LeavesFirst}
 use Rattle.command_runs.specs.Meanings.{Wrote}
 use Rattle.command_runs.specs.Statuses.{status_by}
@@ -102,11 +103,15 @@ pub record RunsConnection {D : Type 0} (d : disks.Ghosts D) (tape tape_now : Opt
   pub told : status ≡ status_of ending
   pub ends : EndsExchange d.faults d.reads d.may_leave d.moment d.left_since tape tape_now held held_now old new ending
 
--- A bidder's run ended so over a source and a sink, told by the exit status.
+-- A bidder's run ended so over a source and a sink, told by the exit status. The course is the bidder of the first line, if
+-- there is one, and what the connection left of it.
 pub record RunsBidder (tape tape_now : Option Tape) (held held_now : Option (List ℕ)) (status : ℕ) : Type 0 where
-  pub ending : Result (Unit {0}) Ending
-  pub told : status ≡ status_of ending
-  pub ends : EndsBidder tape tape_now held held_now ending
+  pub course : Option (BidderState × BidderState)
+  pub ended : Result Outcome Stop
+  pub told : status ≡ status_by ended
+  pub ends : MayEnd course ended
+  pub wrote : WhereTold tape tape_now
+      (λ before now. Wrote (bidder_command course) before.left now.left held held_now ended)
 
 -- A generated day ended so over a sink and a disk, told by the exit status.
 pub record RunsGenerated {D : Type 0} (d : disks.Ghosts D) (seed asks : ℕ) (held held_now : Option (List ℕ))
@@ -114,13 +119,6 @@ pub record RunsGenerated {D : Type 0} (d : disks.Ghosts D) (seed asks : ℕ) (he
   pub ending : Result (Unit {0}) Ending
   pub told : status ≡ status_of ending
   pub serves : ServesGenerated d.faults d.reads d.may_leave d.moment d.left_since seed asks held held_now old new ending
-
--- The notices of a day were printed over a source, a sink and a disk, told by the exit status.
-pub record RunsNotices {D : Type 0} (d : disks.Ghosts D) (tape tape_now : Option Tape) (held held_now : Option (List ℕ))
-    (old new : D) (status : ℕ) : Type 0 where
-  pub ending : Result (Unit {0}) Ending
-  pub told : status ≡ status_of ending
-  pub ends : EndsNotices d.faults d.reads d.may_leave d.moment d.left_since tape tape_now held held_now old new ending
 
 -- Something of the day that a journal keeps was printed over a source, a sink and a disk, told by the exit status. The course
 -- is what came of the roster and of its day; by it, what became of the disk, and what was written for the input.
@@ -166,7 +164,7 @@ module _ {S K D P : Type 0} (s : sources.Ghosts S) (k : sinks.Ghosts K) (d : dis
   Runs (Some (Command.Connection journal)) =
       RunsConnection d (s.tape o.source) (s.tape o.source_now) (k.held o.sink) (k.held o.sink_now) o.disk o.disk_now status
   Runs (Some (Command.Notices journal)) =
-      RunsNotices d (s.tape o.source) (s.tape o.source_now) (k.held o.sink) (k.held o.sink_now) o.disk o.disk_now status
+      RunsPrint d AreNotices (s.tape o.source) (s.tape o.source_now) (k.held o.sink) (k.held o.sink_now) o.disk o.disk_now status
   Runs (Some Command.Bidder) = RunsBidder (s.tape o.source) (s.tape o.source_now) (k.held o.sink) (k.held o.sink_now) status
   Runs (Some (Command.Close journal false)) =
       RunsPrint d IsClosedDay (s.tape o.source) (s.tape o.source_now) (k.held o.sink) (k.held o.sink_now) o.disk o.disk_now status

@@ -8,23 +8,24 @@ ghost use Rattle.command_check.specs.Checks.{HasOneAnswer};
 ghost use Rattle.command_check.specs.Runs.{AcceptsInput, ChecksInput};
 ghost use Rattle.command_close.specs.ClosedDays.{HasOneDocument, IsClosedDay};
 ghost use Rattle.command_close.specs.Guarantees.{HasOneGuarantee, IsGuarantee};
+ghost use Rattle.command_notices.specs.PostLines.{AreNotices};
 ghost use Rattle.command_words.specs.Helps.{help_text, version_text};
 ghost use Rattle.command_words.specs.Meanings.{HasFewAsks, IsPlain};
 ghost use Rattle.command_words.specs.declared.command.Command.{Command as Meaning};
 ghost use Rattle.command_words.specs.declared.command.Topic.{Topic as HelpTopic};
 ghost use Rattle.script_day.specs.Days.{HasOneOutput, HasOutputs};
 ghost use Rattle.adx_commands.specs.Statuses.{HasCauses, HasDiskCauses};
-ghost use Rattle.adx_commands.specs.Commands.{AsksNothing, Does, DoesAsRead, IsArchive, IsArchiveList, IsArchivePut, IsBidder, IsCheck, IsClose, IsCommand, IsConnection, IsDay, IsGenerated, IsHelp, IsNotices, IsRatio, IsVersion, LeavesDisk, LeavesKeeper, Runs, RunsBidder, RunsConnection, RunsDay, RunsGenerated, RunsNotices, RunsPrint, Tells};
+ghost use Rattle.adx_commands.specs.Commands.{AsksNothing, Does, DoesAsRead, IsArchive, IsArchiveList, IsArchivePut, IsBidder, IsCheck, IsClose, IsCommand, IsConnection, IsDay, IsGenerated, IsHelp, IsNotices, IsRatio, IsVersion, LeavesDisk, LeavesKeeper, Runs, RunsBidder, RunsConnection, RunsDay, RunsGenerated, RunsPrint, Tells};
 
 use crate::status::{DONE, NO_COMMAND, OUT_OF_MEMORY, WRITE_FAULT, status_of, status_of_outcome};
 use adx_books::{Generator, serve_generated};
 use adx_io::{Disk, Sink, Source, put_all};
-use adx_notices::serve_notices;
 use adx_units::Text;
-use bidder_day::serve_prices;
 use command_archive::{Query, keep_day, list_days_of};
+use command_bidder::run_bidder;
 use command_check::check_input;
 use command_close::{close_journal, measure_journal};
+use command_notices::print_notices;
 use command_words::{Command, VERSION, command_of, help_of};
 use day_archive::Keeper;
 use exchange_day::serve_exchange;
@@ -86,12 +87,12 @@ fn run<S: Source, K: Sink, D: Disk, P: Keeper>(
             status_of(ended)
         }
         Some(Command::Notices { .. }) => {
-            let ended = serve_notices(alloc, source, sink, disk);
-            status_of(ended)
+            let ended = print_notices(alloc, source, sink, disk);
+            status_of_outcome(ended)
         }
         Some(Command::Bidder) => {
-            let ended = serve_prices(alloc, source, sink);
-            status_of(ended)
+            let ended = run_bidder(alloc, source, sink);
+            status_of_outcome(ended)
         }
         Some(Command::Close { ratio: false, .. }) => {
             let ended = close_journal(alloc, source, sink, disk);
@@ -237,7 +238,7 @@ pub fn adx<S: Source, K: Sink, D: Disk, P: Keeper>(
     ensures generated { (seed asks : ℕ) → IsGenerated words.now seed asks →
         RunsGenerated D.Disk seed asks (K.held sink.old) (K.held sink.new) disk.old disk.new result }
     ensures notices { IsNotices words.now →
-        RunsNotices D.Disk (S.tape source.old) (S.tape source.new) (K.held sink.old) (K.held sink.new) disk.old disk.new result }
+        RunsPrint D.Disk AreNotices (S.tape source.old) (S.tape source.new) (K.held sink.old) (K.held sink.new) disk.old disk.new result }
     ensures close { IsClose words.now →
         RunsPrint D.Disk IsClosedDay (S.tape source.old) (S.tape source.new) (K.held sink.old) (K.held sink.new) disk.old disk.new result }
     ensures ratio { IsRatio words.now →

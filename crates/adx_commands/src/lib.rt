@@ -3,7 +3,7 @@
 //! `adx` does what the words of a command line ask for, over a source, a sink, a disk and a keeper of closed days, and gives
 //! the exit status; its contract is the program's. `kept_by_words` says where the journal or the archive of a command is kept.
 //! Stands on `command_words`, which reads the words, and on the crates of the commands: `script_day`, `exchange_day`,
-//! `adx_notices`, `bidder_day`, `adx_books`, `command_close`, `command_check` and `command_archive`.
+//! `command_notices`, `command_bidder`, `adx_books`, `command_close`, `command_check` and `command_archive`.
 #![tactic(auto)]
 
 mod anew;

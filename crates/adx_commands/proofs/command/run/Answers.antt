@@ -1,6 +1,7 @@
 -- The disk's count is that of the day that ran.
 use Rattle.std.proofs.Common.{arith, refl, rules, ◌≡◌, ◌⊎◌, ◌∙◌, sym, subst}
 use Rattle.desk_runs.proofs.DiskCounts.{day_later}
+use Rattle.adx_commands.proofs.Outcomes.{counted_bidder}
 use Rattle.adx_commands.proofs.Statuses.{counted_day, is_faulted, is_passed, not_faulted}
 use Rattle.adx_commands.proofs.command.run.Goals as goal
 
@@ -47,3 +48,8 @@ returns-in-Some-ArchiveList-clause-disk_causes g c = record {
   disk_passed = λ either. refl;
   disk_later = omega arith;
 }
+
+pub returns-in-Some-Bidder-clause-disk_causes : goal.returns-in-Some-Bidder-clause-disk_causes
+returns-in-Some-Bidder-clause-disk_causes g c =
+    let ran = c.run_bidder-ended.ensures.runs in
+    counted_bidder (g.D.Disk.faults c.args.disk.now) ran.course c.run_bidder-ended.result c.status_of_outcome-in-Some-Bidder.result ran.ends c.status_of_outcome-in-Some-Bidder.ensures
