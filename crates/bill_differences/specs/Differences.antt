@@ -37,7 +37,8 @@ pub record AreDifferences (exchange bidder differences : List Bill) : Type 0 whe
 -- an auction and a price, and the two numbers
 abbrev pub difference_line : List Bill → List Bill → Bill → List ℕ
 difference_line exchange bidder b =
-    codes "{\"auction\":" ++ text_spelling b.auction ++ codes ",\"price\":" ++ decimal b.price.0 ++ codes ",\"exchange\":" ++ decimal (number_of b exchange) ++ codes ",\"bidder\":" ++ decimal (number_of b bidder) ++ codes "}\n"
+    codes "{\"auction\":" ++ text_spelling b.auction ++ codes ",\"price\":" ++ decimal b.price.0
+    ++ codes ",\"exchange\":" ++ decimal (number_of b exchange) ++ codes ",\"bidder\":" ++ decimal (number_of b bidder) ++ codes "}\n"
 
 -- what bills come to, in units
 abbrev pub sum_of : List Bill → ℕ

@@ -85,7 +85,8 @@ fn cut<'a>(bills: &'a [Bill], wanted: &Bill) -> (u64, &'a [Bill])
 fn push_differences(out: &mut String, exchange: &[Bill], bidder: &[Bill]) -> Result<(), OutOfMemory>
     requires exchange { AreRising exchange.now }
     requires bidder { AreRising bidder.now }
-    ensures { OnOk result ((differences : List BillValue) × AreDifferences exchange.now bidder.now differences × (string_bytes out.new ≡ string_bytes out.old ++ flat_map (difference_line exchange.now bidder.now) differences)) }
+    ensures { OnOk result ((differences : List BillValue) × AreDifferences exchange.now bidder.now differences
+        × (string_bytes out.new ≡ string_bytes out.old ++ flat_map (difference_line exchange.now bidder.now) differences)) }
 {
     let mut ours = exchange;
     let mut theirs = bidder;
@@ -108,7 +109,8 @@ pub fn push_reconciliation(
     exchange: Vec<Bill>,
     bidder: Vec<Bill>,
 ) -> Result<(), OutOfMemory>
-    ensures { OnOk result ((text : List ℕ) × (string_bytes out.new ≡ string_bytes out.old ++ text) × IsReconciliation exchange.items bidder.items text) }
+    ensures { OnOk result ((text : List ℕ) × (string_bytes out.new ≡ string_bytes out.old ++ text)
+        × IsReconciliation exchange.items bidder.items text) }
 {
     let mut exchange = exchange;
     let mut bidder = bidder;

@@ -8,8 +8,8 @@ use Rattle.adx_io.specs.declared.stop.Stop.{Stop}
 use Rattle.adx_desk.specs.declared.fault.DeskFault.{DeskFault}
 use Rattle.bill_differences.specs.Differences.{IsReconciliation}
 use Rattle.bill_differences.specs.declared.bill.Bill.{Bill}
-use Rattle.command_reconcile.specs.Reading.{EndsWith, PutsReconciliation, ReadsLedger}
-use Rattle.command_reconcile.specs.Reconciling.{Ending, EndsDay, EndsOpened, EndsRead, at_end, no_bidder_line, no_row_line}
+use Rattle.command_reconcile.specs.Reading.{PutsReconciliation, ReadsLedger}
+use Rattle.command_reconcile.specs.Reconciling.{EndsLedger, Ending, EndsDay, EndsOpened, EndsRead, at_end, no_bidder_line, no_row_line}
 use Rattle.command_reconcile.specs.DayBills.{day_bills}
 use Rattle.command_runs.proofs.Told.{told_ahead, told_map}
 use Rattle.command_runs.specs.Meanings.{PutsEnd, Wrote}
@@ -50,17 +50,17 @@ module _ (allowed : ℕ) (ends : Ending) (held held_now : Option (List ℕ)) whe
 module _ (owed : List Bill) (allowed : ℕ) (tape now : Option Tape) (held held_now : Option (List ℕ)) where
   -- the reconciliation of a ledger
   pub told_all : (bills : List Bill) (result : Result Outcome Stop) → WhereTold tape now (ReadsLedger allowed bills (Ok None)) → PutsReconciliation owed bills held held_now result
-      → WhereTold tape now (λ x y. Wrote (at_end allowed (EndsWith owed allowed)) x.left y.left held held_now result)
+      → WhereTold tape now (λ x y. Wrote (at_end allowed (EndsLedger owed allowed)) x.left y.left held held_now result)
   told_all bills result reads (inl (out, is, puts)) = told_map tape now (ReadsLedger allowed bills (Ok None)) _ reads (λ x y r.
-      put_wrote allowed (EndsWith owed allowed) held held_now x.left r.0 y.left out Outcome.Done result r.1 (inl (r.2, r.3, refl, subst (λ (told : List Bill). IsReconciliation owed told out) r.4 is)) puts)
-  told_all bills result reads (inr (same, refused)) = subst (λ e. WhereTold tape now (λ x y. Wrote (at_end allowed (EndsWith owed allowed)) x.left y.left held held_now e)) (sym refused)
-      (told_map tape now (ReadsLedger allowed bills (Ok None)) _ reads (λ x y r. cut_wrote allowed (EndsWith owed allowed) held held_now x.left r.0 y.left r.1 same))
+      put_wrote allowed (EndsLedger owed allowed) held held_now x.left r.0 y.left out Outcome.Done result r.1 (inl (r.2, r.3, refl, subst (λ (told : List Bill). IsReconciliation owed told out) r.4 is)) puts)
+  told_all bills result reads (inr (same, refused)) = subst (λ e. WhereTold tape now (λ x y. Wrote (at_end allowed (EndsLedger owed allowed)) x.left y.left held held_now e)) (sym refused)
+      (told_map tape now (ReadsLedger allowed bills (Ok None)) _ reads (λ x y r. cut_wrote allowed (EndsLedger owed allowed) held held_now x.left r.0 y.left r.1 same))
 
   -- the line that tells no row
   pub told_failing : (bills : List Bill) (n : ℕ) (result : Result Outcome Stop) → WhereTold tape now (ReadsLedger allowed bills (Ok (Some n))) → PutsEnd Outcome.Refused held held_now (no_row_line n) result
-      → WhereTold tape now (λ x y. Wrote (at_end allowed (EndsWith owed allowed)) x.left y.left held held_now result)
+      → WhereTold tape now (λ x y. Wrote (at_end allowed (EndsLedger owed allowed)) x.left y.left held held_now result)
   told_failing bills n result reads puts = told_map tape now (ReadsLedger allowed bills (Ok (Some n))) _ reads (λ x y r.
-      put_wrote allowed (EndsWith owed allowed) held held_now x.left r.0 y.left (no_row_line n) Outcome.Refused result r.1 (inr (n, r.2, refl, refl)) puts)
+      put_wrote allowed (EndsLedger owed allowed) held held_now x.left r.0 y.left (no_row_line n) Outcome.Refused result r.1 (inr (n, r.2, refl, refl)) puts)
 
 -- how a run ends whose last bytes were put
 pub read_by : (held held_now : Option (List ℕ)) (bytes : List ℕ) (outcome : Outcome) (result : Result Outcome Stop) → (outcome ≡ Outcome.Done) ⊎ (outcome ≡ Outcome.Refused) → PutsEnd outcome held held_now bytes result → EndsRead result
@@ -75,11 +75,11 @@ reconciled_ends owed bills held held_now result (inr (same, refused)) = subst En
 -- the bidder's place decides how the day ends
 module _ (name : List ℕ) (r : Roster) (history : List Entry) (allowed : ℕ) (tape now : Option Tape) (held held_now : Option (List ℕ)) (result : Result Outcome Stop) where
   pub with_place : (place : Option ℕ) (bidder : ℕ) (owed : List Bill) → place ≡ Some bidder → owed ≡ day_bills r.campaigns bidder history
-      → WhereTold tape now (λ x y. Wrote (at_end allowed (EndsWith owed allowed)) x.left y.left held held_now result)
+      → WhereTold tape now (λ x y. Wrote (at_end allowed (EndsLedger owed allowed)) x.left y.left held held_now result)
       → WhereTold tape now (λ x y. Wrote (at_end allowed (EndsOpened r history allowed place)) x.left y.left held held_now result)
   with_place place bidder owed is bills wrote =
       subst (λ (p : Option ℕ). WhereTold tape now (λ x y. Wrote (at_end allowed (EndsOpened r history allowed p)) x.left y.left held held_now result)) (sym is)
-      (subst (λ (b : List Bill). WhereTold tape now (λ x y. Wrote (at_end allowed (EndsWith b allowed)) x.left y.left held held_now result)) bills wrote)
+      (subst (λ (b : List Bill). WhereTold tape now (λ x y. Wrote (at_end allowed (EndsLedger b allowed)) x.left y.left held held_now result)) bills wrote)
 
 -- the roster has no such bidder
 pub no_place : (r : Roster) (history : List Entry) (allowed : ℕ) (place : Option ℕ) (pending left : List ℕ) → place ≡ None → length pending ≤ CHUNK → EndsOpened r history allowed place Outcome.Refused pending left no_bidder_line

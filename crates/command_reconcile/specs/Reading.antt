@@ -10,7 +10,6 @@ use Rattle.bidder_http.specs.Books.{ledger_text}
 use Rattle.bill_differences.specs.Differences.{IsReconciliation}
 use Rattle.bill_differences.specs.declared.bill.Bill.{Bill}
 use Rattle.command_reconcile.specs.Ledgers.{FailsAt, IsLedger, IsRow, IsRowLine, TellsNoRow, ledger_bills, row_bill}
-use Rattle.command_reconcile.specs.Reconciling.{Ending, no_row_line}
 use Rattle.command_runs.specs.Meanings.{PutsEnd}
 use Rattle.command_runs.specs.declared.outcome.Outcome.{Outcome}
 use Rattle.command_runs.specs.declared.limits.TheConstants.{INPUT_LIMIT}
@@ -42,12 +41,6 @@ ReadsLedger allowed bills (Ok (Some n)) old new = (taken : List ℕ) × (old.lef
 ReadsLedger allowed bills (Err Stop.ReadFault) old new = (taken : List ℕ) × (old.left ≡ taken ++ new.left) × (length taken ≤ allowed)
 ReadsLedger allowed bills (Err Stop.WriteFault) old new = (taken : List ℕ) × (old.left ≡ taken ++ new.left)
 ReadsLedger allowed bills (Err Stop.OutOfMemory) old new = (taken : List ℕ) × (old.left ≡ taken ++ new.left)
-
--- how a run ends that reads a ledger, whose reconciliation with these bills is written
-abbrev pub EndsWith : List Bill → ℕ → Ending
-EndsWith owed allowed outcome taken left out =
-    ((rows : List LedgerRow) × IsLedger allowed taken left rows × (outcome ≡ Outcome.Done) × IsReconciliation owed (ledger_bills rows) out)
-    ⊎ ((n : ℕ) × FailsAt allowed taken left n × (outcome ≡ Outcome.Refused) × (out ≡ no_row_line n))
 
 -- the reconciliation of these bills was put, or a prefix of it; or memory was refused before
 abbrev pub PutsReconciliation : List Bill → List Bill → Option (List ℕ) → Option (List ℕ) → Result Outcome Stop → Type 0

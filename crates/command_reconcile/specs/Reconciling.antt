@@ -10,6 +10,7 @@ use Rattle.adx_io.specs.declared.line_buffer.TheConstants.{CHUNK}
 use Rattle.adx_io.specs.declared.stop.Stop.{Stop}
 use Rattle.bidder_core.specs.declared.ledger.LedgerRow.{LedgerRow}
 use Rattle.bill_differences.specs.Differences.{IsReconciliation}
+use Rattle.bill_differences.specs.declared.bill.Bill.{Bill}
 use Rattle.command_reconcile.specs.DayBills.{day_bills, place_named}
 use Rattle.command_reconcile.specs.Ledgers.{FailsAt, IsLedger, ledger_bills}
 use Rattle.command_runs.specs.Meanings.{Meaning}
@@ -35,16 +36,16 @@ Ending = Outcome → List ℕ → List ℕ → List ℕ → Type 0
 abbrev pub IsUnread : List ℕ → Type 0
 IsUnread taken = length taken ≤ CHUNK
 
--- The ledger of the bidder at a place was read, and what is written is its reconciliation with the day's bills; or its
--- first line that fails is refused.
-abbrev pub EndsLedger : Roster → List Entry → ℕ → ℕ → Ending
-EndsLedger r history bidder allowed outcome taken left out =
-    ((rows : List LedgerRow) × IsLedger allowed taken left rows × (outcome ≡ Outcome.Done) × IsReconciliation (day_bills r.campaigns bidder history) (ledger_bills rows) out)
+-- A ledger was read, and what is written is the reconciliation of these bills with its own; or its first line that fails
+-- is refused.
+abbrev pub EndsLedger : List Bill → ℕ → Ending
+EndsLedger owed allowed outcome taken left out =
+    ((rows : List LedgerRow) × IsLedger allowed taken left rows × (outcome ≡ Outcome.Done) × IsReconciliation owed (ledger_bills rows) out)
     ⊎ ((n : ℕ) × FailsAt allowed taken left n × (outcome ≡ Outcome.Refused) × (out ≡ no_row_line n))
 
--- The same by the bidder's place in the roster; a bidder that the roster hasn't is refused before its ledger is read.
+-- The same of the bills that the bidder at a place owes in a history, by that place; a bidder that the roster hasn't is refused before its ledger is read.
 abbrev pub EndsOpened : Roster → List Entry → ℕ → Option ℕ → Ending
-EndsOpened r history allowed (Some bidder) outcome taken left out = EndsLedger r history bidder allowed outcome taken left out
+EndsOpened r history allowed (Some bidder) outcome taken left out = EndsLedger (day_bills r.campaigns bidder history) allowed outcome taken left out
 EndsOpened r history allowed None outcome taken left out = IsUnread taken × (outcome ≡ Outcome.Refused) × (out ≡ no_bidder_line)
 
 -- The same by what came of the roster's day: it was opened with a history, or not for a cause, and then the ledger isn't

@@ -45,7 +45,9 @@ sale_of w = record { ask = w.ask; campaign = w.campaign; charge = w.charge }
 -- the bill of what was sold, where a campaign of that bidder owes it
 abbrev pub owed_sale : List Campaign → ℕ → List Entry → Sale → Option Bill
 owed_sale campaigns bidder history s =
-    if is_of_bidder campaigns bidder s.campaign then option_map (λ (a : Ask). record { auction = a.auction; price = s.charge }) (ask_at history s.ask) else None
+    if is_of_bidder campaigns bidder s.campaign
+    then option_map (λ (a : Ask). record { auction = a.auction; price = s.charge }) (ask_at history s.ask)
+    else None
 
 -- the bill that an entry records, by what was sold
 abbrev pub sale_bill : List Campaign → ℕ → List Entry → List Sale → Entry → Option Bill

@@ -4,8 +4,8 @@ ghost use Rattle.adx_desk.specs.declared.fault.DeskFault.{DeskFault as DeskFault
 ghost use Rattle.adx_io.specs.Talk.{HasCauses};
 ghost use Rattle.adx_io.specs.TalkState.{place_of, state_of};
 ghost use Rattle.adx_io.specs.declared.line_buffer.TheConstants.{CHUNK};
-ghost use Rattle.command_reconcile.specs.Reading.{EndsWith, PutsReconciliation};
-ghost use Rattle.command_reconcile.specs.Reconciling.{EndsRead, LeavesDisk, at_end, no_bidder_line, no_row_line, reconciling};
+ghost use Rattle.command_reconcile.specs.Reading.{PutsReconciliation};
+ghost use Rattle.command_reconcile.specs.Reconciling.{EndsLedger, EndsRead, LeavesDisk, at_end, no_bidder_line, no_row_line, reconciling};
 ghost use Rattle.command_reconcile.specs.Runs.{RunsReconciliation};
 ghost use Rattle.command_runs.specs.Meanings.{PutsEnd};
 ghost use Rattle.command_runs.specs.Talks.{TalkWrote};
@@ -91,7 +91,7 @@ fn reconcile_bills<S: Source, K: Sink>(
 ) -> Result<Outcome, Stop>
     requires unwritten { (state_of talk.old).out ≡ [] }
     requires ahead { length talk.old.buffer.now.pending ≤ CHUNK }
-    ensures ran { TalkWrote (at_end (state_of talk.old).allowed (EndsWith owed.items (state_of talk.old).allowed)) talk.old talk.new result }
+    ensures ran { TalkWrote (at_end (state_of talk.old).allowed (EndsLedger owed.items (state_of talk.old).allowed)) talk.old talk.new result }
     ensures ends { EndsRead result }
     ensures causes { HasCauses (state_of talk.old) (state_of talk.new) result }
     ensures same { place_of talk.new ≡ place_of talk.old }
@@ -216,7 +216,8 @@ impl<D: Disk> Led for Reconciling<'_, D> {
 
     ghost meaning = { λ r allowed c. reconciling c.0 r allowed c.1 };
 
-    ghost leaves = { λ old new r c result. (c.0 ≡ old.name.now) × LeavesDisk D.Disk r c.1 old.disk.now new.disk.now result × D.lasts old.disk.now new.disk.now };
+    ghost leaves = { λ old new r c result. (c.0 ≡ old.name.now) × LeavesDisk D.Disk r c.1 old.disk.now new.disk.now result
+        × D.lasts old.disk.now new.disk.now };
 
     ghost place = { λ s. s.disk.ghost_name ∷ [] };
 
