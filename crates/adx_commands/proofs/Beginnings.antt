@@ -7,8 +7,8 @@ use Rattle.adx_books.specs.GeneratedEnds.{EndsGenerated}
 use Rattle.adx_desk.specs.Histories.{Spells}
 use Rattle.day_journal.specs.Places.{StandsFor, opened}
 use Rattle.day_rules.specs.declared.entry.Entry.{Entry}
-use Rattle.script_day.specs.Courses.{Course, given_up, served, unopened}
-use Rattle.script_day.specs.OnDisk.{CourseOn}
+use Rattle.desk_runs.specs.Courses.{Course, given_up, served, unopened}
+use Rattle.desk_runs.specs.OnDisk.{CourseOn}
 use Rattle.script_day.specs.declared.ending.Ending.{Ending}
 use Rattle.adx_commands.specs.Anew.{NothingStandsForNothing, RunsConnectionAnew, RunsDayAnew, RunsGeneratedAnew, TookGenerated, byte_disk, new_disk}
 use Rattle.adx_commands.specs.Commands.{RunsConnection, RunsDay, RunsGenerated}

@@ -20,7 +20,7 @@ use Rattle.command_words.proofs.Rows.{plain_only, some_reading}
 use Rattle.day_archive.specs.declared.keeper.Keeper as keepers
 use Rattle.history_runs.specs.Histories.{Prints}
 use Rattle.history_runs.specs.Runs.{history_command}
-use Rattle.script_day.specs.Courses.{unopened}
+use Rattle.desk_runs.specs.Courses.{unopened}
 use Rattle.script_day.specs.declared.ending.Ending.{Ending}
 use Rattle.script_day.proofs.Days.{unbegun as unserved}
 use Rattle.adx_books.specs.GeneratedEnds.{ServesGenerated}

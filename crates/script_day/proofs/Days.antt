@@ -13,10 +13,11 @@ use Rattle.script_day.specs.declared.limits.TheConstants.{INPUT_LIMIT}
 use Rattle.deal_floor.specs.declared.roster.Roster.{Roster}
 use Rattle.script_lines.specs.declared.refusal.RosterRefusal.{RosterRefusal}
 use Rattle.script_day.specs.Days.{ServesDay}
-use Rattle.script_day.specs.Courses.{Course, unopened, given_up, served, EndsBy, EndsEarly, EndsUnopened, GoesOn}
+use Rattle.desk_runs.specs.Courses.{Course, unopened, given_up, served, GoesOn}
+use Rattle.script_day.specs.Courses.{EndsBy, EndsEarly, EndsUnopened}
 use Rattle.script_day.specs.Endings.{Command, EndsWith, TookDue, TookFront, TookOfWhole, LeftBehind, LeftOver, IsDue, IsWhole}
-use Rattle.script_day.specs.Meanings.{Told}
-use Rattle.script_day.specs.OnDisk.{CourseOn}
+use Rattle.desk_runs.specs.Meanings.{Told}
+use Rattle.desk_runs.specs.OnDisk.{CourseOn}
 use Rattle.script_day.specs.Output.{roster_refused_line, unopened_line}
 use Rattle.script_day.specs.Parts.{PutsEnd, PutsUnopened, IsShortRoster, WholeFails, CutFails}
 use Rattle.script_day.specs.Firsts.{EndsRosterless, HasNoRoster, ReadsLine, StopsAt, StopsInLine}

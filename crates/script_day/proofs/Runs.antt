@@ -20,17 +20,18 @@ use Rattle.script_day.specs.declared.ending.Ending.{Ending}
 use Rattle.script_day.specs.declared.limits.TheConstants.{LINE_LIMIT}
 use Rattle.deal_floor.specs.declared.roster.Roster.{Roster}
 use Rattle.script_lines.specs.Meanings.{calls}
-use Rattle.script_day.specs.Answering.{ServesLine}
-use Rattle.script_day.specs.Calls.{HasBooks}
-use Rattle.script_day.specs.Courses.{EndsServed, EndsWhole, HasDiskFault, HasNoDiskFault, IsCutShort, one_more}
+use Rattle.desk_runs.specs.Answering.{ServesLine}
+use Rattle.desk_runs.specs.Calls.{HasBooks}
+use Rattle.script_day.specs.Courses.{EndsServed, EndsWhole, IsCutShort}
+use Rattle.desk_runs.specs.Courses.{HasDiskFault, HasNoDiskFault, one_more}
 use Rattle.script_day.specs.Endings.{EndsWith, TookDue, TookFront, TookWhole}
-use Rattle.script_day.specs.Meanings.{Answers, IsLine, Told, turns_of}
+use Rattle.desk_runs.specs.Meanings.{Answers, IsLine, Told, turns_of}
 use Rattle.script_day.specs.Output.{writing, toolong_line}
 use Rattle.script_day.specs.Parts.{PutsEnd}
 use Rattle.script_day.specs.Running.{EndsTalk, RunsOn, Running, PutsFront}
 use Rattle.script_day.specs.Script.{script_of, terms_by, closing, nothing, toolong, IsOver, WritesRun, Means}
-use Rattle.script_day.proofs.Books.{run_append, run_books}
-use Rattle.script_day.proofs.DeskRuns.{turns_append}
+use Rattle.desk_runs.proofs.Books.{run_append, run_books}
+use Rattle.desk_runs.proofs.DeskRuns.{turns_append}
 use Rattle.script_day.proofs.Putting.{puts_more, puts_on, puts_out, front_put, some_behind, end_behind, ends_put}
 use Rattle.script_day.proofs.Told.{told_start, told_behind}
 

@@ -12,15 +12,16 @@ use Rattle.day_rules.specs.declared.entry.Entry.{Entry}
 use Rattle.deal_floor.specs.declared.roster.Roster.{Roster}
 use Rattle.script_day.specs.declared.ending.Ending.{Ending}
 use Rattle.script_day.specs.declared.limits.TheConstants.{LINE_LIMIT}
-use Rattle.script_day.specs.Answering.{AnswersTo, DeskRuns, LeavesUnwritten, ServesLine}
+use Rattle.script_day.specs.Answering.{AnswersTo, LeavesUnwritten}
+use Rattle.desk_runs.specs.Answering.{DeskRuns, ServesLine}
 use Rattle.script_day.specs.Courses.{IsCutShort}
-use Rattle.script_day.specs.Meanings.{Told}
-use Rattle.script_day.specs.OnDisk.{ServesRun}
+use Rattle.desk_runs.specs.Meanings.{Told}
+use Rattle.desk_runs.specs.OnDisk.{ServesRun}
 use Rattle.script_day.specs.Output.{toolong_line}
 use Rattle.script_day.specs.Parts.{PutsEnd}
 use Rattle.script_day.specs.Running.{EndsScript, RunsDesk}
 use Rattle.script_day.specs.Script.{closing}
-use Rattle.script_day.proofs.DeskRuns.{desk_goes_on, run_ends, run_serves}
+use Rattle.desk_runs.proofs.DeskRuns.{desk_goes_on, run_ends, run_serves}
 use Rattle.script_day.proofs.Runs.{is_over, one_unwritten, run_done, run_faulted, run_more, run_past, run_starts, run_stopped, run_unanswered, served_done, served_faulted, served_past, served_stopped, unwritten_of}
 
 none_or_some : (n : ℕ) → (n ≡ 0) ⊎ (n ≢ 0)

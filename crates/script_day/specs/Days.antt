@@ -7,9 +7,10 @@ use Rattle.day_rules.specs.Legal.{IsLegal}
 use Rattle.deal_floor.specs.declared.roster.Roster.{Roster}
 use Rattle.script_day.specs.declared.ending.Ending.{Ending}
 use Rattle.script_day.specs.declared.limits.TheConstants.{INPUT_LIMIT}
-use Rattle.script_day.specs.Courses.{Course, AreAlike, EndsBy, GoesOn, IsSound}
+use Rattle.desk_runs.specs.Courses.{Course, AreAlike, GoesOn, IsSound}
+use Rattle.script_day.specs.Courses.{EndsBy}
 use Rattle.script_day.specs.Endings.{Ends, IsWhole, TookOfWhole}
-use Rattle.script_day.specs.OnDisk.{CourseOn}
+use Rattle.desk_runs.specs.OnDisk.{CourseOn}
 use Rattle.script_day.specs.Script.{HasRosterLine, day, terms_by}
 
 -- A day ended so over a source, a sink and a disk.

@@ -12,11 +12,12 @@ use Rattle.day_rules.specs.declared.entry.Entry.{Entry}
 use Rattle.deal_floor.specs.declared.roster.Roster.{Roster}
 use Rattle.script_day.specs.declared.ending.Ending.{Ending}
 use Rattle.script_day.specs.declared.first.FirstLine.{FirstLine}
-use Rattle.script_day.specs.Answering.{DeskRuns}
-use Rattle.script_day.specs.Courses.{Course, EndsBy, EndsServed, given_up, taken_calls}
+use Rattle.desk_runs.specs.Answering.{DeskRuns}
+use Rattle.desk_runs.specs.Courses.{Course, given_up, taken_calls}
+use Rattle.script_day.specs.Courses.{EndsBy, EndsServed}
 use Rattle.script_day.specs.Endings.{Command, EndsWith}
-use Rattle.script_day.specs.Meanings.{Answers, Told}
-use Rattle.script_day.specs.OnDisk.{CourseOn, ServesRun}
+use Rattle.desk_runs.specs.Meanings.{Answers, Told}
+use Rattle.desk_runs.specs.OnDisk.{CourseOn, ServesRun}
 use Rattle.script_day.specs.Output.{writing}
 use Rattle.script_day.specs.Parts.{IsShortRoster, PutsUnopened, WholeFails}
 use Rattle.script_day.specs.Script.{day, script_of, terms_by, Means}

@@ -10,7 +10,8 @@ ghost use Rattle.script_lines.specs.Changes.{change_told};
 ghost use Rattle.script_lines.specs.Found.{call_of};
 ghost use Rattle.script_day.specs.declared.limits.TheConstants.{LINE_LIMIT};
 ghost use Rattle.adx_desk.specs.Lines.{told_as};
-ghost use Rattle.script_day.specs.Answering.{AnswersCall, AnswersTo, IsOfCall, LeavesCall, LeavesUnwritten};
+ghost use Rattle.script_day.specs.Answering.{AnswersCall, AnswersTo, LeavesUnwritten};
+ghost use Rattle.desk_runs.specs.Answering.{IsOfCall, LeavesCall};
 ghost use Rattle.script_day.specs.Script.{terms_by};
 
 use crate::refusals::{push, push_refused};

@@ -1,5 +1,5 @@
 //! The lines of a script, from the first to the closing table.
-ghost use Rattle.std.specs.Prelude.{◌≡◌, ◌≢◌, ◌⊎◌, ◌+◌, ◌<◌, ◌≤◌, ◌++◌, ℕ, List, [], length, MatchBool, IfErr, OnErr, OnOk, Ok, Err, string_bytes};
+ghost use Rattle.std.specs.Prelude.{◌≡◌, ◌≢◌, ◌⊎◌, ◌+◌, ◌<◌, ◌≤◌, ◌++◌, ℕ, List, [], MatchBool, IfErr, OnErr, OnOk, Ok, Err, string_bytes};
 ghost use Rattle.adx_io.specs.Lines.{Keeps};
 ghost use Rattle.adx_io.specs.TalkState.{state_of, place_of};
 ghost use Rattle.adx_desk.specs.Rosters.{desk_terms};
@@ -8,9 +8,9 @@ ghost use Rattle.script_day.specs.declared.ending.Ending.TheVariants.{DiskFault 
 ghost use Rattle.adx_io.specs.declared.stop.Stop.TheVariants.{OutOfMemory as NoMemory};
 ghost use Rattle.adx_io.specs.declared.line_buffer.TheConstants.{CHUNK};
 ghost use Rattle.script_day.specs.declared.limits.TheConstants.{INPUT_LIMIT as input_limit, LINE_LIMIT as line_limit};
-ghost use Rattle.answer_lines.specs.Table.{closing_table};
 ghost use Rattle.script_day.specs.Courses.{IsCutShort};
-ghost use Rattle.script_day.specs.Answering.{AnswersTo, DeskRuns, LeavesUnwritten};
+ghost use Rattle.script_day.specs.Answering.{AnswersTo, LeavesUnwritten};
+ghost use Rattle.desk_runs.specs.Answering.{DeskRuns};
 ghost use Rattle.script_day.specs.Output.{toolong_line};
 ghost use Rattle.script_day.specs.Parts.{PutsEnd};
 ghost use Rattle.script_day.specs.Running.{EndsOpened, EndsScript};
@@ -25,8 +25,8 @@ use crate::refusals::{push_refusal, push_refused};
 use adx_desk::Desk;
 use adx_io::{Disk, LineBuffer, Next, Sink, Source, Talk};
 use adx_units::OutOfMemory;
-use answer_lines::push_table;
-use deal_floor::{Campaign, Roster};
+use deal_floor::Roster;
+use desk_runs::push_books;
 use script_lines::Refusal;
 use std::alloc::Global;
 
@@ -50,40 +50,6 @@ fn push_cut(
             Ok(())
         }
     }
-}
-
-/// Writes the closing table of a day with these campaigns.
-fn push_campaigns<D: Disk>(
-    out: &mut String,
-    desk: &Desk<D>,
-    campaigns: &[Campaign],
-) -> Result<(), OutOfMemory>
-    requires { length desk.now.desk.terms.day.budgets ≡ length campaigns.now }
-    ensures { OnOk result (string_bytes out.new ≡ string_bytes out.old ++ closing_table campaigns.now desk.now.desk.terms.day desk.now.desk.history) }
-{
-    push_table(
-        out,
-        campaigns,
-        desk.book(),
-        desk.ask_count(),
-        desk.entries(),
-    )?;
-    Ok(())
-}
-
-/// Writes the closing table of the day of a roster, behind what is there: a line for each campaign with its money, in units
-/// (millionths of a CPM dollar), in the roster's order, and a line with the counts of the desk's history. Where memory is
-/// refused, a part of the table may stand there.
-pub fn push_books<D: Disk>(
-    out: &mut String,
-    desk: &Desk<D>,
-    roster: &Roster,
-) -> Result<(), OutOfMemory>
-    requires { desk.now.desk.terms.day ≡ terms_by roster.now }
-    ensures { OnOk result (string_bytes out.new ≡ string_bytes out.old ++ closing_table roster.entry.now.campaigns (terms_by roster.entry.now) desk.now.desk.history) }
-{
-    push_campaigns(out, desk, roster.campaigns.as_slice())?;
-    Ok(())
 }
 
 /// Writes what comes behind the answers to all lines.

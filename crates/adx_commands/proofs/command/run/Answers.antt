@@ -1,6 +1,6 @@
 -- The disk's count is that of the day that ran.
 use Rattle.std.proofs.Common.{arith, refl, rules, ◌≡◌, ◌⊎◌, ◌∙◌, sym, subst}
-use Rattle.script_day.proofs.DiskCounts.{day_later}
+use Rattle.desk_runs.proofs.DiskCounts.{day_later}
 use Rattle.adx_commands.proofs.Statuses.{counted_day, is_faulted, is_passed, not_faulted}
 use Rattle.adx_commands.proofs.command.run.Goals as goal
 

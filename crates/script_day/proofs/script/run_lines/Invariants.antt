@@ -3,7 +3,7 @@ use Rattle.std.proofs.Common.{◌≡◌, ◌≤◌, ◌+◌, List, []}
 use Rattle.adx_io.specs.TalkState.{state_of, place_of}
 use Rattle.adx_desk.specs.Rosters.{desk_terms}
 use Rattle.day_rules.specs.declared.entry.Entry.{Entry}
-use Rattle.script_day.specs.Answering.{DeskRuns}
+use Rattle.desk_runs.specs.Answering.{DeskRuns}
 use Rattle.script_day.specs.Running.{RunsDesk}
 use Rattle.script_day.proofs.script.run_lines.Given as goal
 
