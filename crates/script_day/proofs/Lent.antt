@@ -22,4 +22,5 @@ module _ {D E : Type 0} (disk_of : E → D) (faults : D → ℕ) (reads : D → 
         ends_so = e.ends_so;
         on_disk = run_as disk_of faults reads may_leave moment left_since (desk_terms roster) start _ old new e.on_disk;
         ends = e.ends;
+        further = e.further;
       })

@@ -11,6 +11,7 @@ pub mod Runs
 pub mod OneOutput
 pub mod Days
 pub mod Outputs
+pub mod Further
 pub mod Scripts
 pub mod DiskCounts
 pub mod Unopened

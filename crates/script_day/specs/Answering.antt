@@ -8,6 +8,7 @@ use Rattle.script_lines.specs.Meanings.{calls}
 use Rattle.desk_runs.specs.Meanings.{IsLine, Told, call_answer}
 use Rattle.script_day.specs.Output.{writing}
 use Rattle.script_day.specs.Script.{Means, terms_by}
+use Rattle.desk_runs.specs.Answering.{ServesCall, ServesLine}
 
 -- a call of the desk was answered, and its line written behind what was there
 pub record AnswersCall {D : Type 0} (faults : D → ℕ) (may_leave : D → List ℕ → Type 0) (moment : D → ℕ) (left_since : D → ℕ → List ℕ → Type 0) (campaigns : List Campaign) (old new : OnDisk D) (call : Call) (out_old out_new : List ℕ) : Type 0 where

@@ -4,6 +4,7 @@ use Rattle.adx_io.specs.declared.stop.Stop.{Stop}
 use Rattle.adx_desk.specs.declared.fault.DeskFault.{DeskFault}
 use Rattle.desk_runs.specs.Meanings.{Told}
 use Rattle.script_day.specs.declared.ending.Ending.{Ending}
+use Rattle.desk_runs.specs.Courses.{Course, HasDiskFault, HasNoDiskFault, given_up, served, unopened}
 
 -- how a day ends whose input was read to its end: with a fault exactly where a call was given up by the disk's
 abbrev pub EndsWhole : List Told → Result (Unit {0}) Ending → Type 0

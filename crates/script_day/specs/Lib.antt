@@ -6,6 +6,8 @@ pub mod Courses
 pub mod Script
 pub mod Parts
 pub mod Firsts
+pub mod Further
 pub mod Running
 pub mod Answering
 pub mod Days
+pub mod Clauses
