@@ -6,14 +6,15 @@ use Rattle.adx_io.specs.Streams.{Rises, Tape, WhereTold}
 use Rattle.adx_io.specs.Talk.{TalkState, ended}
 use Rattle.adx_io.specs.declared.stop.Stop.{Stop}
 use Rattle.deal_floor.specs.declared.roster.Roster.{Roster}
-use Rattle.script_day.specs.Courses.{given_up}
+use Rattle.desk_runs.specs.Courses.{given_up}
 use Rattle.script_day.specs.Firsts.{EndsRosterless, HasNoRoster, ReadsLine, StopsAt, StopsInLine}
 use Rattle.script_day.specs.Output.{roster_refused_line}
 use Rattle.script_day.specs.Parts.{IsShortRoster, PutsEnd}
 use Rattle.script_day.specs.Script.{HasRosterLine}
 use Rattle.script_day.specs.declared.ending.Ending.{Ending}
 use Rattle.script_day.specs.declared.limits.TheConstants.{INPUT_LIMIT}
-use Rattle.script_day.proofs.DiskCounts.{cause_stays, day_later, day_rises}
+use Rattle.script_day.proofs.DiskCounts.{cause_stays, day_rises}
+use Rattle.desk_runs.proofs.DiskCounts.{day_later}
 use Rattle.script_day.proofs.FirstReads.{stops_at}
 use Rattle.script_day.proofs.Putting.{cut_or_put}
 use Rattle.script_day.proofs.Told.{told_map, told_start, told_then, unread_tape}

@@ -13,10 +13,11 @@ use Rattle.adx_desk.specs.declared.fault.DeskFault.{DeskFault}
 use Rattle.day_rules.specs.declared.entry.Entry.{Entry}
 use Rattle.day_rules.specs.Legal.{IsLegal}
 use Rattle.deal_floor.specs.declared.roster.Roster.{Roster}
-use Rattle.script_day.specs.Courses.{GivesUpBy, ending_by, given_up}
+use Rattle.script_day.specs.Courses.{GivesUpBy, ending_by}
+use Rattle.desk_runs.specs.Courses.{given_up}
 use Rattle.script_day.specs.Endings.{LeftBehind}
 use Rattle.script_day.specs.Firsts.{StopsAt}
-use Rattle.script_day.specs.OnDisk.{CourseOn}
+use Rattle.desk_runs.specs.OnDisk.{CourseOn}
 use Rattle.script_day.specs.Output.{roster_refused_line, unopened_line}
 use Rattle.script_day.specs.Parts.{CutFails, PutsEnd, WholeFails}
 use Rattle.script_day.specs.Script.{HasRosterLine, terms_by}

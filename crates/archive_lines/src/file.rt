@@ -82,7 +82,8 @@ pub fn file_day<P: Keeper>(
     out: &mut String,
 ) -> Result<Filing, OutOfMemory>
     requires { AreOfOneDay rows.now }
-    ensures filed { IfOk result (λ end. (written : List ℕ) × (string_bytes out.new ≡ string_bytes out.old ++ written) × Files rows.now (P.contents keeper.old) (P.contents keeper.new) written end) }
+    ensures filed { IfOk result (λ end. (written : List ℕ) × (string_bytes out.new ≡ string_bytes out.old ++ written)
+        × Files rows.now (P.contents keeper.old) (P.contents keeper.new) written end) }
     ensures refused { OnErr result (WhereTold (P.contents keeper.old) (P.contents keeper.new) IsAtMostUpgraded) }
     ensures cause { IfOk result (Counts (P.faults keeper.old) (P.faults keeper.new)) }
     ensures stands { OnErr result (P.faults keeper.new ≡ P.faults keeper.old) }

@@ -39,7 +39,9 @@ fn push_imps(out: &mut String, imps: Option<u64>) -> Result<(), OutOfMemory>
 
 /// Puts the names of a row at the end.
 fn push_names(out: &mut String, row: &DayRow) -> Result<(), OutOfMemory>
-    ensures { OnOk result (string_bytes out.new ≡ string_bytes out.old ++ (codes "{\"day\":" ++ text_spelling row.now.day ++ codes ",\"seat\":" ++ text_spelling row.now.seat ++ codes ",\"cid\":" ++ text_spelling row.now.cid)) }
+    ensures { OnOk result (string_bytes out.new ≡ string_bytes out.old
+        ++ (codes "{\"day\":" ++ text_spelling row.now.day ++ codes ",\"seat\":" ++ text_spelling row.now.seat
+        ++ codes ",\"cid\":" ++ text_spelling row.now.cid)) }
 {
     push(out, "{\"day\":")?;
     push_text(out, row.day.as_str())?;
@@ -51,7 +53,9 @@ fn push_names(out: &mut String, row: &DayRow) -> Result<(), OutOfMemory>
 
 /// Puts the campaign's money at the end.
 fn push_money(out: &mut String, row: &DayRow) -> Result<(), OutOfMemory>
-    ensures { OnOk result (string_bytes out.new ≡ string_bytes out.old ++ (codes ",\"budget\":" ++ decimal row.now.budget.0 ++ codes ",\"committed\":" ++ decimal row.now.committed ++ codes ",\"billed\":" ++ decimal row.now.billed)) }
+    ensures { OnOk result (string_bytes out.new ≡ string_bytes out.old
+        ++ (codes ",\"budget\":" ++ decimal row.now.budget.0 ++ codes ",\"committed\":" ++ decimal row.now.committed
+        ++ codes ",\"billed\":" ++ decimal row.now.billed)) }
 {
     push(out, ",\"budget\":")?;
     push_amount(out, u128::from(row.budget.0))?;
@@ -63,7 +67,8 @@ fn push_money(out: &mut String, row: &DayRow) -> Result<(), OutOfMemory>
 
 /// Puts what the day's rows have in common at the end.
 fn push_day(out: &mut String, row: &DayRow) -> Result<(), OutOfMemory>
-    ensures { OnOk result (string_bytes out.new ≡ string_bytes out.old ++ (codes ",\"bound\":" ++ decimal row.now.bound ++ codes ",\"imps\":" ++ imps_text row.now.imps ++ codes "}\n")) }
+    ensures { OnOk result (string_bytes out.new ≡ string_bytes out.old
+        ++ (codes ",\"bound\":" ++ decimal row.now.bound ++ codes ",\"imps\":" ++ imps_text row.now.imps ++ codes "}\n")) }
 {
     push(out, ",\"bound\":")?;
     push_amount(out, row.bound)?;

@@ -30,7 +30,8 @@ fn upgrade_and_list<P: Keeper>(
     last: &str,
 ) -> Result<Vec<DayRow>, KeeperRefusal>
     ensures days { TellsDays first.now last.now result }
-    ensures kept { WhereTold (P.contents keeper.old) (P.contents keeper.new) (ListsUpgraded seat.now cid.now first.now last.now (rows_in (λ v. v.items) result)) }
+    ensures kept { WhereTold (P.contents keeper.old) (P.contents keeper.new)
+        (ListsUpgraded seat.now cid.now first.now last.now (rows_in (λ v. v.items) result)) }
     ensures cause { HasKeeperCause (P.faults keeper.old) (P.faults keeper.new) result }
 {
     keeper.upgrade()?;
@@ -69,7 +70,8 @@ pub fn list_days<P: Keeper>(
     last: &str,
     out: &mut String,
 ) -> Result<Filing, OutOfMemory>
-    ensures listed { IfOk result (λ end. (written : List ℕ) × (string_bytes out.new ≡ string_bytes out.old ++ written) × ListsDays seat.now cid.now first.now last.now (P.contents keeper.old) (P.contents keeper.new) written end) }
+    ensures listed { IfOk result (λ end. (written : List ℕ) × (string_bytes out.new ≡ string_bytes out.old ++ written)
+        × ListsDays seat.now cid.now first.now last.now (P.contents keeper.old) (P.contents keeper.new) written end) }
     ensures refused { OnErr result (WhereTold (P.contents keeper.old) (P.contents keeper.new) IsAtMostUpgraded) }
     ensures cause { IfOk result (Counts (P.faults keeper.old) (P.faults keeper.new)) }
     ensures stands { OnErr result (P.faults keeper.new ≡ P.faults keeper.old) }

@@ -69,3 +69,11 @@ lines r = rows_lines r.format r.day r.campaigns r.imps ++ end_line (length r.imp
 -- the document of a record
 abbrev pub document : Record → List ℕ
 document r = flat_map ended (lines r)
+
+-- what stands in it before the impressions
+abbrev pub record_front : Record → List ℕ
+record_front r = ended (head_line r.format) ++ ended (day_line r.day) ++ flat_map ended (map campaign_line (enumerate_from 0 r.campaigns))
+
+-- the lines of its impressions, and its last one
+abbrev pub record_rest : Record → List ℕ
+record_rest r = flat_map ended (map imp_line (enumerate_from 0 r.imps)) ++ ended (end_line (length r.imps))

@@ -4,7 +4,7 @@ ghost use Rattle.std.specs.List.{flat_map, enumerate_from};
 ghost use Rattle.std.specs.Fmt.{decimal};
 ghost use Rattle.adx_json.specs.Spelling.{text_spelling};
 ghost use Rattle.formats.specs.Parts.{ended, part};
-ghost use Rattle.bid_record.specs.Lines.{changes_part, name_part, place_text, end_text, offer_part, head_line, day_line, campaign_line, imp_line, end_line, document};
+ghost use Rattle.bid_record.specs.Lines.{changes_part, name_part, place_text, end_text, offer_part, head_line, day_line, campaign_line, imp_line, end_line, document, record_front};
 
 use crate::record::Record;
 use crate::rows::{CampaignRow, Charge, End, ImpName, ImpRow};
@@ -18,12 +18,21 @@ pub fn write_record(alloc: Global, day: &Record) -> Result<Text, OutOfMemory>
     ensures { IfOk result (λ t. t ≡ document day.now) }
 {
     let mut out = String::new(alloc);
-    push_head(&mut out, day.format)?;
-    push_day(&mut out, day.day.as_str())?;
-    push_campaigns(&mut out, day.campaigns.as_slice())?;
+    push_record_front(&mut out, day)?;
     push_imps(&mut out, day.imps.as_slice())?;
-    push_last(&mut out, day.imps.len() as u64)?;
+    push_end_line(&mut out, day.imps.len() as u64)?;
     Ok(Text::from(out))
+}
+
+/// Writes what stands before the impressions in the document of a record: the lines of its format, of its day and of its
+/// campaigns, each with a newline. With `push_imp_line` for each impression and `push_end_line` a document can be written in
+/// pieces; `document_in_pieces` says that these are the document.
+pub fn push_record_front(out: &mut String, day: &Record) -> Result<(), OutOfMemory>
+    ensures { OnOk result (string_bytes out.new ≡ string_bytes out.old ++ record_front day.now) }
+{
+    push_head(out, day.format)?;
+    push_day(out, day.day.as_str())?;
+    push_campaigns(out, day.campaigns.as_slice())
 }
 
 fn push_head(out: &mut String, format: u8) -> Result<(), OutOfMemory>
@@ -44,7 +53,8 @@ fn push_day(out: &mut String, day: &str) -> Result<(), OutOfMemory>
     Ok(())
 }
 
-fn push_last(out: &mut String, imps: u64) -> Result<(), OutOfMemory>
+/// Writes the last line of the document of a record with so many impressions.
+pub fn push_end_line(out: &mut String, imps: u64) -> Result<(), OutOfMemory>
     ensures { OnOk result (string_bytes out.new ≡ string_bytes out.old ++ ended (end_line imps)) }
 {
     out.push_str("end")?;
@@ -140,7 +150,8 @@ fn push_offers(out: &mut String, offers: &[Charge]) -> Result<(), OutOfMemory>
     Ok(())
 }
 
-fn push_imp(out: &mut String, j: u64, row: &ImpRow) -> Result<(), OutOfMemory>
+/// Writes the line of an impression with its index in the record, from 0 on.
+pub fn push_imp_line(out: &mut String, j: u64, row: &ImpRow) -> Result<(), OutOfMemory>
     ensures { OnOk result (string_bytes out.new ≡ string_bytes out.old ++ ended (imp_line (j, row.now))) }
 {
     out.push_str("imp")?;
@@ -157,7 +168,7 @@ fn push_imps(out: &mut String, imps: &[ImpRow]) -> Result<(), OutOfMemory>
     ensures { OnOk result (string_bytes out.new ≡ string_bytes out.old ++ flat_map ended (map imp_line (enumerate_from 0 imps.now))) }
 {
     for (j, row) in imps.iter().enumerate() {
-        push_imp(out, j as u64, row)?;
+        push_imp_line(out, j as u64, row)?;
     }
     Ok(())
 }

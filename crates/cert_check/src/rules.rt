@@ -81,7 +81,8 @@ fn first_broken(imps: &[ImpRow], alphas: &[u64], betas: &[u64]) -> Option<(u32, 
     requires fit { Fit alphas.now (length alphas.now) }
     requires few_offers { All (λ row. length row.offers < 2 ^ 32) imps.now }
     requires listed { All (λ row. All (IsCharge (length alphas.now)) row.offers) imps.now }
-    ensures { MatchOption result (AreCovered alphas.now betas.now (impressions_of imps.now) (length imps.now)) (λ p. IsBrokenAt alphas.now betas.now (impressions_of imps.now) p.0 p.1) }
+    ensures { MatchOption result (AreCovered alphas.now betas.now (impressions_of imps.now) (length imps.now))
+        (λ p. IsBrokenAt alphas.now betas.now (impressions_of imps.now) p.0 p.1) }
 {
     for (j, row) in imps.iter().enumerate() {
         if let Some(offer) = first_uncovered(row.offers.as_slice(), alphas, betas[j]) {

@@ -1,3 +1,3 @@
-pub mod Putting
+pub mod Steps
 pub mod OneDocument
 pub mod OneGuarantee

@@ -1,3 +1,2 @@
 pub mod ClosedDays
 pub mod Guarantees
-pub mod Putting

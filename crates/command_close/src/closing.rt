@@ -1,80 +1,173 @@
 //! The document of a closed day.
-ghost use Rattle.std.specs.Prelude.{◌≡◌, ◌++◌, []};
+ghost use Rattle.std.specs.Prelude.{◌≡◌, ◌++◌, [], length, map};
+ghost use Rattle.std.specs.List.{enumerate_from, flat_map};
 ghost use Rattle.adx_desk.specs.Rosters.{desk_terms};
 ghost use Rattle.adx_io.specs.Talk.{HasCauses};
 ghost use Rattle.adx_io.specs.TalkState.{place_of, state_of};
-ghost use Rattle.bid_record.specs.Lines.{document as record_document};
-ghost use Rattle.dual_cert.specs.Lines.{document as cert_document};
+ghost use Rattle.bid_record.specs.Lines.{document as record_document, end_line, imp_line};
+ghost use Rattle.dual_cert.specs.Lines.{beta_line, bound_line, document as cert_document};
+ghost use Rattle.formats.specs.Parts.{ended};
 ghost use Rattle.day_rules.specs.DayState.{IsDay};
 ghost use Rattle.history_runs.specs.Histories.{Printed};
 ghost use Rattle.history_runs.specs.Runs.{RunsHistory};
 ghost use Rattle.command_close.specs.ClosedDays.{HasOneDocument, IsClosedDay};
-ghost use Rattle.command_close.specs.Putting.{PutsBytes};
+ghost use Rattle.history_runs.specs.Putting.{PutsBytes, PutsPiece};
 
-use crate::text::put_text;
+use crate::pieces::{Lines, put_lines};
 use adx_io::{Disk, Sink, Source, Stop, Talk};
-use bid_record::{Record, write_record};
+use adx_units::OutOfMemory;
+use bid_record::{ImpRow, Record, push_end_line, push_imp_line, push_record_front};
 use command_runs::Outcome;
 use day_rules::Entry;
 use deal_floor::Roster;
-use dual_cert::{Cert, write_cert};
+use dual_cert::{Cert, push_beta_line, push_bound_line, push_cert_front};
 use history_runs::{Print, run_history};
 use served_record::{ClosedDay, close_day};
 use std::alloc::Global;
 
-/// Puts the lines of a record, whose memory is free afterwards.
-fn put_record<S: Source, K: Sink>(
-    alloc: Global,
-    day: Record,
-    talk: &mut Talk<'_, S, K>,
-) -> Result<(), Stop>
-    requires unwritten { (state_of talk.old).out ≡ [] }
-    ensures puts { PutsBytes (K.held talk.old.sink.now) (K.held talk.new.sink.now) (record_document day) result }
-    ensures unwritten { (state_of talk.new).out ≡ [] }
+/// The lines of a record's impressions.
+#[derive(Drop)]
+struct ImpLines<'a> {
+    imps: &'a [ImpRow],
+}
+
+impl Lines for ImpLines<'_> {
+    ghost use Rattle.std.specs.Prelude.{map};
+    ghost use Rattle.std.specs.List.{enumerate_from};
+    ghost use Rattle.bid_record.specs.Lines.{imp_line};
+
+    ghost lines = { λ s. map imp_line (enumerate_from 0 s.imps.now) };
+
+    fn count(&self) -> usize {
+        self.imps.len()
+    }
+
+    #[tactic(auto, using(crate::proofs::Steps::numbered_length))]
+    fn push_line(&self, at: usize, out: &mut String) -> Result<(), OutOfMemory> {
+        push_imp_line(out, at as u64, &self.imps[at])
+    }
+}
+
+/// The lines of a certificate's betas.
+#[derive(Drop)]
+struct BetaLines<'a> {
+    betas: &'a [u64],
+}
+
+impl Lines for BetaLines<'_> {
+    ghost use Rattle.std.specs.Prelude.{map};
+    ghost use Rattle.std.specs.List.{enumerate_from};
+    ghost use Rattle.dual_cert.specs.Lines.{beta_line};
+
+    ghost lines = { λ s. map beta_line (enumerate_from 0 s.betas.now) };
+
+    fn count(&self) -> usize {
+        self.betas.len()
+    }
+
+    #[tactic(auto, using(crate::proofs::Steps::numbered_length))]
+    fn push_line(&self, at: usize, out: &mut String) -> Result<(), OutOfMemory> {
+        push_beta_line(out, at as u64, self.betas[at])
+    }
+}
+
+/// Writes a record's last line behind those of its impressions, which are put in pieces.
+fn put_imps<S: Source, K: Sink>(imps: &[ImpRow], talk: &mut Talk<'_, S, K>) -> Result<(), Stop>
+    ensures puts { PutsPiece (state_of talk.old).held (state_of talk.new).held
+        ((state_of talk.old).out ++ (flat_map ended (map imp_line (enumerate_from 0 imps.now)) ++ ended (end_line (length imps.now))))
+        (state_of talk.new).out result }
     ensures rest { talk.new.source ≡ talk.old.source }
     ensures causes { HasCauses (state_of talk.old) (state_of talk.new) result }
     ensures same { place_of talk.new ≡ place_of talk.old }
 {
-    match write_record(alloc, &day) {
-        Ok(text) => put_text(talk, text.as_str()),
+    match put_lines(&ImpLines { imps }, talk) {
+        Ok(()) => match push_end_line(talk.out, imps.len() as u64) {
+            Ok(()) => Ok(()),
+            Err(_) => Err(Stop::OutOfMemory),
+        },
+        Err(stop) => Err(stop),
+    }
+}
+
+/// Puts the lines of a record in pieces. Its memory is free afterwards.
+fn put_record<S: Source, K: Sink>(day: Record, talk: &mut Talk<'_, S, K>) -> Result<(), Stop>
+    ensures puts { PutsPiece (state_of talk.old).held (state_of talk.new).held
+        ((state_of talk.old).out ++ record_document day) (state_of talk.new).out result }
+    ensures rest { talk.new.source ≡ talk.old.source }
+    ensures causes { HasCauses (state_of talk.old) (state_of talk.new) result }
+    ensures same { place_of talk.new ≡ place_of talk.old }
+{
+    match push_record_front(talk.out, &day) {
+        Ok(()) => put_imps(day.imps.as_slice(), talk),
         Err(_) => Err(Stop::OutOfMemory),
     }
 }
 
-/// Puts the lines of a certificate.
-fn put_cert<S: Source, K: Sink>(
-    alloc: Global,
-    cert: &Cert,
+/// Writes a certificate's last line behind those of its betas, which are put in pieces.
+fn put_betas<S: Source, K: Sink>(
+    betas: &[u64],
+    bound: u128,
     talk: &mut Talk<'_, S, K>,
 ) -> Result<(), Stop>
-    requires unwritten { (state_of talk.old).out ≡ [] }
-    ensures puts { PutsBytes (K.held talk.old.sink.now) (K.held talk.new.sink.now) (cert_document cert.now) result }
-    ensures unwritten { (state_of talk.new).out ≡ [] }
+    ensures puts { PutsPiece (state_of talk.old).held (state_of talk.new).held
+        ((state_of talk.old).out ++ (flat_map ended (map beta_line (enumerate_from 0 betas.now)) ++ ended (bound_line bound)))
+        (state_of talk.new).out result }
     ensures rest { talk.new.source ≡ talk.old.source }
     ensures causes { HasCauses (state_of talk.old) (state_of talk.new) result }
     ensures same { place_of talk.new ≡ place_of talk.old }
 {
-    match write_cert(alloc, cert) {
-        Ok(text) => put_text(talk, text.as_str()),
+    match put_lines(&BetaLines { betas }, talk) {
+        Ok(()) => match push_bound_line(talk.out, bound) {
+            Ok(()) => Ok(()),
+            Err(_) => Err(Stop::OutOfMemory),
+        },
+        Err(stop) => Err(stop),
+    }
+}
+
+/// Puts the lines of a certificate in pieces.
+fn put_cert<S: Source, K: Sink>(cert: &Cert, talk: &mut Talk<'_, S, K>) -> Result<(), Stop>
+    ensures puts { PutsPiece (state_of talk.old).held (state_of talk.new).held
+        ((state_of talk.old).out ++ cert_document cert.now) (state_of talk.new).out result }
+    ensures rest { talk.new.source ≡ talk.old.source }
+    ensures causes { HasCauses (state_of talk.old) (state_of talk.new) result }
+    ensures same { place_of talk.new ≡ place_of talk.old }
+{
+    match push_cert_front(talk.out, cert) {
+        Ok(()) => put_betas(cert.betas.as_slice(), cert.bound, talk),
         Err(_) => Err(Stop::OutOfMemory),
     }
 }
 
 /// Puts the lines of a record and after them those of its certificate.
-fn put_both<S: Source, K: Sink>(
-    alloc: Global,
-    closed: ClosedDay,
-    talk: &mut Talk<'_, S, K>,
-) -> Result<(), Stop>
-    requires unwritten { (state_of talk.old).out ≡ [] }
-    ensures puts { PutsBytes (K.held talk.old.sink.now) (K.held talk.new.sink.now) (record_document closed.record ++ cert_document closed.cert) result }
+fn put_both<S: Source, K: Sink>(closed: ClosedDay, talk: &mut Talk<'_, S, K>) -> Result<(), Stop>
+    ensures puts { PutsPiece (state_of talk.old).held (state_of talk.new).held
+        ((state_of talk.old).out ++ (record_document closed.record ++ cert_document closed.cert)) (state_of talk.new).out result }
     ensures rest { talk.new.source ≡ talk.old.source }
     ensures causes { HasCauses (state_of talk.old) (state_of talk.new) result }
     ensures same { place_of talk.new ≡ place_of talk.old }
 {
     let ClosedDay { record, cert } = closed;
-    match put_record(alloc, record, talk) {
-        Ok(()) => put_cert(alloc, &cert, talk),
+    match put_record(record, talk) {
+        Ok(()) => put_cert(&cert, talk),
+        Err(stop) => Err(stop),
+    }
+}
+
+/// Puts all of a closed day's document, where nothing else is to be put.
+fn put_document<S: Source, K: Sink>(
+    closed: ClosedDay,
+    talk: &mut Talk<'_, S, K>,
+) -> Result<(), Stop>
+    requires unwritten { (state_of talk.old).out ≡ [] }
+    ensures puts { PutsBytes (K.held talk.old.sink.now) (K.held talk.new.sink.now)
+        (record_document closed.record ++ cert_document closed.cert) result }
+    ensures rest { talk.new.source ≡ talk.old.source }
+    ensures causes { HasCauses (state_of talk.old) (state_of talk.new) result }
+    ensures same { place_of talk.new ≡ place_of talk.old }
+{
+    match put_both(closed, talk) {
+        Ok(()) => talk.put_out(),
         Err(stop) => Err(stop),
     }
 }
@@ -94,7 +187,7 @@ fn put_closed_day<S: Source, K: Sink>(
     ensures same { place_of talk.new ≡ place_of talk.old }
 {
     match close_day(alloc, roster, entries) {
-        Ok(closed) => put_both(alloc, closed, talk),
+        Ok(closed) => put_document(closed, talk),
         Err(_) => Err(Stop::OutOfMemory),
     }
 }

@@ -8,7 +8,7 @@
 
 mod closing;
 mod measuring;
-mod text;
+mod pieces;
 
 pub use closing::close_journal;
 pub use measuring::measure_journal;

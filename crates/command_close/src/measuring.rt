@@ -8,7 +8,7 @@ ghost use Rattle.history_runs.specs.Histories.{Printed};
 ghost use Rattle.history_runs.specs.Runs.{RunsHistory};
 ghost use Rattle.ratio_law.specs.Line.{ratio_line};
 ghost use Rattle.command_close.specs.Guarantees.{HasNumbers, HasOneGuarantee, IsGuarantee};
-ghost use Rattle.command_close.specs.Putting.{PutsBytes};
+ghost use Rattle.history_runs.specs.Putting.{PutsBytes};
 
 use adx_io::{Disk, Sink, Source, Stop, Talk};
 use adx_units::OutOfMemory;

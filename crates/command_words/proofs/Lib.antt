@@ -1,4 +1,6 @@
 pub mod Walks
 pub mod Levels
+pub mod Programs
+pub mod ArchiveRows
 pub mod Rows
 pub mod Builds

@@ -18,7 +18,8 @@ const LAST_SLAB: u8 = 99;
 pub(crate) fn alphas_of(alloc: Global, day: &Record) -> Result<Vec<u64>, OutOfMemory>
     requires { IsWithinBudgets day.now }
     ensures len { IfOk result (λ alphas. vec_len alphas ≡ length day.now.campaigns) }
-    ensures value { IfOk result (λ alphas. (campaign : ℕ) (row : CampaignRow) → campaign < length day.now.campaigns → slice_index alphas.items campaign ≡ row_alpha (slice_index_or day.now.campaigns campaign row) (money_in day.now.imps campaign)) }
+    ensures value { IfOk result (λ alphas. (campaign : ℕ) (row : CampaignRow) → campaign < length day.now.campaigns
+        → slice_index alphas.items campaign ≡ row_alpha (slice_index_or day.now.campaigns campaign row) (money_in day.now.imps campaign)) }
 {
     let campaigns = day.campaigns.as_slice();
     let moneys = moneys_of(alloc, campaigns.len(), day.imps.as_slice())?;
@@ -33,9 +34,11 @@ fn from_moneys(
 ) -> Result<Vec<u64>, OutOfMemory>
     requires len { length moneys.now ≡ length campaigns.now }
     requires budgets { All (λ row. (1 ≤ row.budget.0) × (row.budget.0 ≤ 10 ^ 15)) campaigns.now }
-    requires within { (campaign : ℕ) (row : CampaignRow) → campaign < length campaigns.now → slice_index moneys.now campaign ≤ (slice_index_or campaigns.now campaign row).budget.0 }
+    requires within { (campaign : ℕ) (row : CampaignRow) → campaign < length campaigns.now
+        → slice_index moneys.now campaign ≤ (slice_index_or campaigns.now campaign row).budget.0 }
     ensures len { IfOk result (λ alphas. vec_len alphas ≡ length campaigns.now) }
-    ensures value { IfOk result (λ alphas. (campaign : ℕ) (row : CampaignRow) → campaign < length campaigns.now → slice_index alphas.items campaign ≡ row_alpha (slice_index_or campaigns.now campaign row) (slice_index moneys.now campaign)) }
+    ensures value { IfOk result (λ alphas. (campaign : ℕ) (row : CampaignRow) → campaign < length campaigns.now
+        → slice_index alphas.items campaign ≡ row_alpha (slice_index_or campaigns.now campaign row) (slice_index moneys.now campaign)) }
 {
     let mut alphas = Vec::with_capacity(alloc, campaigns.len())?;
     for (i, campaign) in campaigns.iter().enumerate() {

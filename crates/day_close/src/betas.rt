@@ -20,7 +20,8 @@ pub(crate) fn betas_of(
     requires listed { All (λ row. All (IsCharge (length alphas.now)) row.offers) imps.now }
     requires fit { Fit alphas.now (length alphas.now) }
     ensures len { IfOk result (λ betas. vec_len betas ≡ length imps.now) }
-    ensures value { IfOk result (λ betas. (imp : ℕ) → imp < length imps.now → IsLeastBeta alphas.now (slice_index_or (impressions_of imps.now) imp []) (slice_index betas.items imp)) }
+    ensures value { IfOk result (λ betas. (imp : ℕ) → imp < length imps.now
+        → IsLeastBeta alphas.now (slice_index_or (impressions_of imps.now) imp []) (slice_index betas.items imp)) }
 {
     let mut betas = Vec::with_capacity(alloc, imps.len())?;
     for row in imps {

@@ -30,3 +30,11 @@ lines c = rows_lines c.alphas c.betas ++ bound_line c.bound ∷ []
 -- the document of a certificate
 abbrev pub document : Cert → List ℕ
 document c = flat_map ended (lines c)
+
+-- what stands in it before the betas
+abbrev pub cert_front : Cert → List ℕ
+cert_front c = ended head_line ++ flat_map ended (map alpha_line (enumerate_from 0 c.alphas))
+
+-- the lines of its betas, and its last one
+abbrev pub cert_rest : Cert → List ℕ
+cert_rest c = flat_map ended (map beta_line (enumerate_from 0 c.betas)) ++ ended (bound_line c.bound)

@@ -3,7 +3,7 @@ ghost use Rattle.std.specs.Prelude.{◌≡◌, ℕ, ◌++◌, ◌∷◌, [], Lis
 ghost use Rattle.std.specs.List.{flat_map, enumerate_from};
 ghost use Rattle.std.specs.Fmt.{decimal};
 ghost use Rattle.formats.specs.Parts.{ended};
-ghost use Rattle.dual_cert.specs.Lines.{alpha_line, beta_line, bound_line, document};
+ghost use Rattle.dual_cert.specs.Lines.{alpha_line, beta_line, bound_line, cert_front, document};
 
 use crate::cert::Cert;
 use adx_units::{OutOfMemory, Text};
@@ -16,14 +16,23 @@ pub fn write_cert(alloc: Global, cert: &Cert) -> Result<Text, OutOfMemory>
     ensures { IfOk result (λ t. t ≡ document cert.now) }
 {
     let mut out = String::new(alloc);
-    out.push_str("adx-cert 1\n")?;
-    push_alphas(&mut out, cert.alphas.as_slice())?;
+    push_cert_front(&mut out, cert)?;
     push_betas(&mut out, cert.betas.as_slice())?;
-    push_bound(&mut out, cert.bound)?;
+    push_bound_line(&mut out, cert.bound)?;
     Ok(Text::from(out))
 }
 
-fn push_bound(out: &mut String, bound: u128) -> Result<(), OutOfMemory>
+/// Writes what stands before the betas in the document of a certificate: its first line and those of its alphas, each with
+/// a newline. With `push_beta_line` for each beta and `push_bound_line` a document can be written in pieces.
+pub fn push_cert_front(out: &mut String, cert: &Cert) -> Result<(), OutOfMemory>
+    ensures { OnOk result (string_bytes out.new ≡ string_bytes out.old ++ cert_front cert.now) }
+{
+    out.push_str("adx-cert 1\n")?;
+    push_alphas(out, cert.alphas.as_slice())
+}
+
+/// Writes the last line of the document of a certificate with this bound.
+pub fn push_bound_line(out: &mut String, bound: u128) -> Result<(), OutOfMemory>
     ensures { OnOk result (string_bytes out.new ≡ string_bytes out.old ++ ended (bound_line bound)) }
 {
     let mut digits = Buffer::new();
@@ -52,7 +61,8 @@ fn push_alphas(out: &mut String, alphas: &[u64]) -> Result<(), OutOfMemory>
     Ok(())
 }
 
-fn push_beta(out: &mut String, j: u64, beta: u64) -> Result<(), OutOfMemory>
+/// Writes the line of a beta with its index in the certificate, from 0 on.
+pub fn push_beta_line(out: &mut String, j: u64, beta: u64) -> Result<(), OutOfMemory>
     ensures { OnOk result (string_bytes out.new ≡ string_bytes out.old ++ ended (beta_line (j, beta))) }
 {
     out.push_str("beta ")?;
@@ -66,7 +76,7 @@ fn push_betas(out: &mut String, betas: &[u64]) -> Result<(), OutOfMemory>
     ensures { OnOk result (string_bytes out.new ≡ string_bytes out.old ++ flat_map ended (map beta_line (enumerate_from 0 betas.now))) }
 {
     for (j, beta) in betas.iter().enumerate() {
-        push_beta(out, j as u64, *beta)?;
+        push_beta_line(out, j as u64, *beta)?;
     }
     Ok(())
 }

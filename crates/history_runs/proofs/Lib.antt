@@ -1,3 +1,4 @@
 pub mod Printed
+pub mod Putting
 pub mod Opened
 pub mod DiskCounts

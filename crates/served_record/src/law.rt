@@ -8,5 +8,6 @@ ghost use Rattle.served_record.specs.Served.{IsRecordOf};
 
 /// A history has at most one record.
 pub fn one_record()
-    ensures { (day : List ℕ) (campaigns : List Campaign) (history : List Entry) (r s : Record) → IsRecordOf day campaigns history r → IsRecordOf day campaigns history s → AreSame r s }
+    ensures { (day : List ℕ) (campaigns : List Campaign) (history : List Entry) (r s : Record)
+        → IsRecordOf day campaigns history r → IsRecordOf day campaigns history s → AreSame r s }
 {}

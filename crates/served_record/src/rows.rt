@@ -68,7 +68,8 @@ fn add_ask(alloc: Global, rows: &mut Rows, ask: &Ask, awards: &Awards) -> Result
     requires enough { rows.old.next + sold_of ask.now (imps_of ask.now) ≤ length awards.now.awards }
     requires few { length awards.now.awards < 2 ^ 32 }
     requires named { All IsNamed rows.old.rows.items }
-    ensures rows { OnOk result (rows.new.rows.items ≡ rows.old.rows.items ++ rows_for awards.now.awards rows.old.next ask.entry.now (imps_of ask.entry.now)) }
+    ensures rows { OnOk result (rows.new.rows.items
+        ≡ rows.old.rows.items ++ rows_for awards.now.awards rows.old.next ask.entry.now (imps_of ask.entry.now)) }
     ensures next { OnOk result (rows.new.next ≡ rows.old.next + sold_of ask.entry.now (imps_of ask.entry.now)) }
     ensures named { OnOk result (All IsNamed rows.new.rows.items) }
 {

@@ -1,6 +1,6 @@
 -- The disk's count is that of the day that ran.
 use Rattle.std.proofs.Common.{arith, refl, rules, ◌≡◌, ◌⊎◌, ◌∙◌, sym, subst}
-use Rattle.script_day.proofs.DiskCounts.{day_later}
+use Rattle.desk_runs.proofs.DiskCounts.{day_later}
 use Rattle.adx_commands.proofs.Statuses.{counted_day, is_faulted, is_passed, not_faulted}
 use Rattle.adx_commands.proofs.command.run.Goals as goal
 
@@ -30,6 +30,20 @@ returns-in-Some-Generate-clause-disk_causes g c =
 pub returns-in-Some-Check-clause-disk_causes : goal.returns-in-Some-Check-clause-disk_causes
 returns-in-Some-Check-clause-disk_causes g c = record {
   disk_fault = λ is. absurd (c.check_input.ensures.other.1 is);
+  disk_passed = λ either. refl;
+  disk_later = omega arith;
+}
+
+pub returns-in-Some-ArchivePut-clause-disk_causes : goal.returns-in-Some-ArchivePut-clause-disk_causes
+returns-in-Some-ArchivePut-clause-disk_causes g c = record {
+  disk_fault = λ is. absurd (c.keep_day.ensures.other.1 is);
+  disk_passed = λ either. refl;
+  disk_later = omega arith;
+}
+
+pub returns-in-Some-ArchiveList-clause-disk_causes : goal.returns-in-Some-ArchiveList-clause-disk_causes
+returns-in-Some-ArchiveList-clause-disk_causes g c = record {
+  disk_fault = λ is. absurd (c.list_days_of.ensures.other.2 is);
   disk_passed = λ either. refl;
   disk_later = omega arith;
 }

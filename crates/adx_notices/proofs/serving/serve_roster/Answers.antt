@@ -5,7 +5,7 @@ use Rattle.adx_io.specs.TalkState.{state_of}
 use Rattle.day_rules.specs.declared.entry.Entry.{Entry}
 use Rattle.day_rules.specs.DayState.{IsDay}
 use Rattle.script_day.specs.Parts.{PutsEnd}
-use Rattle.script_day.proofs.Lent.{course_lent}
+use Rattle.desk_runs.proofs.Lent.{course_lent}
 use Rattle.script_day.proofs.Unopened.{gave_up}
 use Rattle.adx_notices.specs.PostLines.{notice_lines}
 use Rattle.adx_notices.proofs.Opened.{stands_lent}

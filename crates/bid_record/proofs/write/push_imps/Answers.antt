@@ -14,8 +14,8 @@ pub loop-j-preserved : goal.loop-j-preserved
 loop-j-preserved c =
     let xs : List ImpRow = c.args.imps.now in
     let pieces : ℕ → List ℕ = λ n. flat_map ended (map imp_line (take n (enumerate_from 0 xs))) in
-    joined (string_bytes c.args.out.now) (string_bytes c.loop-j.out) (string_bytes c.push_imp.new.out) (pieces c.loop-j.j) (ended (imp_line (c.loop-j.j, get_or xs c.loop-j.j no_row))) (pieces (c.loop-j.j + 1))
-    (c.in_ok-push_imp.ensures ∙ ap (λ (row : ImpRow). string_bytes c.loop-j.out ++ ended (imp_line (c.loop-j.j, row))) (at_default xs c.loop-j.j c.index-imps-j.result no_row c.loop-j-test.true c.index-imps-j.is))
+    joined (string_bytes c.args.out.now) (string_bytes c.loop-j.out) (string_bytes c.push_imp_line.new.out) (pieces c.loop-j.j) (ended (imp_line (c.loop-j.j, get_or xs c.loop-j.j no_row))) (pieces (c.loop-j.j + 1))
+    (c.in_ok-push_imp_line.ensures ∙ ap (λ (row : ImpRow). string_bytes c.loop-j.out ++ ended (imp_line (c.loop-j.j, row))) (at_default xs c.loop-j.j c.index-imps-j.result no_row c.loop-j-test.true c.index-imps-j.is))
     c.loop-j.invariant
     (numbered_more ended imp_line xs c.loop-j.j no_row c.loop-j-test.true)
 

@@ -2,7 +2,7 @@
 use Rattle.std.proofs.Common.{refl}
 use Rattle.ratio_law.specs.Line.{ratio_line}
 use Rattle.command_close.specs.Guarantees.{IsGuarantee}
-use Rattle.command_close.proofs.Putting.{printed_by}
+use Rattle.history_runs.proofs.Putting.{printed_by}
 use Rattle.command_close.proofs.measuring.put_guarantee.Goals as goal
 
 pub returns-in-Ok-clause-printed : goal.returns-in-Ok-clause-printed

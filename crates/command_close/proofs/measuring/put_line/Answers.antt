@@ -1,7 +1,7 @@
 -- The line was put, or a prefix of it.
 use Rattle.std.proofs.Common.{◌∙◌, ◌++◌, ℕ, List, ap}
 use Rattle.ratio_law.specs.Line.{ratio_line}
-use Rattle.command_close.proofs.Putting.{puts_out}
+use Rattle.history_runs.proofs.Putting.{puts_out}
 use Rattle.command_close.proofs.measuring.put_line.Goals as goal
 
 pub returns-in-Ok-clause-puts : goal.returns-in-Ok-clause-puts

@@ -10,8 +10,8 @@ pub loop-j-preserved : goal.loop-j-preserved
 loop-j-preserved c =
     let xs : List ℕ = c.args.betas.now in
     let pieces : ℕ → List ℕ = λ n. flat_map ended (map beta_line (take n (enumerate_from 0 xs))) in
-    joined (string_bytes c.args.out.now) (string_bytes c.loop-j.out) (string_bytes c.push_beta.new.out) (pieces c.loop-j.j) (ended (beta_line (c.loop-j.j, get_or xs c.loop-j.j 0))) (pieces (c.loop-j.j + 1))
-    c.in_ok-push_beta.ensures
+    joined (string_bytes c.args.out.now) (string_bytes c.loop-j.out) (string_bytes c.push_beta_line.new.out) (pieces c.loop-j.j) (ended (beta_line (c.loop-j.j, get_or xs c.loop-j.j 0))) (pieces (c.loop-j.j + 1))
+    c.in_ok-push_beta_line.ensures
     c.loop-j.invariant
     (numbered_more ended beta_line xs c.loop-j.j 0 c.loop-j-test.true)
 

@@ -1,0 +1,4 @@
+pub mod Connections
+pub mod Bidding
+pub mod Statuses
+pub mod Turns

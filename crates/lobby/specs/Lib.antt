@@ -1,0 +1,3 @@
+pub mod Serving
+pub mod Lobbies
+pub mod Halls

@@ -1,0 +1,2 @@
+pub mod PriceLines
+pub mod Documents

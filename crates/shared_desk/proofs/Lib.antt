@@ -1,0 +1,5 @@
+pub mod Running
+pub mod Passing
+pub mod Together
+pub mod Crossing
+pub mod Steps
