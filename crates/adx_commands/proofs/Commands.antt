@@ -11,9 +11,10 @@ use Rattle.command_check.proofs.Ended.{unbegun as unchecked}
 use Rattle.command_close.specs.ClosedDays.{IsClosedDay}
 use Rattle.command_close.specs.Guarantees.{IsGuarantee}
 use Rattle.command_notices.specs.PostLines.{AreNotices}
+use Rattle.command_reconcile.specs.Runs.{RunsReconciliation, reconcile_command}
 use Rattle.command_runs.specs.Statuses.{status_by}
 use Rattle.command_runs.specs.declared.outcome.Outcome.{Outcome}
-use Rattle.command_runs.proofs.Ran.{unbegun_wrote}
+use Rattle.command_runs.proofs.Ran.{unbegun_counted, unbegun_wrote}
 use Rattle.command_words.specs.Meanings.{IsPlain}
 use Rattle.command_words.specs.declared.command.Command.{Command}
 use Rattle.command_words.proofs.Rows.{plain_only, some_reading}
@@ -97,6 +98,18 @@ module _ {S K D P : Type 0} (s : sources.Ghosts S) (k : sinks.Ghosts K) (d : dis
     wrote = unbegun_wrote (history_command prints None) (s.tape source) (k.held sink) (λ left. (refl, inr (([], All-nil (λ b. b ≢ 10), inl ([], zero-le, refl)), refl)));
   }
 
+  unreconciled : (name : List ℕ) → RunsReconciliation s k d name source source sink sink disk disk (Err Stop.OutOfMemory)
+  unreconciled name = record {
+    course = None;
+    leaves = (refl, tt);
+    runs = record {
+      wrote = unbegun_wrote (reconcile_command name None) (s.tape source) (k.held sink) (λ left. (refl, inr (([], All-nil (λ b. b ≢ 10), inl ([], zero-le, refl)), refl)));
+      causes = unbegun_counted (s.faults source) (k.faults sink);
+      source_same = refl;
+      sink_same = refl;
+    };
+  }
+
   -- whatever was to run ends so
   unstarted : (read : Option Command) → Runs s k d p (still source sink disk keeper) 12 read
   unstarted (Some (Command.Day journal)) = record { ending = no_memory; told = refl; serves = unserved d.faults d.reads d.may_leave d.moment d.left_since (s.tape source) (k.held sink) disk }
@@ -109,6 +122,7 @@ module _ {S K D P : Type 0} (s : sources.Ghosts S) (k : sinks.Ghosts K) (d : dis
   unstarted (Some Command.Check) = unchecked (s.tape source) (k.held sink)
   unstarted (Some (Command.ArchivePut file)) = unkept s k p source sink keeper
   unstarted (Some (Command.ArchiveList file seat cid first last)) = unlisted_days p (record { seat = seat; cid = cid; first = first; last = last }) keeper (k.held sink)
+  unstarted (Some (Command.Reconcile journal name)) = record { ended = Err Stop.OutOfMemory; told = refl; ran = unreconciled name }
   unstarted (Some (Command.Help topic)) = inr (inr (refl, refl))
   unstarted (Some Command.Version) = inr (inr (refl, refl))
   unstarted None = inr (inr (refl, refl))
@@ -132,6 +146,7 @@ module _ {S K D P : Type 0} (s : sources.Ghosts S) (k : sinks.Ghosts K) (d : dis
   not_refused Command.Check runs = not_two_by runs.ended runs.told
   not_refused (Command.ArchivePut file) runs = not_two_by runs.ended runs.told
   not_refused (Command.ArchiveList file seat cid first last) runs = not_two_by runs.ended runs.told
+  not_refused (Command.Reconcile journal name) runs = not_two_by runs.ended runs.told
   not_refused (Command.Help topic) runs = told_otherwise runs
   not_refused Command.Version runs = told_otherwise runs
 

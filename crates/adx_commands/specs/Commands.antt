@@ -16,6 +16,7 @@ use Rattle.command_check.specs.Runs.{ChecksInput}
 use Rattle.command_close.specs.ClosedDays.{IsClosedDay}
 use Rattle.command_close.specs.Guarantees.{IsGuarantee}
 use Rattle.command_notices.specs.PostLines.{AreNotices}
+use Rattle.command_reconcile.specs.Runs.{RunsReconciliation}
 use Rattle.command_runs.specs.Firsts.{LeavesFirst}
 use Rattle.command_runs.specs.Meanings.{Wrote}
 use Rattle.command_runs.specs.Statuses.{status_by}
@@ -78,6 +79,10 @@ IsArchiveList words q = (archive : List ℕ) × IsPlain (Command.ArchiveList arc
 abbrev pub IsArchive : List (List ℕ) → Type 0
 IsArchive words = IsArchivePut words ⊎ ((q : Query) × IsArchiveList words q)
 
+-- the words compare the bills of the day that a journal in a file keeps with the ledger of the bidder of this name
+abbrev pub IsReconcile : List (List ℕ) → List ℕ → Type 0
+IsReconcile words name = (journal : List ℕ) × IsPlain (Command.Reconcile journal name) words
+
 -- the words ask for help on this, and for the version
 abbrev pub IsHelp : List (List ℕ) → Topic → Type 0
 IsHelp words topic = IsPlain (Command.Help topic) words
@@ -131,6 +136,13 @@ pub record RunsPrint {D : Type 0} (d : disks.Ghosts D) (prints : Prints) (tape t
   pub wrote : WhereTold tape tape_now
       (λ before now. Wrote (history_command prints course) before.left now.left held held_now ended)
 
+-- The bills of a day and of a bidder's ledger were compared over a source, a sink and a disk, told by the exit status.
+pub record RunsReconcile {S K D : Type 0} (s : sources.Ghosts S) (k : sinks.Ghosts K) (d : disks.Ghosts D) (name : List ℕ)
+    (source source_now : S) (sink sink_now : K) (old new : D) (status : ℕ) : Type 0 where
+  pub ended : Result Outcome Stop
+  pub told : status ≡ status_by ended
+  pub ran : RunsReconciliation s k d name source source_now sink sink_now old new ended
+
 -- The sink took the text, and the status is this one; or it took a front of the text and failed; or memory was refused
 -- before, and it took nothing.
 abbrev pub Tells : List ℕ → ℕ → Option (List ℕ) → Option (List ℕ) → ℕ → Type 0
@@ -175,6 +187,8 @@ module _ {S K D P : Type 0} (s : sources.Ghosts S) (k : sinks.Ghosts K) (d : dis
   Runs (Some (Command.ArchivePut file)) = KeepsAs s k p o.source o.source_now o.sink o.sink_now o.keeper o.keeper_now status
   Runs (Some (Command.ArchiveList file seat cid first last)) =
       ListsAs p (record { seat = seat; cid = cid; first = first; last = last }) o.keeper o.keeper_now (k.held o.sink) (k.held o.sink_now) status
+  Runs (Some (Command.Reconcile journal name)) =
+      RunsReconcile s k d name o.source o.source_now o.sink o.sink_now o.disk o.disk_now status
   Runs (Some (Command.Help topic)) = Tells (help_text topic) 0 (k.held o.sink) (k.held o.sink_now) status
   Runs (Some Command.Version) = Tells version_text 0 (k.held o.sink) (k.held o.sink_now) status
   Runs None = Tells usage_line 2 (k.held o.sink) (k.held o.sink_now) status
@@ -188,6 +202,7 @@ AsksNothing (Some Command.Bidder) = ⊥
 AsksNothing (Some Command.Check) = ⊥
 AsksNothing (Some (Command.ArchivePut file)) = ⊥
 AsksNothing (Some (Command.Close journal ratio)) = ⊥
+AsksNothing (Some (Command.Reconcile journal name)) = ⊥
 AsksNothing _ = Unit {0}
 
 -- a run of what was read leaves the disk as it is
@@ -196,6 +211,7 @@ LeavesDisk (Some (Command.Day journal)) = ⊥
 LeavesDisk (Some (Command.Connection journal)) = ⊥
 LeavesDisk (Some (Command.Notices journal)) = ⊥
 LeavesDisk (Some (Command.Close journal ratio)) = ⊥
+LeavesDisk (Some (Command.Reconcile journal name)) = ⊥
 LeavesDisk (Some (Command.Generate seed asks)) = ⊥
 LeavesDisk _ = Unit {0}
 

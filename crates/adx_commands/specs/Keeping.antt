@@ -15,6 +15,7 @@ IsKeptAs (Some (Command.Day journal)) kept = kept ≡ kept_by journal
 IsKeptAs (Some (Command.Connection journal)) kept = kept ≡ kept_by journal
 IsKeptAs (Some (Command.Notices journal)) kept = kept ≡ Kept.Existing journal
 IsKeptAs (Some (Command.Close journal ratio)) kept = kept ≡ Kept.Existing journal
+IsKeptAs (Some (Command.Reconcile journal name)) kept = kept ≡ Kept.Existing journal
 IsKeptAs (Some (Command.ArchivePut file)) kept = kept ≡ Kept.Archived file
 IsKeptAs (Some (Command.ArchiveList file seat cid first last)) kept = kept ≡ Kept.Archived file
 IsKeptAs _ kept = kept ≡ Kept.InMemory

@@ -1,5 +1,5 @@
 //! The top call, from the words of a command to its exit status.
-ghost use Rattle.std.specs.Prelude.{◌≡◌, ◌≢◌, ◌⊎◌, ◌≤◌, ℕ, Some};
+ghost use Rattle.std.specs.Prelude.{◌≡◌, ◌≢◌, ◌⊎◌, ◌≤◌, ℕ, List, Some};
 ghost use Rattle.adx_io.specs.Streams.{Rises};
 ghost use Rattle.command_archive.specs.Keeps.{KeepsAs};
 ghost use Rattle.command_archive.specs.Lists.{ListsAs};
@@ -15,7 +15,7 @@ ghost use Rattle.command_words.specs.declared.command.Command.{Command as Meanin
 ghost use Rattle.command_words.specs.declared.command.Topic.{Topic as HelpTopic};
 ghost use Rattle.script_day.specs.Days.{HasOneOutput, HasOutputs};
 ghost use Rattle.adx_commands.specs.Statuses.{HasCauses, HasDiskCauses};
-ghost use Rattle.adx_commands.specs.Commands.{AsksNothing, Does, DoesAsRead, IsArchive, IsArchiveList, IsArchivePut, IsBidder, IsCheck, IsClose, IsCommand, IsConnection, IsDay, IsGenerated, IsHelp, IsNotices, IsRatio, IsVersion, LeavesDisk, LeavesKeeper, Runs, RunsBidder, RunsConnection, RunsDay, RunsGenerated, RunsPrint, Tells};
+ghost use Rattle.adx_commands.specs.Commands.{AsksNothing, Does, DoesAsRead, IsArchive, IsArchiveList, IsArchivePut, IsBidder, IsCheck, IsClose, IsCommand, IsConnection, IsDay, IsGenerated, IsHelp, IsNotices, IsRatio, IsReconcile, IsVersion, LeavesDisk, LeavesKeeper, Runs, RunsBidder, RunsConnection, RunsDay, RunsGenerated, RunsPrint, RunsReconcile, Tells};
 
 use crate::status::{DONE, NO_COMMAND, OUT_OF_MEMORY, WRITE_FAULT, status_of, status_of_outcome};
 use adx_books::{Generator, serve_generated};
@@ -26,6 +26,7 @@ use command_bidder::run_bidder;
 use command_check::check_input;
 use command_close::{close_journal, measure_journal};
 use command_notices::print_notices;
+use command_reconcile::reconcile_ledger;
 use command_words::{Command, VERSION, command_of, help_of};
 use day_archive::Keeper;
 use exchange_day::serve_exchange;
@@ -125,6 +126,10 @@ fn run<S: Source, K: Sink, D: Disk, P: Keeper>(
             };
             list_days_of(alloc, keeper, &query, sink)
         }
+        Some(Command::Reconcile { bidder, .. }) => {
+            let ended = reconcile_ledger(alloc, bidder.as_str(), source, sink, disk);
+            status_of_outcome(ended)
+        }
         Some(Command::Help(topic)) => tell(sink, help_of(topic), DONE),
         Some(Command::Version) => tell(sink, VERSION, DONE),
         None => tell(sink, USAGE, NO_COMMAND),
@@ -200,6 +205,10 @@ fn run_words<S: Source, K: Sink, D: Disk, P: Keeper>(
 /// day. Either upgrades the keeper before it asks anything else of it, `archive-put` only behind an accepted certificate. All
 /// other commands leave the keeper as it is.
 ///
+/// The command `reconcile` reads a roster line and then the lines of a bidder's ledger, as `bidder` answers them at `/ledger`.
+/// It opens the roster's day on the disk, and writes a line for each auction and price of which the day's bills that the
+/// bidder's campaigns owe and the ledger's bills have different numbers, and the two sums. Nothing is added to the history.
+///
 /// The words `--help`, alone or after a command's word, `help`, alone or before it, and `--version` ask for a text, which
 /// the sink takes.
 ///
@@ -251,6 +260,8 @@ pub fn adx<S: Source, K: Sink, D: Disk, P: Keeper>(
         KeepsAs S.Source K.Sink P.Keeper source.old source.new sink.old sink.new keeper.old keeper.new result }
     ensures archive_list { (q : Asked) → IsArchiveList words.now q →
         ListsAs P.Keeper q keeper.old keeper.new (K.held sink.old) (K.held sink.new) result }
+    ensures reconcile { (name : List ℕ) → IsReconcile words.now name →
+        RunsReconcile S.Source K.Sink D.Disk name source.old source.new sink.old sink.new disk.old disk.new result }
     ensures help { (topic : HelpTopic) → IsHelp words.now topic →
         Tells (help_text topic) 0 (K.held sink.old) (K.held sink.new) result }
     ensures version { IsVersion words.now → Tells version_text 0 (K.held sink.old) (K.held sink.new) result }

@@ -41,6 +41,7 @@ fn kept_of(read: Option<Command>) -> Kept
         Some(Command::Connection { journal }) => kept_in(journal),
         Some(Command::Notices { journal }) => Kept::Existing(journal),
         Some(Command::Close { journal, .. }) => Kept::Existing(journal),
+        Some(Command::Reconcile { journal, .. }) => Kept::Existing(journal),
         Some(Command::ArchivePut { archive }) => Kept::Archived(archive),
         Some(Command::ArchiveList { archive, .. }) => Kept::Archived(archive),
         Some(Command::Bidder)

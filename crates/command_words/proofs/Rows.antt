@@ -19,8 +19,8 @@ use Rattle.clap.specs.Walk.{Row as Found}
 use Rattle.clap.specs.declared.builder.value_parser.Reading.TheVariants.{AsWritten}
 use Rattle.clap.specs.declared.error.kind.ErrorKind.{ErrorKind}
 use Rattle.command_words.specs.Spelling.{Given, Row, Spells, SpellsWith, dashed, has_option, value_of, words_of}
-use Rattle.command_words.specs.Meanings.{IsPlain, archive_name, asks_name, bidder, check, cid_name, closing, connection, day, first_help_word, from_name, generator, help_word, journal_name, notices, number_of, ratio_name, seat_name, seed_name, to_name, version_word, words_before_help}
-use Rattle.command_words.specs.Taken.{Comes, IsReadingOf, answer, answer_by, application, close_by, command_found, generate, print_notices, put_archive, turned_by, turned_round}
+use Rattle.command_words.specs.Meanings.{IsPlain, archive_name, asks_name, bidder, bidder_name, check, cid_name, closing, connection, day, first_help_word, from_name, generator, help_word, journal_name, notices, number_of, ratio_name, seat_name, seed_name, to_name, version_word, words_before_help}
+use Rattle.command_words.specs.Taken.{Comes, IsReadingOf, answer, answer_by, application, close_by, command_found, generate, print_notices, put_archive, reconcile_with, turned_by, turned_round}
 use Rattle.command_words.specs.declared.command.Command.{Command}
 use Rattle.command_words.specs.declared.command.Topic.{Topic}
 use Rattle.command_words.specs.declared.command.TheConstants.{MOST_ASKS}
@@ -28,6 +28,7 @@ use Rattle.command_words.proofs.Walks.{Ends, HasFlag, HasOption, both, done_with
 use Rattle.command_words.proofs.Levels.{HasCommand, IsRead, command_entered, command_passes, first_behind, first_beside, first_found, given_beside, given_found, level_passes, no_default, no_more, options_read, or_true, rows_found, same_both}
 use Rattle.command_words.proofs.Programs.{IsBuilt, one_name, program, shape_by}
 use Rattle.command_words.proofs.ArchiveRows.{archive_list_built, archive_put_built, same_five}
+use Rattle.command_words.proofs.ReconcileRow.{reconcile_built}
 
 -- ---- the rows
 
@@ -290,6 +291,7 @@ help_asked Topic.Close = refl
 help_asked Topic.Check = refl
 help_asked Topic.ArchivePut = refl
 help_asked Topic.ArchiveList = refl
+help_asked Topic.Reconcile = refl
 help_asked Topic.Generate = refl
 
 help_answered : (topic : Topic) → answer (Some ErrorKind.DisplayHelp) (words_before_help topic ++ help_word ∷ []) ≡ Some (Command.Help topic)
@@ -302,6 +304,7 @@ help_answered Topic.Close = refl
 help_answered Topic.Check = refl
 help_answered Topic.ArchivePut = refl
 help_answered Topic.ArchiveList = refl
+help_answered Topic.Reconcile = refl
 help_answered Topic.Generate = refl
 
 version_asked : fault_of application (version_word ∷ []) ≡ ErrorKind.DisplayVersion ∷ []
@@ -380,6 +383,11 @@ plain_read (Command.ArchiveList archive seat cid first last) words (row, given, 
     (ap command_found (its.1 ∙ ap (λ (r : Row). Some (r.word, map row_for given)) is.0)
     ∙ same_five _ _ _ _ _ (Some archive) (Some seat) (Some cid) (Some first) (Some last) (first_found archive_name given ∙ is.1) (first_found seat_name given ∙ is.2) (first_found cid_name given ∙ is.3)
     (first_found from_name given ∙ is.4) (first_found to_name given ∙ is.5))
+plain_read (Command.Reconcile journal name) words (row, given, spells, is) =
+    let its = takes row given words (subst IsBuilt (sym is.0) reconcile_built) spells in
+    taken (Command.Reconcile journal name) words its.0
+    (ap command_found (its.1 ∙ ap (λ (r : Row). Some (r.word, map row_for given)) is.0)
+    ∙ ap₂ reconcile_with (first_found journal_name given ∙ is.1) (first_found bidder_name given ∙ is.2))
 plain_read (Command.Help topic) words is =
     asked (Command.Help topic) words ErrorKind.DisplayHelp (ap (fault_of application) is ∙ help_asked topic) (ap (answer (Some ErrorKind.DisplayHelp)) is ∙ help_answered topic)
 plain_read Command.Version words is = asked Command.Version words ErrorKind.DisplayVersion (ap (fault_of application) is ∙ version_asked) (ap (answer (Some ErrorKind.DisplayVersion)) is)
@@ -394,6 +402,7 @@ help_stays Topic.Close = refl
 help_stays Topic.Check = refl
 help_stays Topic.ArchivePut = refl
 help_stays Topic.ArchiveList = refl
+help_stays Topic.Reconcile = refl
 help_stays Topic.Generate = refl
 
 -- words that begin with another word than `help` stand as `clap` takes them
@@ -430,6 +439,8 @@ plain_turned (Command.ArchivePut archive) words (row, given, spells, is) =
     subst (IsTaken (Command.ArchivePut archive)) (sym (stays row given words (ap (λ (r : Row). bytes_eq r.word first_help_word) is.0) spells)) (row, given, spells, is)
 plain_turned (Command.ArchiveList archive seat cid first last) words (row, given, spells, is) =
     subst (IsTaken (Command.ArchiveList archive seat cid first last)) (sym (stays row given words (ap (λ (r : Row). bytes_eq r.word first_help_word) is.0) spells)) (row, given, spells, is)
+plain_turned (Command.Reconcile journal name) words (row, given, spells, is) =
+    subst (IsTaken (Command.Reconcile journal name)) (sym (stays row given words (ap (λ (r : Row). bytes_eq r.word first_help_word) is.0) spells)) (row, given, spells, is)
 plain_turned (Command.Help topic) words (inl behind) = ap turned_round behind ∙ help_stays topic
 plain_turned (Command.Help topic) words (inr first) = ap turned_round first
 plain_turned Command.Version words is = ap turned_round is

@@ -16,6 +16,9 @@ seed_name = codes "seed"
 abbrev pub asks_name : List ℕ
 asks_name = codes "asks"
 
+abbrev pub bidder_name : List ℕ
+bidder_name = codes "bidder"
+
 -- the name of a flag
 abbrev pub ratio_name : List ℕ
 ratio_name = codes "ratio"
@@ -71,9 +74,13 @@ archive_put = record { word = codes "archive-put"; needed = archive_name ∷ [];
 abbrev pub archive_list : Row
 archive_list = record { word = codes "archive-list"; needed = archive_name ∷ seat_name ∷ cid_name ∷ from_name ∷ to_name ∷ []; optional = []; flags = [] }
 
+-- reconcile --journal FILE --bidder NAME
+abbrev pub reconcile : Row
+reconcile = record { word = codes "reconcile"; needed = journal_name ∷ bidder_name ∷ []; optional = []; flags = [] }
+
 -- the commands that the program has
 abbrev pub commands : List Row
-commands = day ∷ connection ∷ notices ∷ bidder ∷ generator ∷ closing ∷ check ∷ archive_put ∷ archive_list ∷ []
+commands = day ∷ connection ∷ notices ∷ bidder ∷ generator ∷ closing ∷ check ∷ archive_put ∷ archive_list ∷ reconcile ∷ []
 
 -- the number that an option's value tells: decimal, without a sign or a leading zero, and at most so much
 abbrev pub number_of : ℕ → Option (List ℕ) → Option ℕ
@@ -91,6 +98,8 @@ AsksFor (Command.ArchivePut archive) row given = (row ≡ archive_put) × (value
 AsksFor (Command.ArchiveList archive seat cid first last) row given =
     (row ≡ archive_list) × (value_of archive_name given ≡ Some archive) × (value_of seat_name given ≡ Some seat) × (value_of cid_name given ≡ Some cid)
     × (value_of from_name given ≡ Some first) × (value_of to_name given ≡ Some last)
+AsksFor (Command.Reconcile journal name) row given =
+    (row ≡ reconcile) × (value_of journal_name given ≡ Some journal) × (value_of bidder_name given ≡ Some name)
 AsksFor (Command.Generate seed asks) row given =
     (row ≡ generator) × (number_of (2 ^ 64 - 1) (value_of seed_name given) ≡ Some seed) × (number_of MOST_ASKS (value_of asks_name given) ≡ Some asks)
 AsksFor (Command.Help topic) row given = ⊥
@@ -118,6 +127,7 @@ words_before_help Topic.Close = closing.word ∷ []
 words_before_help Topic.Check = check.word ∷ []
 words_before_help Topic.ArchivePut = archive_put.word ∷ []
 words_before_help Topic.ArchiveList = archive_list.word ∷ []
+words_before_help Topic.Reconcile = reconcile.word ∷ []
 words_before_help Topic.Generate = generator.word ∷ []
 
 -- the words ask for this in plain spelling

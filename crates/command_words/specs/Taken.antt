@@ -12,7 +12,7 @@ use Rattle.clap.specs.Walk.{Row as Found}
 use Rattle.clap.specs.declared.builder.action.ArgAction.TheVariants.{SetTrue}
 use Rattle.clap.specs.declared.error.kind.ErrorKind.{ErrorKind}
 use Rattle.command_words.specs.Spelling.{Row}
-use Rattle.command_words.specs.Meanings.{archive_list, archive_name, archive_put, asks_name, bidder, check, cid_name, closing, commands, connection, day, first_help_word, from_name, generator, help_word, journal_name, notices, number_of, ratio_name, seat_name, seed_name, to_name}
+use Rattle.command_words.specs.Meanings.{archive_list, archive_name, archive_put, asks_name, bidder, bidder_name, check, cid_name, closing, commands, connection, day, first_help_word, from_name, generator, help_word, journal_name, notices, number_of, ratio_name, reconcile, seat_name, seed_name, to_name}
 use Rattle.command_words.specs.declared.command.Command.{Command}
 use Rattle.command_words.specs.declared.command.Topic.{Topic}
 use Rattle.command_words.specs.declared.command.TheConstants.{MOST_ASKS}
@@ -64,6 +64,9 @@ is_set name found = option_map_or (λ text. bytes_eq text (codes "true")) (first
 abbrev pub close_by : Option (List ℕ) → Bool → Option Command
 close_by journal ratio = option_map (λ j. Command.Close j ratio) journal
 
+abbrev pub reconcile_with : Option (List ℕ) → Option (List ℕ) → Option Command
+reconcile_with journal name = option_and_then (λ j. option_map (λ n. Command.Reconcile j n) name) journal
+
 abbrev pub put_archive : Option (List ℕ) → Option Command
 put_archive = option_map (λ a. Command.ArchivePut a)
 
@@ -92,6 +95,7 @@ command_by word found =
     else if bytes_eq word check.word then Some Command.Check
     else if bytes_eq word archive_put.word then put_archive (first_of archive_name found)
     else if bytes_eq word archive_list.word then days_asked found
+    else if bytes_eq word reconcile.word then reconcile_with (first_of journal_name found) (first_of bidder_name found)
     else None
 
 abbrev pub command_found : Option (List ℕ × List Found) → Option Command
@@ -109,6 +113,7 @@ topic_by word =
     else if bytes_eq word check.word then Topic.Check
     else if bytes_eq word archive_put.word then Topic.ArchivePut
     else if bytes_eq word archive_list.word then Topic.ArchiveList
+    else if bytes_eq word reconcile.word then Topic.Reconcile
     else Topic.Program
 
 abbrev pub topic_of : List (List ℕ) → Topic

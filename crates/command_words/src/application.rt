@@ -3,7 +3,7 @@ ghost use Rattle.std.specs.Prelude.{◌≡◌, ◌∷◌, [], IfOk, false, true}
 ghost use Rattle.clap.specs.Simple.{app_of};
 ghost use Rattle.clap.specs.Walk.{rule_of};
 ghost use Rattle.clap.specs.declared.builder.command.Command.TheViews.{out-Command as fields_of};
-ghost use Rattle.command_words.specs.Meanings.{archive_list as archive_list_row, archive_put as archive_put_row, bidder as bidder_row, check as check_row, closing as closing_row, connection as connection_row, day as day_row, generator as generator_row, notices as notices_row};
+ghost use Rattle.command_words.specs.Meanings.{archive_list as archive_list_row, archive_put as archive_put_row, bidder as bidder_row, check as check_row, closing as closing_row, connection as connection_row, day as day_row, generator as generator_row, notices as notices_row, reconcile as reconcile_row};
 ghost use Rattle.command_words.specs.Taken.{application as program, flag_rule, listed_of, no_commands, option_rule, program_of, subcommand_for};
 
 use clap::{Arg, ArgAction, Command};
@@ -107,6 +107,14 @@ fn archive_list<'a>(alloc: Global) -> Result<Command<'a>, AllocError>
     command.arg(needed(alloc, "to"))
 }
 
+/// The command `reconcile`.
+fn reconcile<'a>(alloc: Global) -> Result<Command<'a>, AllocError>
+    ensures { IfOk result (λ c. (app_of c ≡ subcommand_for reconcile_row) × ((fields_of c).has_globals ≡ false)) }
+{
+    let command = Command::new(alloc, "reconcile").arg(needed(alloc, "journal"))?;
+    command.arg(needed(alloc, "bidder"))
+}
+
 /// The program without its commands. It has no `help` command beside `--help`.
 fn bare<'a>(alloc: Global) -> Command<'a>
     ensures { app_of result ≡ no_commands }
@@ -147,5 +155,6 @@ pub(crate) fn application<'a>(alloc: Global) -> Result<Command<'a>, AllocError>
     ensures { IfOk result (λ c. app_of c ≡ program) }
 {
     let command = with_check(alloc)?.subcommand(archive_put(alloc)?)?;
-    command.subcommand(archive_list(alloc)?)
+    let command = command.subcommand(archive_list(alloc)?)?;
+    command.subcommand(reconcile(alloc)?)
 }

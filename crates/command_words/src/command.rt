@@ -40,6 +40,11 @@ pub enum Command {
         first: Text,
         last: Text,
     },
+    /// Compare the bills of the day that a journal keeps, with its file, with the ledger of the bidder of this name.
+    Reconcile {
+        journal: Text,
+        bidder: Text,
+    },
     /// Take the calls of a generated day, by the words of a seed; it has at most `MOST_ASKS` asks.
     Generate {
         seed: u64,
@@ -72,6 +77,8 @@ pub enum Topic {
     ArchivePut,
     /// The command `archive-list`.
     ArchiveList,
+    /// The command `reconcile`.
+    Reconcile,
     /// The command `gen`.
     Generate,
 }

@@ -19,6 +19,7 @@ usage: adx day [--journal FILE]
        adx check
        adx archive-put --archive FILE
        adx archive-list --archive FILE --seat S --cid C --from DAY --to DAY
+       adx reconcile --journal FILE --bidder NAME
        adx COMMAND --help
        adx help COMMAND
        adx --version
@@ -176,6 +177,21 @@ example:
   ./adx archive-list --archive a.db --seat s1 --cid c1 --from 2025-01-01 --to 2025-12-31
 ";
 
+/// The help on the command `reconcile`.
+pub const RECONCILE_HELP: &str = "usage: adx reconcile --journal FILE --bidder NAME
+
+in:  the roster of the journal's day, one line, and after it the lines of the ledger of a bidder, as the command bidder answers
+them at /ledger, on standard input; at most 2^36 bytes
+out: a line on standard output for each auction and price of which the journal and the ledger have different numbers of bills,
+and after these the two sums
+--journal FILE: the journal of the day; FILE has to exist, and nothing is added to its history
+--bidder NAME: the bidder's name in the roster
+
+status: 0 the bills were compared, 3 the first line isn't a roster, the roster has no such bidder, or a later line isn't a
+ledger's, or the input is too long, 4 standard input can't be read, 5 standard output can't be written, 6 the journal can't be
+read, or another process has it open, 7 the journal isn't one of this roster's day, 12 out of memory
+";
+
 /// The help on a topic: what goes in and out, the exit statuses, and an example.
 pub fn help_of(topic: Topic) -> &'static str
     ensures { result.now ≡ help_text topic }
@@ -190,6 +206,7 @@ pub fn help_of(topic: Topic) -> &'static str
         Topic::Check => CHECK_HELP,
         Topic::ArchivePut => ARCHIVE_PUT_HELP,
         Topic::ArchiveList => ARCHIVE_LIST_HELP,
+        Topic::Reconcile => RECONCILE_HELP,
         Topic::Generate => GENERATOR_HELP,
     }
 }

@@ -4,8 +4,8 @@ ghost use Rattle.clap.specs.Matches.{found_of};
 ghost use Rattle.clap.specs.Simple.{subcommand_rows_of};
 ghost use Rattle.clap.specs.Walk.{first_of, rows_of, texts, texts as texts_in};
 ghost use Rattle.clap.specs.declared.error.kind.ErrorKind.TheVariants.{OutOfMemory as no_memory};
-ghost use Rattle.command_words.specs.Meanings.{HasFewAsks, IsPlain, asks_name, number_of, seed_name};
-ghost use Rattle.command_words.specs.Taken.{IsReadingOf, answer_by, close_by, command_by, command_found, days_asked, generate, is_set as is_set_in, list_archive, print_notices, put_archive, topic_of as topic_in, topic_by, turned_round};
+ghost use Rattle.command_words.specs.Meanings.{HasFewAsks, IsPlain, asks_name, bidder_name, journal_name, number_of, seed_name};
+ghost use Rattle.command_words.specs.Taken.{IsReadingOf, answer_by, close_by, command_by, command_found, days_asked, generate, is_set as is_set_in, list_archive, print_notices, put_archive, reconcile_with, topic_of as topic_in, topic_by, turned_round};
 ghost use Rattle.command_words.specs.declared.command.Command.{Command as Meaning};
 ghost use Rattle.command_words.specs.declared.command.TheConstants.{MOST_ASKS as most_asks};
 
@@ -55,6 +55,7 @@ fn topic_named(word: &str) -> Topic
         "check" => Topic::Check,
         "archive-put" => Topic::ArchivePut,
         "archive-list" => Topic::ArchiveList,
+        "reconcile" => Topic::Reconcile,
         _ => Topic::Program,
     }
 }
@@ -221,6 +222,27 @@ fn archive_listed(alloc: Global, found: &ArgMatches<'_>) -> Result<Option<Comman
     Ok(days_listed(archive, seat, cid, first, last))
 }
 
+/// The bills that are to be compared, of the day in this file and of the bidder of this name.
+fn reconciled(journal: Option<Text>, bidder: Option<Text>) -> Option<Command>
+    ensures read { result ≡ reconcile_with journal bidder }
+    ensures few { HasFewAsks result }
+{
+    let journal = journal?;
+    let bidder = bidder?;
+    Some(Command::Reconcile { journal, bidder })
+}
+
+/// The bills that the options ask for.
+fn reconcile_asked(alloc: Global, found: &ArgMatches<'_>) -> Result<Option<Command>, OutOfMemory>
+    ensures read { IfOk result (λ read. read ≡
+        reconcile_with (first_of journal_name (rows_of (found_of found.now))) (first_of bidder_name (rows_of (found_of found.now)))) }
+    ensures few { IfOk result (λ read. HasFewAsks read) }
+{
+    let journal = text_found(alloc, found, "journal")?;
+    let bidder = text_found(alloc, found, "bidder")?;
+    Ok(reconciled(journal, bidder))
+}
+
 /// What a command's word with the options that were found behind it asks for.
 fn command_named(
     alloc: Global,
@@ -244,6 +266,7 @@ fn command_named(
         "check" => Ok(Some(Command::Check)),
         "archive-put" => Ok(archived(text_found(alloc, found, "archive")?)),
         "archive-list" => archive_listed(alloc, found),
+        "reconcile" => reconcile_asked(alloc, found),
         _ => Ok(None),
     }
 }

@@ -46,6 +46,9 @@ returns-clause-archive_put g c = λ put. (plain_does c.run_words.ensures.does (C
 pub returns-clause-archive_list : goal.returns-clause-archive_list
 returns-clause-archive_list g c = λ q list. (plain_does c.run_words.ensures.does (Command.ArchiveList list.0 q.seat q.cid q.first q.last) list.1).by_run
 
+pub returns-clause-reconcile : goal.returns-clause-reconcile
+returns-clause-reconcile g c = λ name reconcile. (plain_does c.run_words.ensures.does (Command.Reconcile reconcile.0 name) reconcile.1).by_run
+
 pub returns-clause-help : goal.returns-clause-help
 returns-clause-help g c = λ topic help. (plain_does c.run_words.ensures.does (Command.Help topic) help).by_run
 

@@ -1,7 +1,8 @@
 -- The disk's count is that of the day that ran.
 use Rattle.std.proofs.Common.{arith, refl, rules, ◌≡◌, ◌⊎◌, ◌∙◌, sym, subst}
 use Rattle.desk_runs.proofs.DiskCounts.{day_later}
-use Rattle.adx_commands.proofs.Outcomes.{counted_bidder}
+use Rattle.command_reconcile.specs.Runs.{RunsReconciliation}
+use Rattle.adx_commands.proofs.Outcomes.{caused, counted_bidder, counted_ledger}
 use Rattle.adx_commands.proofs.Statuses.{counted_day, is_faulted, is_passed, not_faulted}
 use Rattle.adx_commands.proofs.command.run.Goals as goal
 
@@ -53,3 +54,26 @@ pub returns-in-Some-Bidder-clause-disk_causes : goal.returns-in-Some-Bidder-clau
 returns-in-Some-Bidder-clause-disk_causes g c =
     let ran = c.run_bidder-ended.ensures.runs in
     counted_bidder (g.D.Disk.faults c.args.disk.now) ran.course c.run_bidder-ended.result c.status_of_outcome-in-Some-Bidder.result ran.ends c.status_of_outcome-in-Some-Bidder.ensures
+
+pub returns-in-Some-Reconcile-clause-does : goal.returns-in-Some-Reconcile-clause-does
+returns-in-Some-Reconcile-clause-does g c =
+    let ran = c.reconcile_ledger-ended.ensures.runs in record {
+      by_run = record {
+        ended = c.reconcile_ledger-ended.result;
+        told = c.status_of_outcome-in-Some-Reconcile.ensures;
+        ran = subst (λ name. RunsReconciliation g.S.Source g.K.Sink g.D.Disk name c.args.source.now c.reconcile_ledger-ended.new.source c.args.sink.now c.reconcile_ledger-ended.new.sink c.args.disk.now c.reconcile_ledger-ended.new.disk c.reconcile_ledger-ended.result) c.as_str.ensures.value ran;
+      };
+      unasked = λ nothing. absurd nothing;
+      untouched = λ left. absurd left;
+      nothing_kept = λ left. refl;
+    }
+
+pub returns-in-Some-Reconcile-clause-causes : goal.returns-in-Some-Reconcile-clause-causes
+returns-in-Some-Reconcile-clause-causes g c =
+    caused (g.S.Source.faults c.args.source.now) (g.S.Source.faults c.reconcile_ledger-ended.new.source) (g.K.Sink.faults c.args.sink.now) (g.K.Sink.faults c.reconcile_ledger-ended.new.sink)
+    c.reconcile_ledger-ended.result c.status_of_outcome-in-Some-Reconcile.result c.reconcile_ledger-ended.ensures.runs.runs.causes c.status_of_outcome-in-Some-Reconcile.ensures
+
+pub returns-in-Some-Reconcile-clause-disk_causes : goal.returns-in-Some-Reconcile-clause-disk_causes
+returns-in-Some-Reconcile-clause-disk_causes g c =
+    let ran = c.reconcile_ledger-ended.ensures.runs in
+    counted_ledger g.D.Disk ran.course c.args.disk.now c.reconcile_ledger-ended.new.disk c.reconcile_ledger-ended.result c.status_of_outcome-in-Some-Reconcile.result ran.leaves c.status_of_outcome-in-Some-Reconcile.ensures
