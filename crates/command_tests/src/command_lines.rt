@@ -41,6 +41,9 @@ archive-list --archive a --seat s --cid c --from 2025-03-01 --to 2025-1-1 => 10 
 archive-list --to=2025-01-01 --from=2025-03-01 --archive a --cid c --seat s => 10 {"answer":"keeper","why":"badrange"}
 archive-list --archive a --seat s --cid c --from 2025-03-01 => 2 usage: adx COMMAND
 archive-list => 2 usage: adx COMMAND
+reconcile --journal a --bidder b => 3 {"answer":"roster","why":"cut"}
+reconcile --journal a => 2 usage: adx COMMAND
+reconcile --help => 0 usage: adx reconcile --journal FILE --bidder NAME
 gen --asks 250 --seed 7 => 0 {"seat":"s","cid":"c0","budget":10000000,"reserved":1418384,"billed":4378846,"slab":57}
 gen --asks=250 --seed 7 => 0 {"seat":"s","cid":"c0","budget":10000000,"reserved":1418384,"billed":4378846,"slab":57}
 gen => 2 usage: adx COMMAND

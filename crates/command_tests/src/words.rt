@@ -65,6 +65,14 @@ archive-list|--seat|s|--cid|c|--from|1|--to|2 => none
 archive-list|--archive|a|--seat|s|--cid|c|--from|1|--to|2|--to|2 => none
 archive-list|--archive|a|--seat|s|--cid|c|--from|1|--to|2|3 => none
 archive-list => none
+reconcile|--journal|a.journal|--bidder|b1 => reconcile a.journal b1
+reconcile|--bidder|b1|--journal|a.journal => reconcile a.journal b1
+reconcile|--journal=a|--bidder= => reconcile a 
+reconcile|--journal|a => none
+reconcile|--bidder|b1 => none
+reconcile|--journal|a|--bidder|b1|--bidder|b1 => none
+reconcile|--journal|a|--bidder|b1|c => none
+reconcile => none
 archive => none
 gen|--seed|7|--asks|250 => gen 7 250
 gen|--asks|250|--seed|7 => gen 7 250
@@ -127,6 +135,8 @@ archive-put|--help => help put
 help|archive-put => help put
 archive-list|--help => help list
 help|archive-list => help list
+reconcile|--help => help reconcile
+help|reconcile => help reconcile
 gen|--seed|7|--help => help gen
 day|--help|--nothing => help day
 day|--nothing|--help => none
@@ -148,6 +158,7 @@ fn name_of(topic: Topic) -> &'static str {
         Topic::Close => "close",
         Topic::ArchivePut => "put",
         Topic::ArchiveList => "list",
+        Topic::Reconcile => "reconcile",
     }
 }
 
@@ -225,6 +236,9 @@ fn is_asked(command: &Option<Command>, asked: &str) -> bool {
                 last.as_str(),
             ],
         ),
+        Some(Command::Reconcile { journal, bidder }) => {
+            is_of(asked, &["reconcile", journal.as_str(), bidder.as_str()])
+        }
         Some(Command::Help(topic)) => is_of(asked, &["help", name_of(*topic)]),
         Some(Command::Version) => asked == "version",
     }
