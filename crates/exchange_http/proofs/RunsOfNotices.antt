@@ -1,5 +1,5 @@
 -- Notices that a desk took, with their outcomes: none, one, one more, and a batch.
-use Rattle.std.proofs.Common.{◌≡◌, ℕ, suc, ◌≤◌, List, [], ◌∷◌, ◌++◌, map, length, Option, Some, Result, Ok, Err, IfOk, sym, ap, ◌∙◌, subst}
+use Rattle.std.proofs.Common.{◌≡◌, ℕ, suc, ◌≤◌, List, [], ◌∷◌, ◌++◌, map, length, Option, Some, Result, Ok, Err, IfOk, refl, sym, ap, ◌∙◌, subst}
 use Rattle.std.specs.Result.{result_ok}
 use Rattle.notice_batches.specs.Batches.{AreApart, answers_in_turn, entries_in_turn}
 use Rattle.adx_desk.specs.Desks.{OnDisk}
