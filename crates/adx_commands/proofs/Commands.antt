@@ -1,5 +1,5 @@
 -- What words do, by what is read of them.
-use Rattle.std.proofs.Common.{◌≡◌, ◌≢◌, ◌⊎◌, inl, inr, refl, subst, ℕ, List, [], Option, Some, None, Result, Ok, Err, arith, zero-le, true, false}
+use Rattle.std.proofs.Common.{◌≡◌, ◌≢◌, ◌⊎◌, inl, inr, refl, subst, sym, ℕ, List, [], Option, Some, None, Result, Ok, Err, arith, zero-le, true, false}
 use Rattle.std.proofs.lemmas.List.Elements.{All-nil}
 use Rattle.adx_io.specs.declared.disk.Disk as disks
 use Rattle.adx_io.specs.declared.sink.Sink as sinks
@@ -131,6 +131,24 @@ module _ {S K D P : Type 0} (s : sources.Ghosts S) (k : sinks.Ghosts K) (d : dis
   does_unstarted words =
       let reading = some_reading words in
       (reading.0, reading.1, record { by_run = unstarted reading.0; unasked = λ nothing. refl; untouched = λ left. refl; nothing_kept = λ left. refl })
+
+-- ---- what was read
+
+-- bills were compared, where that was read
+pub reconciled : {S K D P : Type 0} (s : sources.Ghosts S) (k : sinks.Ghosts K) (d : disks.Ghosts D) (p : keepers.Ghosts P) (o : Outside S K D P) (status : ℕ)
+    (read : Option Command) (journal name asked : List ℕ) (ended : Result Outcome Stop) → read ≡ Some (Command.Reconcile journal name) → asked ≡ name → o.keeper_now ≡ o.keeper
+    → status ≡ status_by ended → RunsReconciliation s k d asked o.source o.source_now o.sink o.sink_now o.disk o.disk_now ended → Does s k d p o status read
+reconciled s k d p o status read journal name asked ended is named kept told ran =
+    subst (Does s k d p o status) (sym is) (record {
+      by_run = record {
+        ended = ended;
+        told = told;
+        ran = subst (λ n. RunsReconciliation s k d n o.source o.source_now o.sink o.sink_now o.disk o.disk_now ended) named ran;
+      };
+      unasked = λ nothing. absurd nothing;
+      untouched = λ left. absurd left;
+      nothing_kept = λ left. kept;
+    })
 
 -- ---- words in plain spelling
 

@@ -55,12 +55,7 @@ const BOTH_ROWS: &str =
 
 /// Runs over one keeper: the words, the letter of the input, the status and the output.
 const RUNS: [(&str, char, u8, &str); 17] = [
-    (
-        "check",
-        'd',
-        0,
-        "{\"answer\":\"check\",\"bound\":514}\n",
-    ),
+    ("check", 'd', 0, "{\"answer\":\"check\",\"bound\":514}\n"),
     (ALL, ' ', 0, ""),
     (
         PUT,

@@ -1,7 +1,7 @@
 -- The disk's count is that of the day that ran.
-use Rattle.std.proofs.Common.{arith, refl, rules, ◌≡◌, ◌⊎◌, ◌∙◌, sym, subst}
+use Rattle.std.proofs.Common.{arith, refl, rules, ◌≡◌, ◌⊎◌, ◌∙◌, Some, ap, sym, subst}
 use Rattle.desk_runs.proofs.DiskCounts.{day_later}
-use Rattle.command_reconcile.specs.Runs.{RunsReconciliation}
+use Rattle.adx_commands.proofs.Commands.{reconciled}
 use Rattle.adx_commands.proofs.Outcomes.{caused, counted_bidder, counted_ledger}
 use Rattle.adx_commands.proofs.Statuses.{counted_day, is_faulted, is_passed, not_faulted}
 use Rattle.adx_commands.proofs.command.run.Goals as goal
@@ -57,16 +57,8 @@ returns-in-Some-Bidder-clause-disk_causes g c =
 
 pub returns-in-Some-Reconcile-clause-does : goal.returns-in-Some-Reconcile-clause-does
 returns-in-Some-Reconcile-clause-does g c =
-    let ran = c.reconcile_ledger-ended.ensures.runs in record {
-      by_run = record {
-        ended = c.reconcile_ledger-ended.result;
-        told = c.status_of_outcome-in-Some-Reconcile.ensures;
-        ran = subst (λ name. RunsReconciliation g.S.Source g.K.Sink g.D.Disk name c.args.source.now c.reconcile_ledger-ended.new.source c.args.sink.now c.reconcile_ledger-ended.new.sink c.args.disk.now c.reconcile_ledger-ended.new.disk c.reconcile_ledger-ended.result) c.as_str.ensures.value ran;
-      };
-      unasked = λ nothing. absurd nothing;
-      untouched = λ left. absurd left;
-      nothing_kept = λ left. refl;
-    }
+    reconciled _ _ _ _ _ _ _ _ _ _ c.reconcile_ledger-ended.result (c.in-Some-Reconcile.is ∙ ap Some c.in-Some-Reconcile.field-0-is) c.as_str.ensures.value refl
+    c.status_of_outcome-in-Some-Reconcile.ensures c.reconcile_ledger-ended.ensures.runs
 
 pub returns-in-Some-Reconcile-clause-causes : goal.returns-in-Some-Reconcile-clause-causes
 returns-in-Some-Reconcile-clause-causes g c =
