@@ -1,5 +1,5 @@
 -- Notices that a desk took, with their outcomes: none, one, one more, and a batch.
-use Rattle.std.proofs.Common.{◌≡◌, ℕ, ◌≤◌, List, [], ◌∷◌, ◌++◌, map, length, Option, Some, Result, Ok, Err, IfOk, sym, ap, ◌∙◌, subst}
+use Rattle.std.proofs.Common.{◌≡◌, ℕ, suc, ◌≤◌, List, [], ◌∷◌, ◌++◌, map, length, Option, Some, Result, Ok, Err, IfOk, refl, sym, ap, ◌∙◌, subst}
 use Rattle.std.specs.Result.{result_ok}
 use Rattle.notice_batches.specs.Batches.{AreApart, answers_in_turn, entries_in_turn}
 use Rattle.adx_desk.specs.Desks.{OnDisk}
@@ -11,11 +11,12 @@ use Rattle.notice_batches.specs.declared.batch.TheConstants.{BATCH_LIMIT}
 use Rattle.adx_desk.specs.declared.fault.DeskFault.{DeskFault}
 use Rattle.day_rules.specs.declared.answer.Answer.{Answer}
 use Rattle.day_rules.specs.declared.entry.Entry.{Entry}
-use Rattle.day_rules.specs.Laws.{Arrival, arrival_reply}
+use Rattle.day_rules.specs.Laws.{Arrival, after_arrival, arrival_reply}
 use Rattle.day_rules.specs.Legal.{IsLegal}
 use Rattle.deal_floor.specs.declared.roster.Roster.{Roster}
 use Rattle.desk_runs.specs.OnDisk.{history_after}
 use Rattle.desk_runs.specs.Records.{RunsOn}
+use Rattle.exchange_messages.specs.Turns.{terms_by}
 use Rattle.exchange_http.specs.Running.{AreOutcomes, IsOutcome, TakesNotices}
 use Rattle.desk_runs.specs.Told.{told_all, told_by}
 use Rattle.desk_runs.proofs.RunsCalls.{runs_none}
