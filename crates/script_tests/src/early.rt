@@ -28,7 +28,7 @@ fn day_of(alloc: Global, asks: u8) -> Result<Vec<u8>, OutOfMemory> {
     let mut input = Vec::new(alloc);
     add_lines(&mut input, ROSTER, b'0')?;
     for number in 0..asks {
-        add_lines(&mut input, ASK, b'0' + number)?;
+        add_lines(&mut input, ASK, b'0'.wrapping_add(number))?;
     }
     Ok(input)
 }
@@ -54,7 +54,7 @@ fn taken_before(alloc: Global, asks: u8, failed: u64) -> Result<usize, OutOfMemo
 fn is_ahead_by_one(alloc: Global, failed: u64, kept: u8) -> Result<bool, OutOfMemory> {
     let (size, taken) = kept_by(alloc, 3, &[failed])?;
     let (wanted, _) = kept_by(alloc, kept, &[])?;
-    let longer = taken_before(alloc, 3, failed + 1)?;
+    let longer = taken_before(alloc, 3, failed.wrapping_add(1))?;
     Ok(size == wanted && taken < longer)
 }
 
