@@ -1,12 +1,12 @@
 //! An exchange for OpenRTB 2.6 that serves a day of first-price auctions.
 //!
 //! The call `adx` of the crate `adx_commands` does all that the program does, from the words of its command
-//! line and the bytes of a source to those of a sink; its contract is the program's. It stands on `command_words`, which
-//! reads the words, on `script_day`, which serves a day of script lines, on `exchange_day`, which serves a day on a
-//! connection, on `adx_notices`, which prints the notices of a day, on `bidder_day`, which serves a bidder's connection, on
-//! `adx_books`, which generates a day, on `adx_io` and on `adx_units`.
+//! line and the bytes of a source to those of a sink; its contract is the program's. This crate opens what the words name: the
+//! file of a journal, or by `archive_file` the file of an archive of closed days. Stands on `command_words`, `adx_commands`,
+//! `day_archive`, `archive_file`, `noted_streams`, `adx_io` and `adx_units`.
 #![tactic(auto)]
 
+mod archive;
 mod journal_file;
 mod messages;
 mod run;

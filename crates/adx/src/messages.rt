@@ -1,13 +1,13 @@
 //! What a run that failed says on standard error: one line.
-use crate::journal_file::FileFault;
 use adx_commands::{
-    DISK_FAULT, DONE, NO_COMMAND, NO_HISTORY, NOT_ACCEPTED, OUT_OF_MEMORY, READ_FAULT, REFUSED,
-    WRITE_FAULT,
+    DISK_FAULT, DONE, KEEPER_FAULT, NO_COMMAND, NO_HISTORY, NOT_ACCEPTED, NOT_KEPT, OUT_OF_MEMORY,
+    READ_FAULT, REFUSED, WRITE_FAULT,
 };
 use adx_units::Text;
 use command_words::complaint_of;
 use noted_streams::{Reason, Told};
 use std::cell::Cell;
+use std::fmt::Display;
 
 /// What the system said of standard input, standard output and the journal's file.
 #[derive(Drop)]
@@ -48,12 +48,18 @@ pub(crate) fn say_no_text(rt: &HostRuntime) {
     let _ = eprintln!(rt; "adx: a word of the command line isn't UTF-8");
 }
 
-/// Says why a journal wasn't opened.
-pub(crate) fn say_not_opened(rt: &HostRuntime, path: &str, fault: FileFault) {
+/// Says why a file wasn't opened.
+pub(crate) fn say_not_opened<T: Display + Drop>(rt: &HostRuntime, path: &str, fault: T) {
     let _ = eprintln!(rt; "adx: {path}: {fault}");
 }
 
-/// Says why a run ended with a status other than 0. The journal is in the file with this path, or in memory.
+/// Says why the file of an archive wasn't closed.
+pub(crate) fn say_not_closed<T: Display + Drop>(rt: &HostRuntime, path: &str, fault: T) {
+    let _ = eprintln!(rt; "adx: {path}: not closed: {fault}");
+}
+
+/// Says why a run ended with a status other than 0. The journal or the archive is in the file with this path, or the journal
+/// in memory.
 pub(crate) fn say(rt: &HostRuntime, words: &[Text], path: &str, heard: &Heard, status: u8) {
     let written = match status {
         DONE => Ok(()),
@@ -76,6 +82,12 @@ pub(crate) fn say(rt: &HostRuntime, words: &[Text], path: &str, heard: &Heard, s
         }
         NOT_ACCEPTED => {
             eprintln!(rt; "adx: the certificate isn't accepted (standard output says why)")
+        }
+        KEEPER_FAULT => eprintln!(rt; "adx: {path}: the archive can't be read or written"),
+        NOT_KEPT => {
+            eprintln!(rt;
+                "adx: the day isn't kept, or the days aren't listed (standard output says why)"
+            )
         }
         OUT_OF_MEMORY => eprintln!(rt; "adx: out of memory"),
         _ => Ok(()),

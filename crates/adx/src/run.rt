@@ -1,4 +1,5 @@
 //! Runs the words of a command line between the standard streams, on the disk that they ask for.
+use crate::archive::run_with_archive;
 use crate::journal_file::{FileFault, open_journal};
 use crate::messages::{Heard, say, say_memory, say_no_text, say_not_opened};
 use adx_commands::{
@@ -6,6 +7,7 @@ use adx_commands::{
 };
 use adx_io::{FileDisk, StdSink, StdSource};
 use adx_units::Text;
+use day_archive::{Keeper, MemoryKeeper};
 use noted_streams::Noting;
 use std::fs::File;
 use std::io::ErrorKind;
@@ -13,20 +15,48 @@ use std::io::ErrorKind;
 /// What stands for the name of a journal that has no file.
 const NO_FILE: &str = "the journal in memory";
 
-/// Runs the command in memory alone.
-fn run_in_memory(rt: &HostRuntime, words: &[Text], heard: &Heard) -> u8 {
+/// Runs the command between the standard streams, with its journal in memory and over this keeper of closed days.
+pub(crate) fn run_over<P: Keeper>(
+    rt: &HostRuntime,
+    words: &[Text],
+    heard: &Heard,
+    keeper: &mut P,
+) -> u8 {
     let mut source = StdSource::new(Noting::new(rt.stdin(), &heard.input));
     let mut sink = StdSink::new(Noting::new(rt.stdout(), &heard.output));
-    adx_in_memory(rt.alloc(), words, &mut source, &mut sink)
+    adx_in_memory(rt.alloc(), words, &mut source, &mut sink, keeper)
 }
 
-/// Runs the command on the file of a journal.
-fn run_on_file(rt: &HostRuntime, words: &[Text], path: &str, file: File) -> u8 {
-    let heard = Heard::new();
+/// Runs the command in memory alone.
+fn run_in_memory(rt: &HostRuntime, words: &[Text], heard: &Heard) -> u8 {
+    let Ok(mut keeper) = MemoryKeeper::new(rt.alloc(), &[]) else {
+        return OUT_OF_MEMORY;
+    };
+    run_over(rt, words, heard, &mut keeper)
+}
+
+/// Runs the command on the file of a journal, where no closed days are kept.
+fn run_on_disk(rt: &HostRuntime, words: &[Text], heard: &Heard, file: File) -> u8 {
     let mut source = StdSource::new(Noting::new(rt.stdin(), &heard.input));
     let mut sink = StdSink::new(Noting::new(rt.stdout(), &heard.output));
     let mut disk = FileDisk::new(Noting::new(file, &heard.file));
-    let status = adx(rt.alloc(), words, &mut source, &mut sink, &mut disk);
+    let Ok(mut keeper) = MemoryKeeper::new(rt.alloc(), &[]) else {
+        return OUT_OF_MEMORY;
+    };
+    adx(
+        rt.alloc(),
+        words,
+        &mut source,
+        &mut sink,
+        &mut disk,
+        &mut keeper,
+    )
+}
+
+/// Runs the command on the file of a journal, and says how it ended.
+fn run_on_file(rt: &HostRuntime, words: &[Text], path: &str, file: File) -> u8 {
+    let heard = Heard::new();
+    let status = run_on_disk(rt, words, &heard, file);
     say(rt, words, path, &heard, status);
     status
 }
@@ -60,6 +90,7 @@ pub(crate) fn run(rt: &HostRuntime, words: &[Text]) -> u8 {
             say(rt, words, NO_FILE, &heard, status);
             status
         }
+        Ok(Kept::Archived(path)) => run_with_archive(rt, words, path.as_str()),
         Ok(Kept::Made(path)) => run_with_journal(rt, words, path.as_str(), true),
         Ok(Kept::Existing(path)) => run_with_journal(rt, words, path.as_str(), false),
         Err(_) => {

@@ -12,8 +12,8 @@ use Rattle.day_rules.specs.declared.ask.Ask.{Ask}
 use Rattle.day_rules.specs.Replies.{Call, ask, reply}
 use Rattle.day_rules.specs.Runs.{IsCall}
 use Rattle.script_day.specs.declared.ending.Ending.{Ending}
-use Rattle.script_day.specs.Meanings.{Told}
-use Rattle.script_day.proofs.DeskCalls.{ask_given_up, call_done, notice_given_up}
+use Rattle.desk_runs.specs.Meanings.{Told}
+use Rattle.desk_runs.proofs.DeskCalls.{ask_given_up, call_done, notice_given_up}
 use Rattle.adx_books.specs.Taking.{PassedBy, TakesAsk, TakesCalls}
 use Rattle.adx_books.proofs.Taking.{fault_alone, none_of, serves_one}
 

@@ -31,9 +31,9 @@ use Rattle.day_rules.specs.Terms.{AreTerms, Terms}
 use Rattle.day_rules.proofs.Following.{call_follows}
 use Rattle.day_rules.proofs.Histories.{legal_none}
 use Rattle.day_rules.proofs.Running.{run_legal}
-use Rattle.script_day.specs.Courses.{HasNoDiskFault}
-use Rattle.script_day.specs.Meanings.{AreDone, Told, outcome_by, turn_of, turns_of}
-use Rattle.script_day.specs.OnDisk.{FullEach, FullOnly, history_after}
+use Rattle.desk_runs.specs.Courses.{HasNoDiskFault}
+use Rattle.desk_runs.specs.Meanings.{AreDone, Told, outcome_by, turn_of, turns_of}
+use Rattle.desk_runs.specs.OnDisk.{FullEach, FullOnly, history_after}
 use Rattle.adx_books.specs.Generated.{ask_by}
 use Rattle.adx_books.specs.declared.generator.TheConstants.{MOST_ASKS}
 use Rattle.adx_books.proofs.Weight.{ask_adds, weight, weight_more}

@@ -9,9 +9,9 @@ use Rattle.day_rules.specs.declared.entry.Entry.{Entry}
 use Rattle.day_rules.specs.Terms.{Terms}
 use Rattle.deal_floor.specs.declared.roster.Roster.{Roster}
 use Rattle.script_day.specs.declared.ending.Ending.{Ending}
-use Rattle.script_day.specs.Courses.{Course, unopened, given_up, served, HasDiskFault, HasNoDiskFault}
-use Rattle.script_day.specs.Meanings.{Told}
-use Rattle.script_day.specs.OnDisk.{CourseOn, history_after}
+use Rattle.desk_runs.specs.Courses.{Course, unopened, given_up, served, HasDiskFault, HasNoDiskFault}
+use Rattle.desk_runs.specs.Meanings.{Told}
+use Rattle.desk_runs.specs.OnDisk.{CourseOn, history_after}
 use Rattle.script_day.specs.Script.{terms_by}
 use Rattle.script_day.proofs.DiskCounts.{day_rises, day_stays}
 use Rattle.adx_books.specs.Generated.{AreOfDay, generated_history}

@@ -11,10 +11,10 @@ use Rattle.day_rules.specs.Terms.{Terms}
 use Rattle.deal_floor.specs.declared.roster.Roster.{Roster}
 use Rattle.notice_book.specs.declared.kind.NoticeKind.{NoticeKind}
 use Rattle.script_lines.specs.Rosters.{IsRosterLine}
-use Rattle.script_day.specs.Answering.{DeskRuns}
-use Rattle.script_day.specs.Courses.{HasNoDiskFault}
-use Rattle.script_day.specs.Meanings.{Told, turns_of}
-use Rattle.script_day.specs.OnDisk.{FullEach, history_after}
+use Rattle.desk_runs.specs.Answering.{DeskRuns}
+use Rattle.desk_runs.specs.Courses.{HasNoDiskFault}
+use Rattle.desk_runs.specs.Meanings.{Told, turns_of}
+use Rattle.desk_runs.specs.OnDisk.{FullEach, history_after}
 use Rattle.script_day.specs.Script.{terms_by}
 use Rattle.adx_books.specs.Generated.{AreFrom, AreOfAsk, AreOfDay, generated_history, generated_line, notices_behind, notices_by, ticks_behind, word_at}
 use Rattle.adx_books.specs.Taking.{calls_of}

@@ -10,10 +10,10 @@ use Rattle.day_rules.specs.declared.entry.Entry.{Entry}
 use Rattle.day_rules.specs.Replies.{Call, ask}
 use Rattle.day_rules.specs.Runs.{run}
 use Rattle.script_day.specs.declared.ending.Ending.{Ending}
-use Rattle.script_day.specs.Answering.{DeskRuns, ServesCall}
-use Rattle.script_day.specs.Courses.{HasNoDiskFault}
-use Rattle.script_day.specs.Meanings.{Told, turns_of}
-use Rattle.script_day.proofs.DeskRuns.{call_goes_on}
+use Rattle.desk_runs.specs.Answering.{DeskRuns, ServesCall}
+use Rattle.desk_runs.specs.Courses.{HasNoDiskFault}
+use Rattle.desk_runs.specs.Meanings.{Told, turns_of}
+use Rattle.desk_runs.proofs.DeskRuns.{call_goes_on}
 use Rattle.adx_books.specs.Generated.{AreOfAsk, ask_by, award_told, calls_behind}
 use Rattle.adx_books.specs.GeneratedEnds.{EndsAtFault}
 use Rattle.adx_books.specs.Taking.{AreCalls, BeginAsk, BeginCalls, ServesCalls, TakesAsk, TakesCalls, TakesNumber, TookBy, calls_of}

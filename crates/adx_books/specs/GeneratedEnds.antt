@@ -9,10 +9,11 @@ use Rattle.day_rules.specs.declared.entry.Entry.{Entry}
 use Rattle.deal_floor.specs.declared.roster.Roster.{Roster}
 use Rattle.script_lines.specs.Rosters.{IsRosterLine}
 use Rattle.script_day.specs.declared.ending.Ending.{Ending}
-use Rattle.script_day.specs.Courses.{Course, unopened, given_up, served, EndsUnopened, HasNoDiskFault}
+use Rattle.desk_runs.specs.Courses.{Course, unopened, given_up, served, HasNoDiskFault}
+use Rattle.script_day.specs.Courses.{EndsUnopened}
 use Rattle.script_day.specs.Endings.{TookFront}
-use Rattle.script_day.specs.Meanings.{Told}
-use Rattle.script_day.specs.OnDisk.{CourseOn, history_after}
+use Rattle.desk_runs.specs.Meanings.{Told}
+use Rattle.desk_runs.specs.OnDisk.{CourseOn, history_after}
 use Rattle.script_day.specs.Output.{unopened_line}
 use Rattle.script_day.specs.Script.{terms_by}
 use Rattle.adx_books.specs.Generated.{AreOfDay, BeginDay, generated_history, generated_line}

@@ -11,11 +11,11 @@ use Rattle.day_rules.specs.declared.entry.Entry.{Entry}
 use Rattle.day_rules.specs.Replies.{Call, ask}
 use Rattle.day_rules.specs.Terms.{Terms}
 use Rattle.script_day.specs.declared.ending.Ending.{Ending}
-use Rattle.script_day.specs.Answering.{ServesCall}
-use Rattle.script_day.specs.Courses.{HasNoDiskFault}
+use Rattle.desk_runs.specs.Answering.{ServesCall}
+use Rattle.desk_runs.specs.Courses.{HasNoDiskFault}
 use Rattle.deal_floor.specs.declared.roster.Roster.{Roster}
 use Rattle.script_day.specs.Endings.{TookFront}
-use Rattle.script_day.specs.Meanings.{Told}
+use Rattle.desk_runs.specs.Meanings.{Told}
 use Rattle.adx_books.specs.Generated.{AreFrom, AreOfAsk, AreOfDay, BeginDay, award_told}
 use Rattle.adx_books.specs.GeneratedEnds.{EndsAtFault, EndsTaken}
 

@@ -2,7 +2,7 @@
 ghost use Rattle.std.specs.Prelude.{◌≡◌, ◌+◌, ◌*◌, ◌%◌, ◌<◌, ◌≤◌, ℕ, [], ◌∷◌, length, decimal, OnOk};
 ghost use Rattle.day_rules.specs.Asks.{IsUndecided, IsWellFormed};
 ghost use Rattle.day_rules.specs.Replies.{notice as notice_call};
-ghost use Rattle.script_day.specs.Answering.{IsOfCall};
+ghost use Rattle.desk_runs.specs.Answering.{IsOfCall};
 ghost use Rattle.adx_books.specs.Generated.{calls_behind, notices_by, state_before, ticks_behind, word_at};
 ghost use Rattle.adx_books.specs.Taking.{PassedBy, TakesAsk, TakesCalls, TakesDay, TakesNumber, award_in};
 ghost use Rattle.adx_books.specs.declared.generator.TheConstants.{MOST_ASKS as most_asks};

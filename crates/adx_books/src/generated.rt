@@ -16,7 +16,8 @@ use crate::roster::generated_roster;
 use adx_desk::{Desk, DeskFault};
 use adx_io::{Disk, Sink, Stop, put_all};
 use deal_floor::Roster;
-use script_day::{Ending, ending_of, push_books, push_unopened};
+use desk_runs::push_books;
+use script_day::{Ending, ending_of, push_unopened};
 use std::alloc::Global;
 
 /// Puts the output into the sink.

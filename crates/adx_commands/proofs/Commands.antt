@@ -1,29 +1,32 @@
 -- What words do, by what is read of them.
-use Rattle.std.proofs.Common.{◌≡◌, ◌≢◌, ◌⊎◌, inl, inr, refl, subst, ℕ, List, [], Option, Some, None, Result, Ok, Err, arith, zero-le, true, false}
+use Rattle.std.proofs.Common.{◌≡◌, ◌≢◌, ◌⊎◌, inl, inr, refl, subst, sym, ℕ, List, [], Option, Some, None, Result, Ok, Err, arith, zero-le, true, false}
 use Rattle.std.proofs.lemmas.List.Elements.{All-nil}
-use Rattle.adx_io.specs.Streams.{Tape}
 use Rattle.adx_io.specs.declared.disk.Disk as disks
+use Rattle.adx_io.specs.declared.sink.Sink as sinks
+use Rattle.adx_io.specs.declared.source.Source as sources
 use Rattle.adx_io.specs.declared.stop.Stop.{Stop}
-use Rattle.bidder_day.specs.Bidding.{EndsBidder}
-use Rattle.bidder_day.proofs.Ends.{unbegun as unattended}
+use Rattle.command_bidder.specs.Bidders.{bidder_command}
+use Rattle.command_archive.proofs.Unbegun.{unkept, unlisted_days}
 use Rattle.command_check.proofs.Ended.{unbegun as unchecked}
 use Rattle.command_close.specs.ClosedDays.{IsClosedDay}
 use Rattle.command_close.specs.Guarantees.{IsGuarantee}
+use Rattle.command_notices.specs.PostLines.{AreNotices}
+use Rattle.command_reconcile.specs.Runs.{RunsReconciliation, reconcile_command}
 use Rattle.command_runs.specs.Statuses.{status_by}
 use Rattle.command_runs.specs.declared.outcome.Outcome.{Outcome}
-use Rattle.command_runs.proofs.Ran.{unbegun_wrote}
+use Rattle.command_runs.proofs.Ran.{unbegun_counted, unbegun_wrote}
 use Rattle.command_words.specs.Meanings.{IsPlain}
 use Rattle.command_words.specs.declared.command.Command.{Command}
 use Rattle.command_words.proofs.Rows.{plain_only, some_reading}
+use Rattle.day_archive.specs.declared.keeper.Keeper as keepers
 use Rattle.history_runs.specs.Histories.{Prints}
 use Rattle.history_runs.specs.Runs.{history_command}
-use Rattle.script_day.specs.Courses.{unopened}
+use Rattle.desk_runs.specs.Courses.{unopened}
 use Rattle.script_day.specs.declared.ending.Ending.{Ending}
 use Rattle.script_day.proofs.Days.{unbegun as unserved}
 use Rattle.adx_books.specs.GeneratedEnds.{ServesGenerated}
-use Rattle.adx_notices.proofs.Ends.{unbegun as unprinted}
 use Rattle.exchange_day.proofs.Ends.{unbegun as unconnected}
-use Rattle.adx_commands.specs.Commands.{Does, DoesAsRead, IsCommand, Runs, RunsPrint}
+use Rattle.adx_commands.specs.Commands.{Does, DoesAsRead, IsCommand, Outside, Runs, RunsBidder, RunsPrint}
 use Rattle.adx_commands.specs.Statuses.{status_of}
 
 -- ---- the status of words that are no command
@@ -60,66 +63,117 @@ told_otherwise (inr (inr (refused, taken))) = omega (arith, refused)
 abbrev no_memory : Result (Unit {0}) Ending
 no_memory = Err (Ending.Stopped Stop.OutOfMemory)
 
-module _ {D : Type 0} (d : disks.Ghosts D) (tape : Option Tape) (held : Option (List ℕ)) (kept : D) where
-  bidder_unserved : EndsBidder tape tape held held no_memory
-  bidder_unserved = unattended tape held
+-- between these nothing happened
+abbrev still : {S K D P : Type 0} → S → K → D → P → Outside S K D P
+still source sink disk keeper = record {
+  source = source;
+  source_now = source;
+  sink = sink;
+  sink_now = sink;
+  disk = disk;
+  disk_now = disk;
+  keeper = keeper;
+  keeper_now = keeper;
+}
 
-  generated_untaken : (seed asks : ℕ) → ServesGenerated d.faults d.reads d.may_leave d.moment d.left_since seed asks held held kept kept no_memory
+module _ {S K D P : Type 0} (s : sources.Ghosts S) (k : sinks.Ghosts K) (d : disks.Ghosts D) (p : keepers.Ghosts P) (source : S) (sink : K) (disk : D) (keeper : P) where
+  bidder_unserved : RunsBidder (s.tape source) (s.tape source) (k.held sink) (k.held sink) 12
+  bidder_unserved = record {
+    course = None;
+    ended = Err Stop.OutOfMemory;
+    told = refl;
+    ends = tt;
+    wrote = unbegun_wrote (bidder_command None) (s.tape source) (k.held sink) (λ left. (refl, inr (([], All-nil (λ b. b ≢ 10), inl ([], zero-le, refl)), refl)));
+  }
+
+  generated_untaken : (seed asks : ℕ) → ServesGenerated d.faults d.reads d.may_leave d.moment d.left_since seed asks (k.held sink) (k.held sink) disk disk no_memory
   generated_untaken seed asks = record { course = unopened; ends = (refl, refl); on_disk = refl }
 
-  unclosed : (prints : Prints) → RunsPrint d prints tape tape held held kept kept 12
+  unclosed : (prints : Prints) → RunsPrint d prints (s.tape source) (s.tape source) (k.held sink) (k.held sink) disk disk 12
   unclosed prints = record {
     course = None;
     ended = Err Stop.OutOfMemory;
     told = refl;
     leaves = (refl, tt);
-    wrote = unbegun_wrote (history_command prints None) tape held (λ left. (refl, inr (([], All-nil (λ b. b ≢ 10), inl ([], zero-le, refl)), refl)));
+    wrote = unbegun_wrote (history_command prints None) (s.tape source) (k.held sink) (λ left. (refl, inr (([], All-nil (λ b. b ≢ 10), inl ([], zero-le, refl)), refl)));
+  }
+
+  unreconciled : (name : List ℕ) → RunsReconciliation s k d name source source sink sink disk disk (Err Stop.OutOfMemory)
+  unreconciled name = record {
+    course = None;
+    leaves = (refl, tt);
+    runs = record {
+      wrote = unbegun_wrote (reconcile_command name None) (s.tape source) (k.held sink) (λ left. (refl, inr (([], All-nil (λ b. b ≢ 10), inl ([], zero-le, refl)), refl)));
+      causes = unbegun_counted (s.faults source) (k.faults sink);
+      source_same = refl;
+      sink_same = refl;
+    };
   }
 
   -- whatever was to run ends so
-  unstarted : (read : Option Command) → Runs d tape tape held held kept kept 12 read
-  unstarted (Some (Command.Day journal)) = record { ending = no_memory; told = refl; serves = unserved d.faults d.reads d.may_leave d.moment d.left_since tape held kept }
-  unstarted (Some (Command.Connection journal)) = record { ending = no_memory; told = refl; ends = unconnected d.faults d.reads d.may_leave d.moment d.left_since tape held kept }
-  unstarted (Some (Command.Notices journal)) = record { ending = no_memory; told = refl; ends = unprinted d.faults d.reads d.may_leave d.moment d.left_since tape held kept }
-  unstarted (Some Command.Bidder) = record { ending = no_memory; told = refl; ends = bidder_unserved }
+  unstarted : (read : Option Command) → Runs s k d p (still source sink disk keeper) 12 read
+  unstarted (Some (Command.Day journal)) = record { ending = no_memory; told = refl; serves = unserved d.faults d.reads d.may_leave d.moment d.left_since (s.tape source) (k.held sink) disk }
+  unstarted (Some (Command.Connection journal)) = record { ending = no_memory; told = refl; ends = unconnected d.faults d.reads d.may_leave d.moment d.left_since (s.tape source) (k.held sink) disk }
+  unstarted (Some (Command.Notices journal)) = unclosed AreNotices
+  unstarted (Some Command.Bidder) = bidder_unserved
   unstarted (Some (Command.Close journal false)) = unclosed IsClosedDay
   unstarted (Some (Command.Close journal true)) = unclosed IsGuarantee
   unstarted (Some (Command.Generate seed asks)) = record { ending = no_memory; told = refl; serves = generated_untaken seed asks }
-  unstarted (Some Command.Check) = unchecked tape held
+  unstarted (Some Command.Check) = unchecked (s.tape source) (k.held sink)
+  unstarted (Some (Command.ArchivePut file)) = unkept s k p source sink keeper
+  unstarted (Some (Command.ArchiveList file seat cid first last)) = unlisted_days p (record { seat = seat; cid = cid; first = first; last = last }) keeper (k.held sink)
+  unstarted (Some (Command.Reconcile journal name)) = record { ended = Err Stop.OutOfMemory; told = refl; ran = unreconciled name }
   unstarted (Some (Command.Help topic)) = inr (inr (refl, refl))
   unstarted (Some Command.Version) = inr (inr (refl, refl))
   unstarted None = inr (inr (refl, refl))
 
-  pub does_unstarted : {S : Type 0} (source : S) (words : List (List ℕ)) → DoesAsRead (Runs d tape tape held held kept kept 12) source source kept kept words
-  does_unstarted source words =
+  pub does_unstarted : (words : List (List ℕ)) → DoesAsRead s k d p (still source sink disk keeper) 12 words
+  does_unstarted words =
       let reading = some_reading words in
-      (reading.0, reading.1, record { by_run = unstarted reading.0; unasked = λ nothing. refl; untouched = λ left. refl })
+      (reading.0, reading.1, record { by_run = unstarted reading.0; unasked = λ nothing. refl; untouched = λ left. refl; nothing_kept = λ left. refl })
+
+-- ---- what was read
+
+-- bills were compared, where that was read
+pub reconciled : {S K D P : Type 0} (s : sources.Ghosts S) (k : sinks.Ghosts K) (d : disks.Ghosts D) (p : keepers.Ghosts P) (o : Outside S K D P) (status : ℕ)
+    (read : Option Command) (journal name asked : List ℕ) (ended : Result Outcome Stop) → read ≡ Some (Command.Reconcile journal name) → asked ≡ name → o.keeper_now ≡ o.keeper
+    → status ≡ status_by ended → RunsReconciliation s k d asked o.source o.source_now o.sink o.sink_now o.disk o.disk_now ended → Does s k d p o status read
+reconciled s k d p o status read journal name asked ended is named kept told ran =
+    subst (Does s k d p o status) (sym is) (record {
+      by_run = record {
+        ended = ended;
+        told = told;
+        ran = subst (λ n. RunsReconciliation s k d n o.source o.source_now o.sink o.sink_now o.disk o.disk_now ended) named ran;
+      };
+      unasked = λ nothing. absurd nothing;
+      untouched = λ left. absurd left;
+      nothing_kept = λ left. kept;
+    })
 
 -- ---- words in plain spelling
 
--- they do what they ask for
-pub plain_does : {S D : Type 0} (runs : Option Command → Type 0) (source source_now : S) (disk disk_now : D) (words : List (List ℕ)) → DoesAsRead runs source source_now disk disk_now words
-    → (command : Command) → IsPlain command words → Does runs source source_now disk disk_now (Some command)
-plain_does runs source source_now disk disk_now words does command plain =
-    subst (Does runs source source_now disk disk_now) (plain_only words does.0 does.1 command plain) does.2
-
-module _ {D : Type 0} (d : disks.Ghosts D) (tape tape_now : Option Tape) (held held_now : Option (List ℕ)) (old new : D) where
-  not_refused : (command : Command) → Runs d tape tape_now held held_now old new 2 (Some command) → ⊥
+module _ {S K D P : Type 0} (s : sources.Ghosts S) (k : sinks.Ghosts K) (d : disks.Ghosts D) (p : keepers.Ghosts P) (o : Outside S K D P) where
+  not_refused : (command : Command) → Runs s k d p o 2 (Some command) → ⊥
   not_refused (Command.Day journal) runs = not_two runs.ending runs.told
   not_refused (Command.Connection journal) runs = not_two runs.ending runs.told
-  not_refused (Command.Notices journal) runs = not_two runs.ending runs.told
-  not_refused Command.Bidder runs = not_two runs.ending runs.told
+  not_refused (Command.Notices journal) runs = not_two_by runs.ended runs.told
+  not_refused Command.Bidder runs = not_two_by runs.ended runs.told
   not_refused (Command.Close journal false) runs = not_two_by runs.ended runs.told
   not_refused (Command.Close journal true) runs = not_two_by runs.ended runs.told
   not_refused (Command.Generate seed asks) runs = not_two runs.ending runs.told
   not_refused Command.Check runs = not_two_by runs.ended runs.told
+  not_refused (Command.ArchivePut file) runs = not_two_by runs.ended runs.told
+  not_refused (Command.ArchiveList file seat cid first last) runs = not_two_by runs.ended runs.told
+  not_refused (Command.Reconcile journal name) runs = not_two_by runs.ended runs.told
   not_refused (Command.Help topic) runs = told_otherwise runs
   not_refused Command.Version runs = told_otherwise runs
 
+module _ {S K D P : Type 0} {s : sources.Ghosts S} {k : sinks.Ghosts K} {d : disks.Ghosts D} {p : keepers.Ghosts P} {o : Outside S K D P} where
+  -- they do what they ask for
+  pub plain_does : {status : ℕ} {words : List (List ℕ)} → DoesAsRead s k d p o status words → (command : Command) → IsPlain command words → Does s k d p o status (Some command)
+  plain_does {status} {words} does command plain = subst (Does s k d p o status) (plain_only words does.0 does.1 command plain) does.2
+
   -- none of them ends with the status of words that are no command
-  pub plain_taken : {S : Type 0} (source source_now : S) (status : ℕ) (words : List (List ℕ)) → DoesAsRead (Runs d tape tape_now held held_now old new status) source source_now old new words
-      → status ≡ 2 → IsCommand words → ⊥
-  plain_taken source source_now status words does is asked =
-      not_refused asked.0
-      (subst (λ n. Runs d tape tape_now held held_now old new n (Some asked.0)) is
-      (plain_does (Runs d tape tape_now held held_now old new status) source source_now old new words does asked.0 asked.1).by_run)
+  pub plain_taken : {status : ℕ} {words : List (List ℕ)} → DoesAsRead s k d p o status words → status ≡ 2 → IsCommand words → ⊥
+  plain_taken {status} {words} does is asked =
+      not_refused s k d p o asked.0 (subst (λ n. Runs s k d p o n (Some asked.0)) is (plain_does does asked.0 asked.1).by_run)

@@ -1,7 +1,12 @@
 -- The causes of a run that ended with an outcome, by its exit status.
-use Rattle.std.proofs.Common.{◌≡◌, ◌≢◌, ◌⊎◌, ◌∙◌, inl, inr, sym, ap, subst, refl, ℕ, Option, Result, Ok, Err, arith}
+use Rattle.std.proofs.Common.{◌≡◌, ◌⊎◌, ◌∙◌, inl, inr, sym, ap, subst, refl, ℕ, Option, Result, Ok, Err, arith}
 use Rattle.adx_io.specs.declared.disk.Disk as disks
 use Rattle.adx_io.specs.declared.stop.Stop.{Stop}
+use Rattle.bidder_core.specs.Seen.{BidderState}
+use Rattle.command_bidder.specs.Bidders.{MayEnd}
+use Rattle.command_bidder.proofs.Bidders.{no_disk_fault}
+use Rattle.command_reconcile.specs.Runs.{Course}
+use Rattle.command_reconcile.proofs.DiskCounts.{IsLeft as IsLedgerLeft, disk_later as ledger_later, disk_rises as ledger_rises, disk_stays as ledger_stays}
 use Rattle.command_runs.specs.Runs.{HasRunCauses}
 use Rattle.command_runs.specs.Statuses.{status_by}
 use Rattle.command_runs.specs.declared.outcome.Outcome.{Outcome}
@@ -87,15 +92,32 @@ caused read read_now write write_now result status causes told = record {
   sink_later = causes.write_later;
 }
 
+passed : (result : Result Outcome Stop) → (status_by result ≡ 0) ⊎ (status_by result ≡ 7) → (result ≡ Ok Outcome.Done) ⊎ (result ≡ Ok Outcome.NoHistory)
+passed result (inl is) = inl (done_at result is)
+passed result (inr is) = inr (no_history_at result is)
+
 -- and so is the disk's count, where something was printed of a history
 pub counted_print : {D : Type 0} (d : disks.Ghosts D) (course : Option (Roster × Opening)) (old new : D) (result : Result Outcome Stop) (status : ℕ) → IsLeft d old new result course → status ≡ status_by result
     → HasDiskCauses (d.faults old) (d.faults new) status
 counted_print d course old new result status left told = record {
   disk_fault = λ is. disk_rises d old new result course left (disk_failed result (sym told ∙ is));
-  disk_passed = λ is. disk_stays d old new result course left (passed (subst (λ n. (n ≡ 0) ⊎ (n ≡ 7)) told is));
+  disk_passed = λ is. disk_stays d old new result course left (passed result (subst (λ n. (n ≡ 0) ⊎ (n ≡ 7)) told is));
   disk_later = disk_later d old new result course left;
 }
-  where
-    passed : (status_by result ≡ 0) ⊎ (status_by result ≡ 7) → (result ≡ Ok Outcome.Done) ⊎ (result ≡ Ok Outcome.NoHistory)
-    passed (inl is) = inl (done_at result is)
-    passed (inr is) = inr (no_history_at result is)
+
+-- a bidder's run meets no disk
+pub counted_bidder : (count : ℕ) (course : Option (BidderState × BidderState)) (result : Result Outcome Stop) (status : ℕ) → MayEnd course result → status ≡ status_by result → HasDiskCauses count count status
+counted_bidder count course result status ends told = record {
+  disk_fault = λ is. absurd (no_disk_fault course result ends (disk_failed result (sym told ∙ is)));
+  disk_passed = λ either. refl;
+  disk_later = omega arith;
+}
+
+-- and where its bills were compared with a ledger
+pub counted_ledger : {D : Type 0} (d : disks.Ghosts D) (course : Course) (old new : D) (result : Result Outcome Stop) (status : ℕ) → IsLedgerLeft d old new result course → status ≡ status_by result
+    → HasDiskCauses (d.faults old) (d.faults new) status
+counted_ledger d course old new result status left told = record {
+  disk_fault = λ is. ledger_rises d old new result course left (disk_failed result (sym told ∙ is));
+  disk_passed = λ is. ledger_stays d old new result course left (passed result (subst (λ n. (n ≡ 0) ⊎ (n ≡ 7)) told is));
+  disk_later = ledger_later d old new result course left;
+}

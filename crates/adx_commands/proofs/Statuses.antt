@@ -1,10 +1,12 @@
 -- Which endings have a status, and the causes of a day's.
 use Rattle.std.proofs.Common.{◌≡◌, ◌⊎◌, inl, inr, ℕ, List, Option, Result, Ok, Err, refl, sym, ◌∙◌, subst, arith}
 use Rattle.adx_io.specs.declared.stop.Stop.{Stop}
-use Rattle.script_day.specs.Courses.{Course, EndsBy}
-use Rattle.script_day.specs.OnDisk.{CourseOn}
+use Rattle.desk_runs.specs.Courses.{Course}
+use Rattle.script_day.specs.Courses.{EndsBy}
+use Rattle.desk_runs.specs.OnDisk.{CourseOn}
 use Rattle.script_day.specs.declared.ending.Ending.{Ending}
-use Rattle.script_day.proofs.DiskCounts.{day_later, day_rises, day_stays}
+use Rattle.desk_runs.proofs.DiskCounts.{day_later}
+use Rattle.script_day.proofs.DiskCounts.{day_rises, day_stays}
 use Rattle.adx_commands.specs.Statuses.{HasDiskCauses, status_of}
 
 -- the endings that have these statuses

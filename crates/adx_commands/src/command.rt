@@ -1,27 +1,34 @@
 //! The top call, from the words of a command to its exit status.
-ghost use Rattle.std.specs.Prelude.{◌≡◌, ◌≢◌, ◌⊎◌, ◌≤◌, ℕ, Some};
+ghost use Rattle.std.specs.Prelude.{◌≡◌, ◌≢◌, ◌⊎◌, ◌≤◌, ℕ, List, Some};
 ghost use Rattle.adx_io.specs.Streams.{Rises};
+ghost use Rattle.command_archive.specs.Keeps.{KeepsAs};
+ghost use Rattle.command_archive.specs.Lists.{ListsAs};
+ghost use Rattle.command_archive.specs.declared.list.Query.{Query as Asked};
 ghost use Rattle.command_check.specs.Checks.{HasOneAnswer};
 ghost use Rattle.command_check.specs.Runs.{AcceptsInput, ChecksInput};
 ghost use Rattle.command_close.specs.ClosedDays.{HasOneDocument, IsClosedDay};
 ghost use Rattle.command_close.specs.Guarantees.{HasOneGuarantee, IsGuarantee};
+ghost use Rattle.command_notices.specs.PostLines.{AreNotices};
 ghost use Rattle.command_words.specs.Helps.{help_text, version_text};
 ghost use Rattle.command_words.specs.Meanings.{HasFewAsks, IsPlain};
 ghost use Rattle.command_words.specs.declared.command.Command.{Command as Meaning};
 ghost use Rattle.command_words.specs.declared.command.Topic.{Topic as HelpTopic};
 ghost use Rattle.script_day.specs.Days.{HasOneOutput, HasOutputs};
 ghost use Rattle.adx_commands.specs.Statuses.{HasCauses, HasDiskCauses};
-ghost use Rattle.adx_commands.specs.Commands.{AsksNothing, Does, DoesAsRead, IsBidder, IsCheck, IsClose, IsCommand, IsConnection, IsDay, IsGenerated, IsHelp, IsNotices, IsRatio, IsVersion, LeavesDisk, Runs, RunsBidder, RunsConnection, RunsDay, RunsGenerated, RunsNotices, RunsPrint, Tells};
+ghost use Rattle.adx_commands.specs.Commands.{AsksNothing, Does, DoesAsRead, IsArchive, IsArchiveList, IsArchivePut, IsBidder, IsCheck, IsClose, IsCommand, IsConnection, IsDay, IsGenerated, IsHelp, IsNotices, IsRatio, IsReconcile, IsVersion, LeavesDisk, LeavesKeeper, Runs, RunsBidder, RunsConnection, RunsDay, RunsGenerated, RunsPrint, RunsReconcile, Tells};
 
 use crate::status::{DONE, NO_COMMAND, OUT_OF_MEMORY, WRITE_FAULT, status_of, status_of_outcome};
 use adx_books::{Generator, serve_generated};
 use adx_io::{Disk, Sink, Source, put_all};
-use adx_notices::serve_notices;
 use adx_units::Text;
-use bidder_day::serve_prices;
+use command_archive::{Query, keep_day, list_days_of};
+use command_bidder::run_bidder;
 use command_check::check_input;
 use command_close::{close_journal, measure_journal};
+use command_notices::print_notices;
+use command_reconcile::reconcile_ledger;
 use command_words::{Command, VERSION, command_of, help_of};
+use day_archive::Keeper;
 use exchange_day::serve_exchange;
 use script_day::serve_day;
 use std::alloc::Global;
@@ -46,15 +53,25 @@ fn tell<K: Sink>(sink: &mut K, text: &str, done: u8) -> u8
 }
 
 /// Runs what was read of the words.
-fn run<S: Source, K: Sink, D: Disk>(
+fn run<S: Source, K: Sink, D: Disk, P: Keeper>(
     alloc: Global,
     read: Option<Command>,
     source: &mut S,
     sink: &mut K,
     disk: &mut D,
+    keeper: &mut P,
 ) -> u8
     requires { HasFewAsks read }
-    ensures does { Does (Runs D.Disk (S.tape source.old) (S.tape source.new) (K.held sink.old) (K.held sink.new) disk.old disk.new result) source.old source.new disk.old disk.new read }
+    ensures does { Does S.Source K.Sink D.Disk P.Keeper (record {
+      source = source.old;
+      source_now = source.new;
+      sink = sink.old;
+      sink_now = sink.new;
+      disk = disk.old;
+      disk_now = disk.new;
+      keeper = keeper.old;
+      keeper_now = keeper.new;
+    }) result read }
     ensures causes { HasCauses (S.faults source.old) (S.faults source.new) (K.faults sink.old) (K.faults sink.new) result }
     ensures disk_causes { HasDiskCauses (D.faults disk.old) (D.faults disk.new) result }
     ensures source_same { S.place source.new ≡ S.place source.old }
@@ -71,12 +88,12 @@ fn run<S: Source, K: Sink, D: Disk>(
             status_of(ended)
         }
         Some(Command::Notices { .. }) => {
-            let ended = serve_notices(alloc, source, sink, disk);
-            status_of(ended)
+            let ended = print_notices(alloc, source, sink, disk);
+            status_of_outcome(ended)
         }
         Some(Command::Bidder) => {
-            let ended = serve_prices(alloc, source, sink);
-            status_of(ended)
+            let ended = run_bidder(alloc, source, sink);
+            status_of_outcome(ended)
         }
         Some(Command::Close { ratio: false, .. }) => {
             let ended = close_journal(alloc, source, sink, disk);
@@ -91,6 +108,28 @@ fn run<S: Source, K: Sink, D: Disk>(
             status_of(ended)
         }
         Some(Command::Check) => check_input(alloc, source, sink),
+        Some(Command::ArchivePut { .. }) => keep_day(alloc, keeper, source, sink),
+        Some(
+            Command::ArchiveList {
+                seat,
+                cid,
+                first,
+                last,
+                ..
+            },
+        ) => {
+            let query = Query {
+                seat,
+                cid,
+                first,
+                last,
+            };
+            list_days_of(alloc, keeper, &query, sink)
+        }
+        Some(Command::Reconcile { bidder, .. }) => {
+            let ended = reconcile_ledger(alloc, bidder.as_str(), source, sink, disk);
+            status_of_outcome(ended)
+        }
         Some(Command::Help(topic)) => tell(sink, help_of(topic), DONE),
         Some(Command::Version) => tell(sink, VERSION, DONE),
         None => tell(sink, USAGE, NO_COMMAND),
@@ -98,14 +137,24 @@ fn run<S: Source, K: Sink, D: Disk>(
 }
 
 /// Runs what the words are read as.
-fn run_words<S: Source, K: Sink, D: Disk>(
+fn run_words<S: Source, K: Sink, D: Disk, P: Keeper>(
     alloc: Global,
     words: &[Text],
     source: &mut S,
     sink: &mut K,
     disk: &mut D,
+    keeper: &mut P,
 ) -> u8
-    ensures does { DoesAsRead (Runs D.Disk (S.tape source.old) (S.tape source.new) (K.held sink.old) (K.held sink.new) disk.old disk.new result) source.old source.new disk.old disk.new words.now }
+    ensures does { DoesAsRead S.Source K.Sink D.Disk P.Keeper (record {
+      source = source.old;
+      source_now = source.new;
+      sink = sink.old;
+      sink_now = sink.new;
+      disk = disk.old;
+      disk_now = disk.new;
+      keeper = keeper.old;
+      keeper_now = keeper.new;
+    }) result words.now }
     ensures causes { HasCauses (S.faults source.old) (S.faults source.new) (K.faults sink.old) (K.faults sink.new) result }
     ensures disk_causes { HasDiskCauses (D.faults disk.old) (D.faults disk.new) result }
     ensures source_same { S.place source.new ≡ S.place source.old }
@@ -113,7 +162,7 @@ fn run_words<S: Source, K: Sink, D: Disk>(
     ensures disk_lasts { D.lasts disk.old disk.new }
 {
     match command_of(alloc, words) {
-        Ok(read) => run(alloc, read, source, sink, disk),
+        Ok(read) => run(alloc, read, source, sink, disk, keeper),
         Err(_) => OUT_OF_MEMORY,
     }
 }
@@ -151,6 +200,15 @@ fn run_words<S: Source, K: Sink, D: Disk>(
 /// writes one line: the bound that no assignment of the record's impressions earns more than, where the certificate is
 /// accepted; or the first rule that fails; or why the input is no document. The disk isn't touched.
 ///
+/// The command `archive-put` reads a document as `check` does, and keeps the day's rows in the keeper where the certificate is
+/// accepted; it writes one line. The command `archive-list` reads nothing, and writes the kept days of a campaign, in order of
+/// day. Either upgrades the keeper before it asks anything else of it, `archive-put` only behind an accepted certificate. All
+/// other commands leave the keeper as it is.
+///
+/// The command `reconcile` reads a roster line and then the lines of a bidder's ledger, as `bidder` answers them at `/ledger`.
+/// It opens the roster's day on the disk, and writes a line for each auction and price of which the day's bills that the
+/// bidder's campaigns owe and the ledger's bills have different numbers, and the two sums. Nothing is added to the history.
+///
 /// The words `--help`, alone or after a command's word, `help`, alone or before it, and `--version` ask for a text, which
 /// the sink takes.
 ///
@@ -167,38 +225,72 @@ fn run_words<S: Source, K: Sink, D: Disk>(
 /// while the day was opened or, for `gen`, at any time, and then the sink took nothing, or where the source was read to its
 /// end and the disk met a fault in a call that was given up by it, or, for `conn`, in the record of notices that waited,
 /// which were then taken one by one; 7 where the disk's file isn't a journal of the roster's day, and then the sink took a
-/// line that says why; 8 where `check` doesn't accept the certificate. The count of faults of the source rises exactly at 4
-/// and that of the sink exactly at 5, except where a count is at its last value; that of the disk rises in just the calls
-/// that are answered so, and for `conn` in such records. Each input has one output for each history at the start and each
-/// choice of calls that are given up.
-pub fn adx<S: Source, K: Sink, D: Disk>(
+/// line that says why; 8 where `check` or `archive-put` doesn't accept the certificate; 9 where the keeper failed, and then
+/// the sink took nothing; 10 where the day is kept already, or a day isn't a date, or the first is after the last, and then the
+/// sink took a line that says which. The count of faults of the source rises exactly at 4 and that of the sink exactly at 5,
+/// except where a count is at its last value; that of the disk rises in just the calls that are answered so, and for `conn` in
+/// such records. Each input has one output for each history at the start and each choice of calls that are given up.
+pub fn adx<S: Source, K: Sink, D: Disk, P: Keeper>(
     alloc: Global,
     words: &[Text],
     source: &mut S,
     sink: &mut K,
     disk: &mut D,
+    keeper: &mut P,
 ) -> u8
-    ensures day { IsDay words.now → RunsDay D.faults D.reads D.may_leave D.moment D.left_since (S.tape source.old) (S.tape source.new) (K.held sink.old) (K.held sink.new) disk.old disk.new result }
-    ensures connection { IsConnection words.now → RunsConnection D.faults D.reads D.may_leave D.moment D.left_since (S.tape source.old) (S.tape source.new) (K.held sink.old) (K.held sink.new) disk.old disk.new result }
-    ensures bidder { IsBidder words.now → RunsBidder (S.tape source.old) (S.tape source.new) (K.held sink.old) (K.held sink.new) result }
-    ensures generated { (seed asks : ℕ) → IsGenerated words.now seed asks → RunsGenerated D.faults D.reads D.may_leave D.moment D.left_since seed asks (K.held sink.old) (K.held sink.new) disk.old disk.new result }
-    ensures notices { IsNotices words.now → RunsNotices D.faults D.reads D.may_leave D.moment D.left_since (S.tape source.old) (S.tape source.new) (K.held sink.old) (K.held sink.new) disk.old disk.new result }
-    ensures close { IsClose words.now → RunsPrint D.Disk IsClosedDay (S.tape source.old) (S.tape source.new) (K.held sink.old) (K.held sink.new) disk.old disk.new result }
-    ensures ratio { IsRatio words.now → RunsPrint D.Disk IsGuarantee (S.tape source.old) (S.tape source.new) (K.held sink.old) (K.held sink.new) disk.old disk.new result }
-    ensures check { IsCheck words.now → ChecksInput (S.tape source.old) (S.tape source.new) (K.held sink.old) (K.held sink.new) result }
-    ensures accepted { IsCheck words.now → result ≡ 0 → AcceptsInput (S.tape source.old) (S.tape source.new) (K.held sink.old) (K.held sink.new) }
-    ensures help { (topic : HelpTopic) → IsHelp words.now topic → Tells (help_text topic) 0 (K.held sink.old) (K.held sink.new) result }
+    ensures day { IsDay words.now →
+        RunsDay D.Disk (S.tape source.old) (S.tape source.new) (K.held sink.old) (K.held sink.new) disk.old disk.new result }
+    ensures connection { IsConnection words.now →
+        RunsConnection D.Disk (S.tape source.old) (S.tape source.new) (K.held sink.old) (K.held sink.new) disk.old disk.new result }
+    ensures bidder { IsBidder words.now →
+        RunsBidder (S.tape source.old) (S.tape source.new) (K.held sink.old) (K.held sink.new) result }
+    ensures generated { (seed asks : ℕ) → IsGenerated words.now seed asks →
+        RunsGenerated D.Disk seed asks (K.held sink.old) (K.held sink.new) disk.old disk.new result }
+    ensures notices { IsNotices words.now →
+        RunsPrint D.Disk AreNotices (S.tape source.old) (S.tape source.new) (K.held sink.old) (K.held sink.new) disk.old disk.new result }
+    ensures close { IsClose words.now →
+        RunsPrint D.Disk IsClosedDay (S.tape source.old) (S.tape source.new) (K.held sink.old) (K.held sink.new) disk.old disk.new result }
+    ensures ratio { IsRatio words.now →
+        RunsPrint D.Disk IsGuarantee (S.tape source.old) (S.tape source.new) (K.held sink.old) (K.held sink.new) disk.old disk.new result }
+    ensures check { IsCheck words.now →
+        ChecksInput (S.tape source.old) (S.tape source.new) (K.held sink.old) (K.held sink.new) result }
+    ensures accepted { IsCheck words.now → result ≡ 0 →
+        AcceptsInput (S.tape source.old) (S.tape source.new) (K.held sink.old) (K.held sink.new) }
+    ensures archive_put { IsArchivePut words.now →
+        KeepsAs S.Source K.Sink P.Keeper source.old source.new sink.old sink.new keeper.old keeper.new result }
+    ensures archive_list { (q : Asked) → IsArchiveList words.now q →
+        ListsAs P.Keeper q keeper.old keeper.new (K.held sink.old) (K.held sink.new) result }
+    ensures reconcile { (name : List ℕ) → IsReconcile words.now name →
+        RunsReconcile S.Source K.Sink D.Disk name source.old source.new sink.old sink.new disk.old disk.new result }
+    ensures help { (topic : HelpTopic) → IsHelp words.now topic →
+        Tells (help_text topic) 0 (K.held sink.old) (K.held sink.new) result }
     ensures version { IsVersion words.now → Tells version_text 0 (K.held sink.old) (K.held sink.new) result }
     ensures usage { result ≡ 2 → IsCommand words.now → ⊥ }
-    ensures other { DoesAsRead (Runs D.Disk (S.tape source.old) (S.tape source.new) (K.held sink.old) (K.held sink.new) disk.old disk.new result) source.old source.new disk.old disk.new words.now }
-    ensures unasked { (command : Meaning) → IsPlain command words.now → AsksNothing (Some command) → source.new ≡ source.old }
-    ensures untouched { (command : Meaning) → IsPlain command words.now → LeavesDisk (Some command) → disk.new ≡ disk.old }
+    ensures other { DoesAsRead S.Source K.Sink D.Disk P.Keeper (record {
+      source = source.old;
+      source_now = source.new;
+      sink = sink.old;
+      sink_now = sink.new;
+      disk = disk.old;
+      disk_now = disk.new;
+      keeper = keeper.old;
+      keeper_now = keeper.new;
+    }) result words.now }
+    ensures unasked { (command : Meaning) → IsPlain command words.now → AsksNothing (Some command) →
+        source.new ≡ source.old }
+    ensures untouched { (command : Meaning) → IsPlain command words.now → LeavesDisk (Some command) →
+        disk.new ≡ disk.old }
+    ensures nothing_kept { (command : Meaning) → IsPlain command words.now → LeavesKeeper (Some command) →
+        keeper.new ≡ keeper.old }
     ensures read_fault { result ≡ 4 → Rises (S.faults source.old) (S.faults source.new) }
     ensures read_passed { result ≢ 4 → S.faults source.new ≡ S.faults source.old }
     ensures write_fault { result ≡ 5 → Rises (K.faults sink.old) (K.faults sink.new) }
     ensures write_passed { result ≢ 5 → K.faults sink.new ≡ K.faults sink.old }
     ensures disk_fault { result ≡ 6 → Rises (D.faults disk.old) (D.faults disk.new) }
     ensures disk_passed { (result ≡ 0) ⊎ (result ≡ 7) → D.faults disk.new ≡ D.faults disk.old }
+    ensures keeper_fault { IsArchive words.now → result ≡ 9 → Rises (P.faults keeper.old) (P.faults keeper.new) }
+    ensures keeper_passed { IsArchive words.now → result ≢ 9 → result ≢ 5 →
+        P.faults keeper.new ≡ P.faults keeper.old }
     ensures source_later { S.faults source.old ≤ S.faults source.new }
     ensures sink_later { K.faults sink.old ≤ K.faults sink.new }
     ensures disk_later { D.faults disk.old ≤ D.faults disk.new }
@@ -211,5 +303,5 @@ pub fn adx<S: Source, K: Sink, D: Disk>(
     ensures sink_same { K.place sink.new ≡ K.place sink.old }
     ensures disk_lasts { D.lasts disk.old disk.new }
 {
-    run_words(alloc, words, source, sink, disk)
+    run_words(alloc, words, source, sink, disk, keeper)
 }

@@ -31,6 +31,12 @@ pub const NO_HISTORY: u8 = 7;
 /// The status where the certificate isn't accepted.
 pub const NOT_ACCEPTED: u8 = 8;
 
+/// The status where the keeper of closed days failed.
+pub const KEEPER_FAULT: u8 = 9;
+
+/// The status where the day is kept already, or a day isn't a date, or a range of days runs backwards.
+pub const NOT_KEPT: u8 = 10;
+
 /// The status where memory was refused.
 pub const OUT_OF_MEMORY: u8 = 12;
 

@@ -39,10 +39,38 @@ fn is_moved(alloc: Global) -> bool {
         && matches!(writes(alloc, &mut keeper, "mafl", OLD_WRITTEN), Ok(true))
 }
 
+/// Tables of other columns under the names of the archive's.
+const OTHERS: [&str; 4] = [
+    "CREATE TABLE day2(name TEXT)",
+    "CREATE TABLE campaign2(day TEXT, seat TEXT, cid TEXT, budget INTEGER)",
+    "CREATE TABLE day(name TEXT)",
+    "CREATE TABLE day(day TEXT PRIMARY KEY, bound TEXT NOT NULL)",
+];
+
+/// Whether a database with this table is refused.
+fn is_refused(alloc: Global, table: &str) -> bool {
+    let Ok(mut conn) = Connection::open_in_memory(alloc) else {
+        return false;
+    };
+    match conn.execute_batch(table) {
+        Ok(_) => {}
+        Err(_) => return false,
+    }
+    let mut keeper = SqlKeeper::new(alloc, conn);
+    keeper.upgrade().is_err()
+        && matches!(
+            writes(alloc, &mut keeper, "al", "fault\nnot upgraded\n"),
+            Ok(true)
+        )
+}
+
 #[test]
 fn a_database_in_memory_keeps_days(rt: HostRuntime) {
     assert!(rt; is_kept_in_memory(rt.alloc()));
     assert!(rt; is_moved(rt.alloc()));
+    for table in OTHERS {
+        assert!(rt; is_refused(rt.alloc(), table), "{table}");
+    }
 }
 
 /// Whether the calls over a database on a file write this, and the file is closed.

@@ -2,8 +2,8 @@
 //! of their first calls.
 use adx_io::{MemorySink, MemorySource, Stop};
 use adx_units::OutOfMemory;
-use bidder_day::serve_prices;
-use script_day::Ending;
+use command_bidder::run_bidder;
+use command_runs::Outcome;
 use std::alloc::Global;
 
 /// What a row says of its bytes: `~` stands for CR LF, and `;` for LF alone.
@@ -20,15 +20,14 @@ fn bytes_of(alloc: Global, text: &str) -> Result<Vec<u8>, OutOfMemory> {
 }
 
 /// The word of an end.
-fn word_of(ended: Result<(), Ending>) -> &'static str {
+fn word_of(ended: Result<Outcome, Stop>) -> &'static str {
     match ended {
-        Ok(()) => "served",
-        Err(Ending::Refused) => "refused",
-        Err(Ending::Stopped(Stop::ReadFault)) => "unread",
-        Err(Ending::Stopped(Stop::WriteFault)) => "unwritten",
-        Err(Ending::Stopped(Stop::OutOfMemory)) => "no memory",
-        Err(Ending::DiskFault) => "disk",
-        Err(Ending::NoHistory) => "history",
+        Ok(Outcome::Done) => "served",
+        Ok(Outcome::Refused) => "refused",
+        Ok(_) => "another end",
+        Err(Stop::ReadFault) => "unread",
+        Err(Stop::WriteFault) => "unwritten",
+        Err(Stop::OutOfMemory) => "no memory",
     }
 }
 
@@ -42,7 +41,7 @@ fn gives(
 ) -> Result<bool, OutOfMemory> {
     let mut source = MemorySource::new(alloc, input, step, &[])?;
     let mut sink = MemorySink::new(alloc, step, &[])?;
-    let ended = word_of(serve_prices(alloc, &mut source, &mut sink));
+    let ended = word_of(run_bidder(alloc, &mut source, &mut sink));
     Ok(ended == end && sink.taken() == output)
 }
 
@@ -110,7 +109,7 @@ fn fails(
     let input = bytes_of(alloc, BILL)?;
     let mut source = MemorySource::new(alloc, &input, 60, taking)?;
     let mut sink = MemorySink::new(alloc, 20, putting)?;
-    let ended = word_of(serve_prices(alloc, &mut source, &mut sink));
+    let ended = word_of(run_bidder(alloc, &mut source, &mut sink));
     Ok((ended, sink.taken().len()))
 }
 

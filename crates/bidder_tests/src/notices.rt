@@ -1,8 +1,9 @@
 //! The notices of a day: what days owe, inputs that are refused, files of other kinds, and faults of each object.
 use adx_io::{Disk, MemoryDisk, MemorySink, MemorySource, Stop};
-use adx_notices::serve_notices;
 use adx_units::OutOfMemory;
-use script_day::{Ending, serve_day};
+use command_notices::print_notices;
+use command_runs::Outcome;
+use script_day::serve_day;
 use std::alloc::{AllocError, Global};
 
 /// The roster's line.
@@ -53,15 +54,16 @@ fn add_call(bytes: &mut Vec<u8>, call: &str) -> Result<(), AllocError> {
 }
 
 /// The word of an end.
-fn word_of(ended: Result<(), Ending>) -> &'static str {
+fn word_of(ended: Result<Outcome, Stop>) -> &'static str {
     match ended {
-        Ok(()) => "told",
-        Err(Ending::Refused) => "refused",
-        Err(Ending::Stopped(Stop::ReadFault)) => "unread",
-        Err(Ending::Stopped(Stop::WriteFault)) => "unwritten",
-        Err(Ending::Stopped(Stop::OutOfMemory)) => "no memory",
-        Err(Ending::DiskFault) => "disk",
-        Err(Ending::NoHistory) => "history",
+        Ok(Outcome::Done) => "told",
+        Ok(Outcome::Refused) => "refused",
+        Ok(Outcome::DiskFault) => "disk",
+        Ok(Outcome::NoHistory) => "history",
+        Ok(_) => "another end",
+        Err(Stop::ReadFault) => "unread",
+        Err(Stop::WriteFault) => "unwritten",
+        Err(Stop::OutOfMemory) => "no memory",
     }
 }
 
@@ -110,7 +112,7 @@ fn gives(
 ) -> Result<bool, OutOfMemory> {
     let mut source = MemorySource::new(alloc, input, step, &[])?;
     let mut sink = MemorySink::new(alloc, step, &[])?;
-    let ended = word_of(serve_notices(alloc, &mut source, &mut sink, disk));
+    let ended = word_of(print_notices(alloc, &mut source, &mut sink, disk));
     Ok(ended == end && sink.taken() == output)
 }
 
@@ -214,7 +216,7 @@ fn tells(
 ) -> Result<&'static str, OutOfMemory> {
     let mut source = MemorySource::new(alloc, input, 0, &[])?;
     let mut sink = MemorySink::new(alloc, 0, &[])?;
-    let ended = word_of(serve_notices(alloc, &mut source, &mut sink, disk));
+    let ended = word_of(print_notices(alloc, &mut source, &mut sink, disk));
     if sink.taken().starts_with(front.as_bytes()) {
         return Ok(ended);
     }
@@ -273,7 +275,7 @@ fn fails_on(
     let input = bytes_of(alloc, "R")?;
     let mut source = MemorySource::new(alloc, &input, 0, taking)?;
     let mut sink = MemorySink::new(alloc, 20, putting)?;
-    let ended = word_of(serve_notices(alloc, &mut source, &mut sink, disk));
+    let ended = word_of(print_notices(alloc, &mut source, &mut sink, disk));
     Ok((ended, sink.taken().len()))
 }
 

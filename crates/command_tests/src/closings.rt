@@ -3,6 +3,7 @@ use crate::generated::words_of;
 use adx_commands::adx;
 use adx_io::{MemoryDisk, MemorySink, MemorySource};
 use adx_units::OutOfMemory;
+use day_archive::MemoryKeeper;
 use std::alloc::Global;
 
 /// The roster of a day with two campaigns, of 100 and of 10,000 units.
@@ -78,7 +79,15 @@ fn run(
 ) -> Result<u8, OutOfMemory> {
     let words = words_of(alloc, line)?;
     let mut source = MemorySource::new(alloc, input.as_bytes(), 0, &[])?;
-    Ok(adx(alloc, words.as_slice(), &mut source, sink, disk))
+    let mut keeper = MemoryKeeper::new(alloc, &[])?;
+    Ok(adx(
+        alloc,
+        words.as_slice(),
+        &mut source,
+        sink,
+        disk,
+        &mut keeper,
+    ))
 }
 
 /// A disk that keeps a day; none is kept of an empty input.
@@ -186,7 +195,15 @@ fn cut_by_source(alloc: Global) -> Result<(u8, usize), OutOfMemory> {
     let mut sink = MemorySink::new(alloc, 0, &[])?;
     let words = words_of(alloc, "close --journal j")?;
     let mut source = MemorySource::new(alloc, ROSTER.as_bytes(), 0, &[1])?;
-    let status = adx(alloc, words.as_slice(), &mut source, &mut sink, &mut disk);
+    let mut keeper = MemoryKeeper::new(alloc, &[])?;
+    let status = adx(
+        alloc,
+        words.as_slice(),
+        &mut source,
+        &mut sink,
+        &mut disk,
+        &mut keeper,
+    );
     Ok((status, sink.taken().len()))
 }
 

@@ -3,6 +3,7 @@ use crate::generated::words_of;
 use adx_commands::adx;
 use adx_io::{MemoryDisk, MemorySink, MemorySource};
 use adx_units::{OutOfMemory, Text};
+use day_archive::MemoryKeeper;
 use std::alloc::Global;
 
 /// Words, and behind the arrow the status and the first line that is written where the source has nothing.
@@ -31,6 +32,18 @@ bidder --journal a => 2 usage: adx COMMAND
 check => 3 {"answer":"document","why":"cut"}
 check --journal a => 2 usage: adx COMMAND
 check a => 2 usage: adx COMMAND
+archive-put --archive a => 3 {"answer":"document","why":"cut"}
+archive-put --archive=a => 3 {"answer":"document","why":"cut"}
+archive-put => 2 usage: adx COMMAND
+archive-put --archive a b => 2 usage: adx COMMAND
+archive-list --archive a --seat s --cid c --from 2025-02-30 --to 2025-01-01 => 10 {"answer":"keeper","why":"baddate","day":"2025-02-30"}
+archive-list --archive a --seat s --cid c --from 2025-03-01 --to 2025-1-1 => 10 {"answer":"keeper","why":"baddate","day":"2025-1-1"}
+archive-list --to=2025-01-01 --from=2025-03-01 --archive a --cid c --seat s => 10 {"answer":"keeper","why":"badrange"}
+archive-list --archive a --seat s --cid c --from 2025-03-01 => 2 usage: adx COMMAND
+archive-list => 2 usage: adx COMMAND
+reconcile --journal a --bidder b => 3 {"answer":"roster","why":"cut"}
+reconcile --journal a => 2 usage: adx COMMAND
+reconcile --help => 0 usage: adx reconcile --journal FILE --bidder NAME
 gen --asks 250 --seed 7 => 0 {"seat":"s","cid":"c0","budget":10000000,"reserved":1418384,"billed":4378846,"slab":57}
 gen --asks=250 --seed 7 => 0 {"seat":"s","cid":"c0","budget":10000000,"reserved":1418384,"billed":4378846,"slab":57}
 gen => 2 usage: adx COMMAND
@@ -58,6 +71,8 @@ notices --help => 0 usage: adx notices --journal FILE
 bidder --help => 0 usage: adx bidder
 gen --help => 0 usage: adx gen --seed N --asks M
 check --help => 0 usage: adx check
+archive-put --help => 0 usage: adx archive-put --archive FILE
+help archive-list => 0 usage: adx archive-list --archive FILE --seat S --cid C --from DAY --to DAY
 help => 0 adx serves a day of an advertising exchange, or a bidder of one.
 help gen => 0 usage: adx gen --seed N --asks M
 help check => 0 usage: adx check
@@ -87,7 +102,8 @@ fn gives(alloc: Global, words: &[Text], status: &str, line: &str) -> Result<bool
     let mut source = MemorySource::new(alloc, b"", 0, &[])?;
     let mut sink = MemorySink::new(alloc, 0, &[])?;
     let mut disk = MemoryDisk::new(alloc, b"", &[], None)?;
-    let ended = adx(alloc, words, &mut source, &mut sink, &mut disk);
+    let mut keeper = MemoryKeeper::new(alloc, &[])?;
+    let ended = adx(alloc, words, &mut source, &mut sink, &mut disk, &mut keeper);
     Ok(is_status(ended, status) && begins_with(sink.taken(), line))
 }
 

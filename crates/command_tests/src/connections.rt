@@ -3,6 +3,7 @@ use crate::generated::words_of;
 use adx_commands::adx;
 use adx_io::{MemoryDisk, MemorySink, MemorySource};
 use adx_units::OutOfMemory;
+use day_archive::MemoryKeeper;
 use std::alloc::{AllocError, Global};
 
 /// One bidder, who answers the first request with a bid.
@@ -43,7 +44,15 @@ fn serves(
     let input = input_of(alloc, messages)?;
     let mut source = MemorySource::new(alloc, input.as_bytes(), step, &[])?;
     let mut sink = MemorySink::new(alloc, step, &[])?;
-    let status = adx(alloc, words.as_slice(), &mut source, &mut sink, disk);
+    let mut keeper = MemoryKeeper::new(alloc, &[])?;
+    let status = adx(
+        alloc,
+        words.as_slice(),
+        &mut source,
+        &mut sink,
+        disk,
+        &mut keeper,
+    );
     Ok((status, sink.taken() == replies.as_bytes()))
 }
 

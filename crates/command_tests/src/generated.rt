@@ -2,6 +2,7 @@
 use adx_commands::adx;
 use adx_io::{MemoryDisk, MemorySink, MemorySource};
 use adx_units::{OutOfMemory, Text};
+use day_archive::MemoryKeeper;
 use std::alloc::Global;
 
 /// The words of a day of 250 asks.
@@ -50,7 +51,8 @@ fn gives(
 ) -> Result<bool, OutOfMemory> {
     let mut source = MemorySource::new(alloc, b"", 0, &[])?;
     let mut sink = MemorySink::new(alloc, 0, &[])?;
-    let ended = adx(alloc, words, &mut source, &mut sink, disk);
+    let mut keeper = MemoryKeeper::new(alloc, &[])?;
+    let ended = adx(alloc, words, &mut source, &mut sink, disk, &mut keeper);
     Ok(ended == status && sink.taken() == output.as_bytes())
 }
 

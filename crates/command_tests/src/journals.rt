@@ -4,6 +4,7 @@ use crate::tables::{EVENTFUL, EVENTFUL_ANSWERS, OTHER_FILE_COUNT, OTHER_FILES};
 use adx_commands::adx;
 use adx_io::{Disk, MemoryDisk, MemorySink, MemorySource};
 use adx_units::OutOfMemory;
+use day_archive::MemoryKeeper;
 use std::alloc::{AllocError, Global};
 
 /// More calls than a disk gets under the eventful day.
@@ -27,7 +28,15 @@ fn run(
 ) -> Result<u8, OutOfMemory> {
     let words = words_of(alloc, "day --journal j")?;
     let mut source = MemorySource::new(alloc, input.as_bytes(), 0, &[])?;
-    Ok(adx(alloc, words.as_slice(), &mut source, sink, disk))
+    let mut keeper = MemoryKeeper::new(alloc, &[])?;
+    Ok(adx(
+        alloc,
+        words.as_slice(),
+        &mut source,
+        sink,
+        disk,
+        &mut keeper,
+    ))
 }
 
 /// The text of an output; nothing where it is none.

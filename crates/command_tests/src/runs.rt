@@ -6,6 +6,7 @@ use crate::tables::{
 use adx_commands::adx;
 use adx_io::{MemoryDisk, MemorySink, MemorySource};
 use adx_units::{OutOfMemory, Text};
+use day_archive::MemoryKeeper;
 use std::alloc::{AllocError, Global};
 use std::fmt::Write;
 
@@ -31,7 +32,8 @@ type Calls<'a> = (usize, &'a [u64]);
 fn run(alloc: Global, source: &mut MemorySource, sink: &mut MemorySink) -> Result<u8, OutOfMemory> {
     let words = [Text::of(alloc, "day")?];
     let mut disk = MemoryDisk::new(alloc, b"", &[], None)?;
-    Ok(adx(alloc, &words, source, sink, &mut disk))
+    let mut keeper = MemoryKeeper::new(alloc, &[])?;
+    Ok(adx(alloc, &words, source, sink, &mut disk, &mut keeper))
 }
 
 /// Whether an input gives this status and this output where source and sink take calls so.

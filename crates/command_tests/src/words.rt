@@ -44,6 +44,36 @@ close|--journal|a|--ratio|b => none
 close|--journal|--ratio => none
 close|--journal|a|--journal|b => none
 closing|--journal|a => none
+archive-put|--archive|a.db => put a.db
+archive-put|--archive=a.db => put a.db
+archive-put|--archive| => put 
+archive-put => none
+archive-put|--archive => none
+archive-put|--archive|-a => none
+archive-put|--archive|a|--archive|b => none
+archive-put|--archive|a|b => none
+archive-put|--journal|a => none
+archive-put|--archive|a|--seat|s => none
+archive-list|--archive|a.db|--seat|s1|--cid|c1|--from|2025-03-01|--to|2025-03-31 => list a.db s1 c1 2025-03-01 2025-03-31
+archive-list|--to|2|--from|1|--cid|c|--seat|s|--archive|a => list a s c 1 2
+archive-list|--archive=a|--seat=|--cid|c|--from=1|--to= => list a  c 1 
+archive-list|--archive|a|--seat|s|--cid|c|--from|1 => none
+archive-list|--archive|a|--seat|s|--cid|c|--to|2 => none
+archive-list|--archive|a|--seat|s|--from|1|--to|2 => none
+archive-list|--archive|a|--cid|c|--from|1|--to|2 => none
+archive-list|--seat|s|--cid|c|--from|1|--to|2 => none
+archive-list|--archive|a|--seat|s|--cid|c|--from|1|--to|2|--to|2 => none
+archive-list|--archive|a|--seat|s|--cid|c|--from|1|--to|2|3 => none
+archive-list => none
+reconcile|--journal|a.journal|--bidder|b1 => reconcile a.journal b1
+reconcile|--bidder|b1|--journal|a.journal => reconcile a.journal b1
+reconcile|--journal=a|--bidder= => reconcile a 
+reconcile|--journal|a => none
+reconcile|--bidder|b1 => none
+reconcile|--journal|a|--bidder|b1|--bidder|b1 => none
+reconcile|--journal|a|--bidder|b1|c => none
+reconcile => none
+archive => none
 gen|--seed|7|--asks|250 => gen 7 250
 gen|--asks|250|--seed|7 => gen 7 250
 gen|--asks=250|--seed|7 => gen 7 250
@@ -101,6 +131,12 @@ gen|--help => help gen
 check|--help => help check
 close|--help => help close
 help|close => help close
+archive-put|--help => help put
+help|archive-put => help put
+archive-list|--help => help list
+help|archive-list => help list
+reconcile|--help => help reconcile
+help|reconcile => help reconcile
 gen|--seed|7|--help => help gen
 day|--help|--nothing => help day
 day|--nothing|--help => none
@@ -120,15 +156,21 @@ fn name_of(topic: Topic) -> &'static str {
         Topic::Generate => "gen",
         Topic::Check => "check",
         Topic::Close => "close",
+        Topic::ArchivePut => "put",
+        Topic::ArchiveList => "list",
+        Topic::Reconcile => "reconcile",
     }
 }
 
-/// Whether a text is a word, a blank and this rest.
-fn is_with(text: &str, word: &str, rest: &str) -> bool {
-    match text.split_once(' ') {
-        Some((first, behind)) => first == word && behind == rest,
-        None => false,
+/// Whether a text is these words with a blank between them.
+fn is_of(text: &str, words: &[&str]) -> bool {
+    let mut parts = text.split(' ');
+    for word in words {
+        if parts.next() != Some(*word) {
+            return false;
+        }
     }
+    parts.next().is_none()
 }
 
 /// Whether a text is the word of a generated day, and its numbers behind it.
@@ -151,30 +193,53 @@ fn is_asked(command: &Option<Command>, asked: &str) -> bool {
             Command::Day {
                 journal: Some(file),
             },
-        ) => is_with(asked, "day", file.as_str()),
+        ) => is_of(asked, &["day", file.as_str()]),
         Some(Command::Connection { journal: None }) => asked == "conn",
         Some(
             Command::Connection {
                 journal: Some(file),
             },
-        ) => is_with(asked, "conn", file.as_str()),
-        Some(Command::Notices { journal }) => is_with(asked, "notices", journal.as_str()),
+        ) => is_of(asked, &["conn", file.as_str()]),
+        Some(Command::Notices { journal }) => is_of(asked, &["notices", journal.as_str()]),
         Some(Command::Bidder) => asked == "bidder",
         Some(
             Command::Close {
                 journal,
                 ratio: false,
             },
-        ) => is_with(asked, "close", journal.as_str()),
+        ) => is_of(asked, &["close", journal.as_str()]),
         Some(
             Command::Close {
                 journal,
                 ratio: true,
             },
-        ) => is_with(asked, "ratio", journal.as_str()),
+        ) => is_of(asked, &["ratio", journal.as_str()]),
         Some(Command::Generate { seed, asks }) => is_generated(asked, *seed, *asks),
         Some(Command::Check) => asked == "check",
-        Some(Command::Help(topic)) => is_with(asked, "help", name_of(*topic)),
+        Some(Command::ArchivePut { archive }) => is_of(asked, &["put", archive.as_str()]),
+        Some(
+            Command::ArchiveList {
+                archive,
+                seat,
+                cid,
+                first,
+                last,
+            },
+        ) => is_of(
+            asked,
+            &[
+                "list",
+                archive.as_str(),
+                seat.as_str(),
+                cid.as_str(),
+                first.as_str(),
+                last.as_str(),
+            ],
+        ),
+        Some(Command::Reconcile { journal, bidder }) => {
+            is_of(asked, &["reconcile", journal.as_str(), bidder.as_str()])
+        }
+        Some(Command::Help(topic)) => is_of(asked, &["help", name_of(*topic)]),
         Some(Command::Version) => asked == "version",
     }
 }
@@ -218,6 +283,8 @@ day|--jurnal|a => unexpected argument '--jurnal' found
 day|--journal => a value is required for '--journal <journal>' but none was supplied
 day|--journal|a|--journal|b => the argument '--journal <journal>' cannot be used multiple times
 notices => the following required arguments were not provided: --journal <journal>
+archive-put => the following required arguments were not provided: --archive <archive>
+archive-list|--archive|a|--cid|c => the following required arguments were not provided: --seat <seat> --from <from> --to <to>
 gen => the following required arguments were not provided: --seed <seed> --asks <asks>
 gen|--seed|07|--asks|250 => '--seed' is a decimal number below 2^64, and '--asks' one of at most 1000000, both without a sign or a leading zero
 help|days => unrecognized subcommand 'days'

@@ -4,13 +4,12 @@ use Rattle.std.specs.List.{All, fold, slice_index_or}
 use Rattle.std.specs.Option.{option_map, option_map_or, unwrap_or}
 use Rattle.std.specs.Str.{bytes_eq}
 use Rattle.std.proofs.lemmas.List.Elements.{All-head, All-tail}
-use Rattle.std.proofs.lemmas.Slice.Eq.{bytes_eq-Decides}
 use Rattle.clap.proofs.OnLiterals.{clap_on_literals}
 use Rattle.clap.specs.Faults.{check_fault, defaults_fault, fault_of, is_simple_and_free, settle_fault}
 use Rattle.clap.specs.Kinds.{HasKind, IsAmong, Kinds, check_kinds}
 use Rattle.clap.specs.Values.{kind_of}
 use Rattle.clap.specs.declared.error.Error.{Error}
-use Rattle.clap.specs.Simple.{App, Shape, built, built_leaf, filled, help_rule, inherited, is_simple, subcommand_of, subcommand_rows_of}
+use Rattle.clap.specs.Simple.{App, built, filled, help_rule, is_simple, subcommand_of, subcommand_rows_of}
 use Rattle.clap.specs.Matches.{found_of, subcommand_name_of}
 use Rattle.clap.specs.Takes.{is_given}
 use Rattle.clap.specs.Walk.{Held, Rule, default_rows, has_row, nothing_held, rows_of, settled, with_default}
@@ -20,38 +19,18 @@ use Rattle.clap.specs.Walk.{Row as Found}
 use Rattle.clap.specs.declared.builder.value_parser.Reading.TheVariants.{AsWritten}
 use Rattle.clap.specs.declared.error.kind.ErrorKind.{ErrorKind}
 use Rattle.command_words.specs.Spelling.{Given, Row, Spells, SpellsWith, dashed, has_option, value_of, words_of}
-use Rattle.command_words.specs.Meanings.{IsPlain, asks_name, bidder, check, closing, connection, day, first_help_word, generator, help_word, journal_name, notices, number_of, ratio_name, seed_name, version_word, words_before_help}
-use Rattle.command_words.specs.Taken.{Comes, IsReadingOf, answer, answer_by, application, close_by, command_found, generate, print_notices, subcommand_for, turned_by, turned_round}
+use Rattle.command_words.specs.Meanings.{IsPlain, archive_name, asks_name, bidder, bidder_name, check, cid_name, closing, connection, day, first_help_word, from_name, generator, help_word, journal_name, notices, number_of, ratio_name, seat_name, seed_name, to_name, version_word, words_before_help}
+use Rattle.command_words.specs.Taken.{Comes, IsReadingOf, answer, answer_by, application, close_by, command_found, generate, print_notices, put_archive, reconcile_with, turned_by, turned_round}
 use Rattle.command_words.specs.declared.command.Command.{Command}
 use Rattle.command_words.specs.declared.command.Topic.{Topic}
 use Rattle.command_words.specs.declared.command.TheConstants.{MOST_ASKS}
 use Rattle.command_words.proofs.Walks.{Ends, HasFlag, HasOption, both, done_with, ends, flag_first, flag_last, row_for, rule_of_flag, rule_of_option, set_row, unset_added, unset_row}
-use Rattle.command_words.proofs.Levels.{HasCommand, IsRead, command_entered, command_passes, first_behind, first_beside, first_found, given_beside, given_found, have_no_defaults, level_passes, no_default, no_more, options_read, or_true, rows_found, same_both}
-
--- the program as it is built, and one of its commands
-abbrev pub program : App
-program = built application
-
-abbrev pub shape_by : Row → Shape
-shape_by row = built_leaf (inherited program.top (subcommand_for row).top)
-
--- what holds of each row of the program
-pub record IsBuilt (row : Row) : Type 0 where
-  pub command : HasCommand program row.word (shape_by row)
-  pub options : (name : List ℕ) → has_option row name ≡ true → HasOption (shape_by row).rules name
-  pub defaults : have_no_defaults (shape_by row).rules ≡ true
-  pub checked : (given : List Given) → All (λ name. is_some (value_of name given) ≡ true) row.needed → check_fault (shape_by row) (map row_for given) false ≡ []
-  pub name : (shape_by row).name ≡ row.word
+use Rattle.command_words.proofs.Levels.{HasCommand, IsRead, command_entered, command_passes, first_behind, first_beside, first_found, given_beside, given_found, level_passes, no_default, no_more, options_read, or_true, rows_found, same_both}
+use Rattle.command_words.proofs.Programs.{IsBuilt, one_name, program, shape_by}
+use Rattle.command_words.proofs.ArchiveRows.{archive_list_built, archive_put_built, same_five}
+use Rattle.command_words.proofs.ReconcileRow.{reconcile_built}
 
 -- ---- the rows
-
--- a name that is one of these
-one_name : (P : List ℕ → Type 0) (name other : List ℕ) (more : Bool) → (bytes_eq other name || more) ≡ true → P other → (more ≡ true → P name) → P name
-one_name P name other more is here there = go (bytes_eq other name) refl is
-  where
-    go : (b : Bool) → bytes_eq other name ≡ b → (b || more) ≡ true → P name
-    go true same is = subst P ((bytes_eq-Decides other name).0 same) here
-    go false differ is = there is
 
 journal_option : HasOption (shape_by day).rules journal_name
 journal_option = record { needed = false; is_long = refl; is_named = refl; by_long = refl; by_id = refl }
@@ -310,6 +289,9 @@ help_asked Topic.Notices = refl
 help_asked Topic.Bidder = refl
 help_asked Topic.Close = refl
 help_asked Topic.Check = refl
+help_asked Topic.ArchivePut = refl
+help_asked Topic.ArchiveList = refl
+help_asked Topic.Reconcile = refl
 help_asked Topic.Generate = refl
 
 help_answered : (topic : Topic) → answer (Some ErrorKind.DisplayHelp) (words_before_help topic ++ help_word ∷ []) ≡ Some (Command.Help topic)
@@ -320,6 +302,9 @@ help_answered Topic.Notices = refl
 help_answered Topic.Bidder = refl
 help_answered Topic.Close = refl
 help_answered Topic.Check = refl
+help_answered Topic.ArchivePut = refl
+help_answered Topic.ArchiveList = refl
+help_answered Topic.Reconcile = refl
 help_answered Topic.Generate = refl
 
 version_asked : fault_of application (version_word ∷ []) ≡ ErrorKind.DisplayVersion ∷ []
@@ -388,6 +373,21 @@ plain_read (Command.Close journal true) words (row, given, spells, is) =
 plain_read Command.Check words (row, given, spells, is) =
     let its = takes row given words (subst IsBuilt (sym is) check_built) spells in
     taken Command.Check words its.0 (ap command_found (its.1 ∙ ap (λ (r : Row). Some (r.word, map row_for given)) is))
+plain_read (Command.ArchivePut archive) words (row, given, spells, is) =
+    let its = takes row given words (subst IsBuilt (sym is.0) archive_put_built) spells in
+    taken (Command.ArchivePut archive) words its.0
+    (ap command_found (its.1 ∙ ap (λ (r : Row). Some (r.word, map row_for given)) is.0) ∙ ap put_archive (first_found archive_name given ∙ is.1))
+plain_read (Command.ArchiveList archive seat cid first last) words (row, given, spells, is) =
+    let its = takes row given words (subst IsBuilt (sym is.0) archive_list_built) spells in
+    taken (Command.ArchiveList archive seat cid first last) words its.0
+    (ap command_found (its.1 ∙ ap (λ (r : Row). Some (r.word, map row_for given)) is.0)
+    ∙ same_five _ _ _ _ _ (Some archive) (Some seat) (Some cid) (Some first) (Some last) (first_found archive_name given ∙ is.1) (first_found seat_name given ∙ is.2) (first_found cid_name given ∙ is.3)
+    (first_found from_name given ∙ is.4) (first_found to_name given ∙ is.5))
+plain_read (Command.Reconcile journal name) words (row, given, spells, is) =
+    let its = takes row given words (subst IsBuilt (sym is.0) reconcile_built) spells in
+    taken (Command.Reconcile journal name) words its.0
+    (ap command_found (its.1 ∙ ap (λ (r : Row). Some (r.word, map row_for given)) is.0)
+    ∙ ap₂ reconcile_with (first_found journal_name given ∙ is.1) (first_found bidder_name given ∙ is.2))
 plain_read (Command.Help topic) words is =
     asked (Command.Help topic) words ErrorKind.DisplayHelp (ap (fault_of application) is ∙ help_asked topic) (ap (answer (Some ErrorKind.DisplayHelp)) is ∙ help_answered topic)
 plain_read Command.Version words is = asked Command.Version words ErrorKind.DisplayVersion (ap (fault_of application) is ∙ version_asked) (ap (answer (Some ErrorKind.DisplayVersion)) is)
@@ -400,6 +400,9 @@ help_stays Topic.Notices = refl
 help_stays Topic.Bidder = refl
 help_stays Topic.Close = refl
 help_stays Topic.Check = refl
+help_stays Topic.ArchivePut = refl
+help_stays Topic.ArchiveList = refl
+help_stays Topic.Reconcile = refl
 help_stays Topic.Generate = refl
 
 -- words that begin with another word than `help` stand as `clap` takes them
@@ -432,6 +435,12 @@ plain_turned (Command.Close journal true) words (row, given, spells, is) =
     subst (IsTaken (Command.Close journal true)) (sym (stays_with row given words (ap (λ (r : Row). bytes_eq r.word first_help_word) is.0) spells)) (row, given, spells, is)
 plain_turned Command.Check words (row, given, spells, is) =
     subst (IsTaken Command.Check) (sym (stays row given words (ap (λ (r : Row). bytes_eq r.word first_help_word) is) spells)) (row, given, spells, is)
+plain_turned (Command.ArchivePut archive) words (row, given, spells, is) =
+    subst (IsTaken (Command.ArchivePut archive)) (sym (stays row given words (ap (λ (r : Row). bytes_eq r.word first_help_word) is.0) spells)) (row, given, spells, is)
+plain_turned (Command.ArchiveList archive seat cid first last) words (row, given, spells, is) =
+    subst (IsTaken (Command.ArchiveList archive seat cid first last)) (sym (stays row given words (ap (λ (r : Row). bytes_eq r.word first_help_word) is.0) spells)) (row, given, spells, is)
+plain_turned (Command.Reconcile journal name) words (row, given, spells, is) =
+    subst (IsTaken (Command.Reconcile journal name)) (sym (stays row given words (ap (λ (r : Row). bytes_eq r.word first_help_word) is.0) spells)) (row, given, spells, is)
 plain_turned (Command.Help topic) words (inl behind) = ap turned_round behind ∙ help_stays topic
 plain_turned (Command.Help topic) words (inr first) = ap turned_round first
 plain_turned Command.Version words is = ap turned_round is

@@ -1,7 +1,7 @@
 -- The texts of `--help` and `--version`. This project's own.
 use Rattle.std.specs.Prelude.{ℕ, List}
 use Rattle.command_words.specs.declared.command.Topic.{Topic}
-use Rattle.command_words.specs.declared.help.TheConstants.{BIDDER_HELP, CHECK_HELP, CLOSE_HELP, CONNECTION_HELP, DAY_HELP, GENERATOR_HELP, NOTICES_HELP, PROGRAM_HELP, VERSION}
+use Rattle.command_words.specs.declared.help.TheConstants.{ARCHIVE_LIST_HELP, ARCHIVE_PUT_HELP, BIDDER_HELP, CHECK_HELP, CLOSE_HELP, CONNECTION_HELP, DAY_HELP, GENERATOR_HELP, NOTICES_HELP, PROGRAM_HELP, RECONCILE_HELP, VERSION}
 
 -- the help on a topic
 abbrev pub help_text : Topic → List ℕ
@@ -11,7 +11,10 @@ help_text Topic.Connection = CONNECTION_HELP.now
 help_text Topic.Notices = NOTICES_HELP.now
 help_text Topic.Bidder = BIDDER_HELP.now
 help_text Topic.Close = CLOSE_HELP.now
+help_text Topic.Reconcile = RECONCILE_HELP.now
 help_text Topic.Check = CHECK_HELP.now
+help_text Topic.ArchivePut = ARCHIVE_PUT_HELP.now
+help_text Topic.ArchiveList = ARCHIVE_LIST_HELP.now
 help_text Topic.Generate = GENERATOR_HELP.now
 
 -- what `--version` shows

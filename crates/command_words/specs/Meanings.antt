@@ -16,9 +16,27 @@ seed_name = codes "seed"
 abbrev pub asks_name : List ℕ
 asks_name = codes "asks"
 
+abbrev pub bidder_name : List ℕ
+bidder_name = codes "bidder"
+
 -- the name of a flag
 abbrev pub ratio_name : List ℕ
 ratio_name = codes "ratio"
+
+abbrev pub archive_name : List ℕ
+archive_name = codes "archive"
+
+abbrev pub seat_name : List ℕ
+seat_name = codes "seat"
+
+abbrev pub cid_name : List ℕ
+cid_name = codes "cid"
+
+abbrev pub from_name : List ℕ
+from_name = codes "from"
+
+abbrev pub to_name : List ℕ
+to_name = codes "to"
 
 -- day [--journal FILE]
 abbrev pub day : Row
@@ -48,9 +66,21 @@ closing = record { word = codes "close"; needed = journal_name ∷ []; optional 
 abbrev pub check : Row
 check = record { word = codes "check"; needed = []; optional = []; flags = [] }
 
+-- archive-put --archive FILE
+abbrev pub archive_put : Row
+archive_put = record { word = codes "archive-put"; needed = archive_name ∷ []; optional = []; flags = [] }
+
+-- archive-list --archive FILE --seat S --cid C --from DAY --to DAY
+abbrev pub archive_list : Row
+archive_list = record { word = codes "archive-list"; needed = archive_name ∷ seat_name ∷ cid_name ∷ from_name ∷ to_name ∷ []; optional = []; flags = [] }
+
+-- reconcile --journal FILE --bidder NAME
+abbrev pub reconcile : Row
+reconcile = record { word = codes "reconcile"; needed = journal_name ∷ bidder_name ∷ []; optional = []; flags = [] }
+
 -- the commands that the program has
 abbrev pub commands : List Row
-commands = day ∷ connection ∷ notices ∷ bidder ∷ generator ∷ closing ∷ check ∷ []
+commands = day ∷ connection ∷ notices ∷ bidder ∷ generator ∷ closing ∷ check ∷ archive_put ∷ archive_list ∷ reconcile ∷ []
 
 -- the number that an option's value tells: decimal, without a sign or a leading zero, and at most so much
 abbrev pub number_of : ℕ → Option (List ℕ) → Option ℕ
@@ -64,6 +94,12 @@ AsksFor (Command.Notices journal) row given = (row ≡ notices) × (value_of jou
 AsksFor Command.Bidder row given = row ≡ bidder
 AsksFor (Command.Close journal ratio) row given = (row ≡ closing) × (value_of journal_name given ≡ Some journal)
 AsksFor Command.Check row given = row ≡ check
+AsksFor (Command.ArchivePut archive) row given = (row ≡ archive_put) × (value_of archive_name given ≡ Some archive)
+AsksFor (Command.ArchiveList archive seat cid first last) row given =
+    (row ≡ archive_list) × (value_of archive_name given ≡ Some archive) × (value_of seat_name given ≡ Some seat) × (value_of cid_name given ≡ Some cid)
+    × (value_of from_name given ≡ Some first) × (value_of to_name given ≡ Some last)
+AsksFor (Command.Reconcile journal name) row given =
+    (row ≡ reconcile) × (value_of journal_name given ≡ Some journal) × (value_of bidder_name given ≡ Some name)
 AsksFor (Command.Generate seed asks) row given =
     (row ≡ generator) × (number_of (2 ^ 64 - 1) (value_of seed_name given) ≡ Some seed) × (number_of MOST_ASKS (value_of asks_name given) ≡ Some asks)
 AsksFor (Command.Help topic) row given = ⊥
@@ -89,6 +125,9 @@ words_before_help Topic.Notices = notices.word ∷ []
 words_before_help Topic.Bidder = bidder.word ∷ []
 words_before_help Topic.Close = closing.word ∷ []
 words_before_help Topic.Check = check.word ∷ []
+words_before_help Topic.ArchivePut = archive_put.word ∷ []
+words_before_help Topic.ArchiveList = archive_list.word ∷ []
+words_before_help Topic.Reconcile = reconcile.word ∷ []
 words_before_help Topic.Generate = generator.word ∷ []
 
 -- the words ask for this in plain spelling

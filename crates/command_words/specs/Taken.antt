@@ -12,7 +12,7 @@ use Rattle.clap.specs.Walk.{Row as Found}
 use Rattle.clap.specs.declared.builder.action.ArgAction.TheVariants.{SetTrue}
 use Rattle.clap.specs.declared.error.kind.ErrorKind.{ErrorKind}
 use Rattle.command_words.specs.Spelling.{Row}
-use Rattle.command_words.specs.Meanings.{asks_name, bidder, check, closing, commands, connection, day, first_help_word, generator, help_word, journal_name, notices, number_of, ratio_name, seed_name}
+use Rattle.command_words.specs.Meanings.{archive_list, archive_name, archive_put, asks_name, bidder, bidder_name, check, cid_name, closing, commands, connection, day, first_help_word, from_name, generator, help_word, journal_name, notices, number_of, ratio_name, reconcile, seat_name, seed_name, to_name}
 use Rattle.command_words.specs.declared.command.Command.{Command}
 use Rattle.command_words.specs.declared.command.Topic.{Topic}
 use Rattle.command_words.specs.declared.command.TheConstants.{MOST_ASKS}
@@ -31,6 +31,10 @@ rules_of row = map (option_rule true) row.needed ++ (map (option_rule false) row
 -- a command as a subcommand of clap's
 abbrev pub subcommand_for : Row → App
 subcommand_for row = fold with_rule (new_app row.word) (rules_of row)
+
+-- the command that lists, with its first options alone
+abbrev pub listed_of : App
+listed_of = with_rule (with_rule (new_app archive_list.word) (option_rule true archive_name)) (option_rule true seat_name)
 
 -- the program without its commands
 abbrev pub no_commands : App
@@ -60,6 +64,26 @@ is_set name found = option_map_or (λ text. bytes_eq text (codes "true")) (first
 abbrev pub close_by : Option (List ℕ) → Bool → Option Command
 close_by journal ratio = option_map (λ j. Command.Close j ratio) journal
 
+abbrev pub reconcile_with : Option (List ℕ) → Option (List ℕ) → Option Command
+reconcile_with journal name = option_and_then (λ j. option_map (λ n. Command.Reconcile j n) name) journal
+
+abbrev pub put_archive : Option (List ℕ) → Option Command
+put_archive = option_map (λ a. Command.ArchivePut a)
+
+abbrev pub list_archive : Option (List ℕ) → Option (List ℕ) → Option (List ℕ) → Option (List ℕ) → Option (List ℕ) → Option Command
+list_archive archive seat cid first last =
+    option_and_then (λ a.
+    option_and_then (λ s.
+    option_and_then (λ c.
+    option_and_then (λ f.
+    option_map (λ l. Command.ArchiveList a s c f l) last) first) cid) seat) archive
+
+-- the days that these rows ask for
+abbrev pub days_asked : List Found → Option Command
+days_asked found =
+    list_archive (first_of archive_name found) (first_of seat_name found) (first_of cid_name found)
+    (first_of from_name found) (first_of to_name found)
+
 abbrev pub command_by : List ℕ → List Found → Option Command
 command_by word found =
     if bytes_eq word day.word then Some (Command.Day (first_of journal_name found))
@@ -69,6 +93,9 @@ command_by word found =
     else if bytes_eq word generator.word then generate (number_of (2 ^ 64 - 1) (first_of seed_name found)) (number_of MOST_ASKS (first_of asks_name found))
     else if bytes_eq word closing.word then close_by (first_of journal_name found) (is_set ratio_name found)
     else if bytes_eq word check.word then Some Command.Check
+    else if bytes_eq word archive_put.word then put_archive (first_of archive_name found)
+    else if bytes_eq word archive_list.word then days_asked found
+    else if bytes_eq word reconcile.word then reconcile_with (first_of journal_name found) (first_of bidder_name found)
     else None
 
 abbrev pub command_found : Option (List ℕ × List Found) → Option Command
@@ -84,6 +111,9 @@ topic_by word =
     else if bytes_eq word generator.word then Topic.Generate
     else if bytes_eq word closing.word then Topic.Close
     else if bytes_eq word check.word then Topic.Check
+    else if bytes_eq word archive_put.word then Topic.ArchivePut
+    else if bytes_eq word archive_list.word then Topic.ArchiveList
+    else if bytes_eq word reconcile.word then Topic.Reconcile
     else Topic.Program
 
 abbrev pub topic_of : List (List ℕ) → Topic

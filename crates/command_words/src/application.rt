@@ -3,8 +3,8 @@ ghost use Rattle.std.specs.Prelude.{◌≡◌, ◌∷◌, [], IfOk, false, true}
 ghost use Rattle.clap.specs.Simple.{app_of};
 ghost use Rattle.clap.specs.Walk.{rule_of};
 ghost use Rattle.clap.specs.declared.builder.command.Command.TheViews.{out-Command as fields_of};
-ghost use Rattle.command_words.specs.Meanings.{bidder as bidder_row, check as check_row, closing as closing_row, connection as connection_row, day as day_row, generator as generator_row, notices as notices_row};
-ghost use Rattle.command_words.specs.Taken.{application as program, flag_rule, no_commands, option_rule, program_of, subcommand_for};
+ghost use Rattle.command_words.specs.Meanings.{archive_list as archive_list_row, archive_put as archive_put_row, bidder as bidder_row, check as check_row, closing as closing_row, connection as connection_row, day as day_row, generator as generator_row, notices as notices_row, reconcile as reconcile_row};
+ghost use Rattle.command_words.specs.Taken.{application as program, flag_rule, listed_of, no_commands, option_rule, program_of, subcommand_for};
 
 use clap::{Arg, ArgAction, Command};
 use std::alloc::{AllocError, Global};
@@ -83,6 +83,38 @@ fn check<'a>(alloc: Global) -> Command<'a>
     Command::new(alloc, "check")
 }
 
+/// The command `archive-put`.
+fn archive_put<'a>(alloc: Global) -> Result<Command<'a>, AllocError>
+    ensures { IfOk result (λ c. (app_of c ≡ subcommand_for archive_put_row) × ((fields_of c).has_globals ≡ false)) }
+{
+    Command::new(alloc, "archive-put").arg(needed(alloc, "archive"))
+}
+
+/// The command `archive-list` with its first options.
+fn archive_of<'a>(alloc: Global) -> Result<Command<'a>, AllocError>
+    ensures { IfOk result (λ c. (app_of c ≡ listed_of) × ((fields_of c).has_globals ≡ false)) }
+{
+    let command = Command::new(alloc, "archive-list").arg(needed(alloc, "archive"))?;
+    command.arg(needed(alloc, "seat"))
+}
+
+/// The command `archive-list`.
+fn archive_list<'a>(alloc: Global) -> Result<Command<'a>, AllocError>
+    ensures { IfOk result (λ c. (app_of c ≡ subcommand_for archive_list_row) × ((fields_of c).has_globals ≡ false)) }
+{
+    let command = archive_of(alloc)?.arg(needed(alloc, "cid"))?;
+    let command = command.arg(needed(alloc, "from"))?;
+    command.arg(needed(alloc, "to"))
+}
+
+/// The command `reconcile`.
+fn reconcile<'a>(alloc: Global) -> Result<Command<'a>, AllocError>
+    ensures { IfOk result (λ c. (app_of c ≡ subcommand_for reconcile_row) × ((fields_of c).has_globals ≡ false)) }
+{
+    let command = Command::new(alloc, "reconcile").arg(needed(alloc, "journal"))?;
+    command.arg(needed(alloc, "bidder"))
+}
+
 /// The program without its commands. It has no `help` command beside `--help`.
 fn bare<'a>(alloc: Global) -> Command<'a>
     ensures { app_of result ≡ no_commands }
@@ -109,11 +141,20 @@ fn with_bidder<'a>(alloc: Global) -> Result<Command<'a>, AllocError>
     command.subcommand(bidder(alloc))
 }
 
-/// The program with its commands.
-pub(crate) fn application<'a>(alloc: Global) -> Result<Command<'a>, AllocError>
-    ensures { IfOk result (λ c. app_of c ≡ program) }
+/// The program with these, and the commands that generate a day, close one and check a closed one.
+fn with_check<'a>(alloc: Global) -> Result<Command<'a>, AllocError>
+    ensures { IfOk result (λ c. app_of c ≡ program_of (day_row ∷ connection_row ∷ notices_row ∷ bidder_row ∷ generator_row ∷ closing_row ∷ check_row ∷ [])) }
 {
     let command = with_bidder(alloc)?.subcommand(generator(alloc)?)?;
     let command = command.subcommand(closing(alloc)?)?;
     command.subcommand(check(alloc))
+}
+
+/// The program with its commands.
+pub(crate) fn application<'a>(alloc: Global) -> Result<Command<'a>, AllocError>
+    ensures { IfOk result (λ c. app_of c ≡ program) }
+{
+    let command = with_check(alloc)?.subcommand(archive_put(alloc)?)?;
+    let command = command.subcommand(archive_list(alloc)?)?;
+    command.subcommand(reconcile(alloc)?)
 }

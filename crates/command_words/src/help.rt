@@ -17,6 +17,9 @@ usage: adx day [--journal FILE]
        adx gen --seed N --asks M
        adx close --journal FILE [--ratio]
        adx check
+       adx archive-put --archive FILE
+       adx archive-list --archive FILE --seat S --cid C --from DAY --to DAY
+       adx reconcile --journal FILE --bidder NAME
        adx COMMAND --help
        adx help COMMAND
        adx --version
@@ -29,6 +32,8 @@ status:  0  done: the input was read to its end
          6  the journal can't be read or written, or another process has it open
          7  the journal isn't one of this roster's day
          8  the certificate isn't accepted
+         9  the archive can't be read or written, or another process has it open
+        10  the day is kept already, or a day isn't a date, or the first day is after the last
         12  out of memory
 At every status but 0 a line on standard error says why.
 
@@ -139,6 +144,54 @@ example:
   ./adx check < examples/closed.document
 ";
 
+/// The help on the command `archive-put`.
+pub const ARCHIVE_PUT_HELP: &str = "usage: adx archive-put --archive FILE
+
+in:  the record of a closed day, and its certificate after it, on standard input; at most 2^31 bytes
+out: one line on standard output: that the day is kept, or why not; where the certificate isn't accepted, or the input isn't
+of its form, the line of the command check, and nothing is kept
+--archive FILE: a database of SQLite that keeps the day's rows, one for each campaign; FILE is made if it doesn't exist, and is
+this process's own until it ends
+
+status: 0 the day is kept, 3 the input isn't a record with a certificate after it, or is too long, 4 standard input can't be
+read, 5 standard output can't be written, 8 the certificate isn't accepted, 9 the archive can't be read or written, or another
+process has it open, 10 the day is kept already or isn't a date, 12 out of memory
+
+example:
+  ./adx archive-put --archive a.db < examples/closed.document
+";
+
+/// The help on the command `archive-list`.
+pub const ARCHIVE_LIST_HELP: &str =
+    "usage: adx archive-list --archive FILE --seat S --cid C --from DAY --to DAY
+
+in:  nothing
+out: a line for each kept day of the campaign C of the seat S, from the first DAY to the last, both included, in order of day,
+on standard output: its budget, its committed and billed money, the day's bound and its number of impressions
+--archive FILE: a database of SQLite in which days are kept; FILE is made if it doesn't exist
+
+status: 0 the days were listed, 5 standard output can't be written, 9 the archive can't be read or written, or another process
+has it open, 10 a DAY isn't a date, or the first is after the last, 12 out of memory
+
+example:
+  ./adx archive-list --archive a.db --seat s1 --cid c1 --from 2025-01-01 --to 2025-12-31
+";
+
+/// The help on the command `reconcile`.
+pub const RECONCILE_HELP: &str = "usage: adx reconcile --journal FILE --bidder NAME
+
+in:  the roster of the journal's day, one line, and after it the lines of the ledger of a bidder, as the command bidder answers
+them at /ledger, on standard input; at most 2^36 bytes
+out: a line on standard output for each auction and price of which the journal and the ledger have different numbers of bills,
+and after these the two sums
+--journal FILE: the journal of the day; FILE has to exist, and nothing is added to its history
+--bidder NAME: the bidder's name in the roster
+
+status: 0 the bills were compared, 3 the first line isn't a roster, the roster has no such bidder, or a later line isn't a
+ledger's, or the input is too long, 4 standard input can't be read, 5 standard output can't be written, 6 the journal can't be
+read, or another process has it open, 7 the journal isn't one of this roster's day, 12 out of memory
+";
+
 /// The help on a topic: what goes in and out, the exit statuses, and an example.
 pub fn help_of(topic: Topic) -> &'static str
     ensures { result.now ≡ help_text topic }
@@ -151,6 +204,9 @@ pub fn help_of(topic: Topic) -> &'static str
         Topic::Bidder => BIDDER_HELP,
         Topic::Close => CLOSE_HELP,
         Topic::Check => CHECK_HELP,
+        Topic::ArchivePut => ARCHIVE_PUT_HELP,
+        Topic::ArchiveList => ARCHIVE_LIST_HELP,
+        Topic::Reconcile => RECONCILE_HELP,
         Topic::Generate => GENERATOR_HELP,
     }
 }

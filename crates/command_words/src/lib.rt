@@ -15,7 +15,7 @@ mod reading;
 pub use command::{Command, MOST_ASKS, Topic};
 pub use complaint::complaint_of;
 pub use help::{
-    BIDDER_HELP, CHECK_HELP, CLOSE_HELP, CONNECTION_HELP, DAY_HELP, GENERATOR_HELP, NOTICES_HELP,
-    PROGRAM_HELP, VERSION, help_of,
+    ARCHIVE_LIST_HELP, ARCHIVE_PUT_HELP, BIDDER_HELP, CHECK_HELP, CLOSE_HELP, CONNECTION_HELP,
+    DAY_HELP, GENERATOR_HELP, NOTICES_HELP, PROGRAM_HELP, RECONCILE_HELP, VERSION, help_of,
 };
 pub use reading::command_of;

@@ -4,8 +4,8 @@ ghost use Rattle.clap.specs.Matches.{found_of};
 ghost use Rattle.clap.specs.Simple.{subcommand_rows_of};
 ghost use Rattle.clap.specs.Walk.{first_of, rows_of, texts, texts as texts_in};
 ghost use Rattle.clap.specs.declared.error.kind.ErrorKind.TheVariants.{OutOfMemory as no_memory};
-ghost use Rattle.command_words.specs.Meanings.{HasFewAsks, IsPlain, asks_name, number_of, seed_name};
-ghost use Rattle.command_words.specs.Taken.{IsReadingOf, answer_by, close_by, command_by, command_found, generate, is_set as is_set_in, print_notices, topic_of as topic_in, topic_by, turned_round};
+ghost use Rattle.command_words.specs.Meanings.{HasFewAsks, IsPlain, asks_name, bidder_name, journal_name, number_of, seed_name};
+ghost use Rattle.command_words.specs.Taken.{IsReadingOf, answer_by, close_by, command_by, command_found, days_asked, generate, is_set as is_set_in, list_archive, print_notices, put_archive, reconcile_with, topic_of as topic_in, topic_by, turned_round};
 ghost use Rattle.command_words.specs.declared.command.Command.{Command as Meaning};
 ghost use Rattle.command_words.specs.declared.command.TheConstants.{MOST_ASKS as most_asks};
 
@@ -53,6 +53,9 @@ fn topic_named(word: &str) -> Topic
         "gen" => Topic::Generate,
         "close" => Topic::Close,
         "check" => Topic::Check,
+        "archive-put" => Topic::ArchivePut,
+        "archive-list" => Topic::ArchiveList,
+        "reconcile" => Topic::Reconcile,
         _ => Topic::Program,
     }
 }
@@ -170,6 +173,76 @@ fn closed(journal: Option<Text>, ratio: bool) -> Option<Command>
     }
 }
 
+/// The closed day that is to be kept in the archive of this file.
+fn archived(archive: Option<Text>) -> Option<Command>
+    ensures read { result ≡ put_archive archive }
+    ensures few { HasFewAsks result }
+{
+    match archive {
+        Some(archive) => Some(Command::ArchivePut { archive }),
+        None => None,
+    }
+}
+
+/// The days that are to be listed of a campaign.
+fn days_listed(
+    archive: Option<Text>,
+    seat: Option<Text>,
+    cid: Option<Text>,
+    first: Option<Text>,
+    last: Option<Text>,
+) -> Option<Command>
+    ensures read { result ≡ list_archive archive seat cid first last }
+    ensures few { HasFewAsks result }
+{
+    let archive = archive?;
+    let seat = seat?;
+    let cid = cid?;
+    let first = first?;
+    let last = last?;
+    Some(Command::ArchiveList {
+        archive,
+        seat,
+        cid,
+        first,
+        last,
+    })
+}
+
+/// The days that the options ask for.
+fn archive_listed(alloc: Global, found: &ArgMatches<'_>) -> Result<Option<Command>, OutOfMemory>
+    ensures read { IfOk result (λ read. read ≡ days_asked (rows_of (found_of found.now))) }
+    ensures few { IfOk result (λ read. HasFewAsks read) }
+{
+    let archive = text_found(alloc, found, "archive")?;
+    let seat = text_found(alloc, found, "seat")?;
+    let cid = text_found(alloc, found, "cid")?;
+    let first = text_found(alloc, found, "from")?;
+    let last = text_found(alloc, found, "to")?;
+    Ok(days_listed(archive, seat, cid, first, last))
+}
+
+/// The bills that are to be compared, of the day in this file and of the bidder of this name.
+fn reconciled(journal: Option<Text>, bidder: Option<Text>) -> Option<Command>
+    ensures read { result ≡ reconcile_with journal bidder }
+    ensures few { HasFewAsks result }
+{
+    let journal = journal?;
+    let bidder = bidder?;
+    Some(Command::Reconcile { journal, bidder })
+}
+
+/// The bills that the options ask for.
+fn reconcile_asked(alloc: Global, found: &ArgMatches<'_>) -> Result<Option<Command>, OutOfMemory>
+    ensures read { IfOk result (λ read. read ≡
+        reconcile_with (first_of journal_name (rows_of (found_of found.now))) (first_of bidder_name (rows_of (found_of found.now)))) }
+    ensures few { IfOk result (λ read. HasFewAsks read) }
+{
+    let journal = text_found(alloc, found, "journal")?;
+    let bidder = text_found(alloc, found, "bidder")?;
+    Ok(reconciled(journal, bidder))
+}
+
 /// What a command's word with the options that were found behind it asks for.
 fn command_named(
     alloc: Global,
@@ -191,6 +264,9 @@ fn command_named(
         "gen" => Ok(generated(found)),
         "close" => Ok(closed(text_found(alloc, found, "journal")?, is_set(found, "ratio"))),
         "check" => Ok(Some(Command::Check)),
+        "archive-put" => Ok(archived(text_found(alloc, found, "archive")?)),
+        "archive-list" => archive_listed(alloc, found),
+        "reconcile" => reconcile_asked(alloc, found),
         _ => Ok(None),
     }
 }

@@ -5,14 +5,14 @@ use Rattle.adx_desk.specs.Desks.{OnDisk}
 use Rattle.adx_desk.specs.Opened.{Opens}
 use Rattle.adx_desk.specs.Rosters.{desk_terms}
 use Rattle.deal_floor.specs.declared.roster.Roster.{Roster}
-use Rattle.exchange_http.specs.Records.{RaisesAmong, RunsOn}
+use Rattle.desk_runs.specs.Records.{RaisesAmong, RunsOn}
 use Rattle.exchange_http.specs.Serving.{IsMomentOf, ServesConnection}
 use Rattle.fan_out.specs.declared.lane.Lane.{Lane}
 use Rattle.fan_out.specs.Lanes.{Outcome}
 use Rattle.http_connection.specs.declared.conn.ConnEnd.{ConnEnd}
 use Rattle.roster_links.specs.RosterLinks.{AreRosterLanes, WorksByTexts}
 use Rattle.roster_links.specs.declared.link.RosterLink.{RosterLink}
-use Rattle.script_day.specs.Meanings.{Told}
+use Rattle.desk_runs.specs.Meanings.{Told}
 use Rattle.script_day.specs.declared.ending.Ending.{Ending}
 use Rattle.exchange_day.specs.Connecting.{EndsSo, ServesBehind}
 use Rattle.exchange_day.specs.Serving.{EndsConn, ServesDesk}

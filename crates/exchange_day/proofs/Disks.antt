@@ -14,11 +14,11 @@ use Rattle.day_journal.proofs.Moments.{joined}
 use Rattle.day_rules.specs.declared.entry.Entry.{Entry}
 use Rattle.day_rules.specs.Runs.{AreTurns}
 use Rattle.day_rules.specs.Terms.{Terms}
-use Rattle.exchange_http.specs.Records.{CountsAmong, MayBeLeftBy, IsLeftInDoubt, RaisesAmong, RunsOn, StandsInRunFrom, count_after, raised}
-use Rattle.script_day.specs.Calls.{HasBooks}
-use Rattle.script_day.specs.Courses.{HasNoDiskFault}
-use Rattle.script_day.specs.Meanings.{Told, turns_of}
-use Rattle.script_day.specs.OnDisk.{CountsOne, FullEach, history_after}
+use Rattle.desk_runs.specs.Records.{CountsAmong, MayBeLeftBy, IsLeftInDoubt, RaisesAmong, RunsOn, StandsInRunFrom, count_after, raised}
+use Rattle.desk_runs.specs.Calls.{HasBooks}
+use Rattle.desk_runs.specs.Courses.{HasNoDiskFault}
+use Rattle.desk_runs.specs.Meanings.{Told, turns_of}
+use Rattle.desk_runs.specs.OnDisk.{CountsOne, FullEach, history_after}
 use Rattle.exchange_day.specs.OnDisk.{KeepsHistory, ServesTogether, StandsAmong}
 
 -- no record is in doubt behind a run, or one of the run, where none was before it

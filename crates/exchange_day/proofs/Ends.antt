@@ -7,19 +7,20 @@ use Rattle.adx_io.specs.Talk.{TalkState}
 use Rattle.adx_io.specs.declared.line_buffer.TheConstants.{CHUNK}
 use Rattle.adx_io.specs.declared.stop.Stop.{Stop}
 use Rattle.deal_floor.specs.declared.roster.Roster.{Roster}
-use Rattle.exchange_http.specs.Records.{RaisesAmong}
+use Rattle.desk_runs.specs.Records.{RaisesAmong}
 use Rattle.http_connection.specs.declared.conn.ConnEnd.{ConnEnd}
 use Rattle.http_service.specs.Behind.{IsLeftAtEnd, IsLeftBehind}
 use Rattle.http_service.specs.Connections.{HasCauses as ConnCauses}
-use Rattle.script_day.specs.Courses.{given_up}
+use Rattle.desk_runs.specs.Courses.{given_up}
 use Rattle.script_day.specs.Firsts.{EndsRosterless, HasNoRoster, ReadsLine, StopsAt, StopsInLine}
-use Rattle.script_day.specs.Meanings.{Told}
+use Rattle.desk_runs.specs.Meanings.{Told}
 use Rattle.script_day.specs.Output.{roster_refused_line}
 use Rattle.script_day.specs.Parts.{IsShortRoster, PutsEnd}
 use Rattle.script_day.specs.Steps.{HasCauses}
 use Rattle.script_day.specs.declared.ending.Ending.{Ending}
 use Rattle.script_day.specs.declared.limits.TheConstants.{INPUT_LIMIT}
-use Rattle.script_day.proofs.DiskCounts.{cause_stays, day_later, day_rises}
+use Rattle.script_day.proofs.DiskCounts.{cause_stays, day_rises}
+use Rattle.desk_runs.proofs.DiskCounts.{day_later}
 use Rattle.script_day.proofs.FirstReads.{unanswered_read}
 use Rattle.script_day.proofs.Putting.{cut_or_put}
 use Rattle.script_day.proofs.Told.{told_ahead, told_map, told_start, unread_tape}

@@ -17,11 +17,12 @@ use Rattle.http_service.specs.Behind.{IsLeftBehind}
 use Rattle.http_service.specs.declared.limits.TheConstants.{REQUEST_LIMIT}
 use Rattle.roster_links.specs.RosterLinks.{AreRosterLanes, WorksByTexts}
 use Rattle.roster_links.specs.declared.link.RosterLink.{RosterLink}
-use Rattle.script_day.specs.Courses.{GivesUpBy, HasNoDiskFault, ending_by, given_up}
+use Rattle.script_day.specs.Courses.{GivesUpBy, ending_by}
+use Rattle.desk_runs.specs.Courses.{HasNoDiskFault, given_up}
 use Rattle.script_day.specs.Endings.{LeftBehind}
 use Rattle.script_day.specs.Firsts.{HasNoRoster, StopsAt, StopsInLine}
-use Rattle.script_day.specs.Meanings.{Told}
-use Rattle.script_day.specs.OnDisk.{CourseOn}
+use Rattle.desk_runs.specs.Meanings.{Told}
+use Rattle.desk_runs.specs.OnDisk.{CourseOn}
 use Rattle.script_day.specs.Output.{roster_refused_line, unopened_line}
 use Rattle.script_day.specs.Parts.{IsShortRoster, PutsEnd}
 use Rattle.script_day.specs.declared.ending.Ending.{Ending}

@@ -21,14 +21,14 @@ use Rattle.day_rules.specs.Terms.{AreTerms}
 use Rattle.deal_floor.specs.declared.roster.Roster.{Roster}
 use Rattle.fan_out.specs.declared.answer.BidderAnswer.{BidderAnswer}
 use Rattle.rtb_request.specs.declared.bid_request.BidRequest.{BidRequest}
-use Rattle.script_day.proofs.ToldAnswers.{same_ask}
-use Rattle.script_day.specs.Meanings.{Told}
+use Rattle.desk_runs.proofs.ToldAnswers.{same_ask}
+use Rattle.desk_runs.specs.Meanings.{Told}
 use Rattle.exchange_messages.proofs.Numbers.{lent_fits, told_fits}
-use Rattle.exchange_http.proofs.RunsCalls.{runs_legal, runs_none}
-use Rattle.exchange_http.proofs.RunsJoined.{runs_join}
-use Rattle.exchange_http.proofs.RunsOfCalls.{runs_asked, runs_ticked, runs_unticked}
+use Rattle.desk_runs.proofs.RunsCalls.{runs_legal, runs_none}
+use Rattle.desk_runs.proofs.RunsJoined.{runs_join}
+use Rattle.desk_runs.proofs.RunsOfCalls.{runs_asked, runs_ticked, runs_unticked}
 use Rattle.exchange_http.specs.Asking.{AsksAt, LeavesCall, StopsAt, TakesCall}
-use Rattle.exchange_http.specs.Records.{RunsOn}
+use Rattle.desk_runs.specs.Records.{RunsOn}
 use Rattle.exchange_messages.specs.Replies.{Reply, tick_fault_reply}
 use Rattle.exchange_messages.specs.Selling.{MayBeTold}
 use Rattle.exchange_messages.specs.Turns.{AnswerReplies, CallReplies, ask_by}

@@ -12,8 +12,9 @@ use Rattle.notice_batches.specs.Batches.{AreApart, BatchState, MayJoin, answers_
 use Rattle.notice_batches.specs.Fields.{AreCalls}
 use Rattle.notice_batches.specs.declared.batch.TheConstants.{BATCH_LIMIT}
 use Rattle.notice_batches.proofs.Calls.{more_calls}
-use Rattle.exchange_http.specs.Running.{TakesNotices, told_all}
-use Rattle.exchange_http.proofs.RunsCalls.{runs_legal}
+use Rattle.exchange_http.specs.Running.{TakesNotices}
+use Rattle.desk_runs.specs.Told.{told_all}
+use Rattle.desk_runs.proofs.RunsCalls.{runs_legal}
 use Rattle.exchange_http.proofs.RunsOfNotices.{takes_more, takes_none}
 
 -- one notice more

@@ -18,8 +18,8 @@ use Rattle.day_rules.specs.Legal.{IsLegal}
 use Rattle.day_rules.specs.Replies.{Call, budget_reply, reply, set_budget, with_entry}
 use Rattle.day_rules.specs.Runs.{IsCall}
 use Rattle.deal_floor.specs.declared.roster.Roster.{Roster}
-use Rattle.script_day.proofs.AnsweredCalls.{change_about}
-use Rattle.exchange_http.proofs.RunsOfCalls.{runs_done, runs_given_up, runs_refused}
+use Rattle.desk_runs.proofs.ToldAnswers.{change_about}
+use Rattle.desk_runs.proofs.RunsOfCalls.{runs_done, runs_given_up, runs_refused}
 use Rattle.exchange_http.specs.Asking.{LeavesCall, TakesCall}
 use Rattle.exchange_messages.specs.Replies.{Reply, fault_reply}
 use Rattle.exchange_messages.specs.Turns.{AnswerReplies, CallReplies}

@@ -14,9 +14,10 @@ use Rattle.fan_out.specs.declared.lane.Lane.{Lane}
 use Rattle.fan_out.specs.Lanes.{Outcome}
 use Rattle.notice_batches.specs.Batches.{BatchState, MayJoin, joined}
 use Rattle.exchange_http.specs.Gathered.{Moves, count_of}
-use Rattle.exchange_http.specs.Running.{Coming, FlushFails, Flushes, IsFloor, IsSettled, IsUnderWay, TakesNotices, outcomes_bytes, told_all}
+use Rattle.exchange_http.specs.Running.{Coming, FlushFails, Flushes, IsFloor, IsSettled, IsUnderWay, TakesNotices, outcomes_bytes}
+use Rattle.desk_runs.specs.Told.{told_all}
 use Rattle.exchange_http.proofs.Gathered.{known_none}
-use Rattle.exchange_http.proofs.RunsCalls.{runs_legal}
+use Rattle.desk_runs.proofs.RunsCalls.{runs_legal}
 use Rattle.exchange_http.proofs.RunsOfNotices.{takes_none}
 
 -- no notice waits

@@ -15,14 +15,7 @@ pub mod NoticeReplies
 pub mod OneMore
 pub mod OneReply
 pub mod Requested
-pub mod RunsCalls
-pub mod RunsCounts
-pub mod RunsJoined
-pub mod RunsOfCalls
 pub mod RunsOfNotices
-pub mod RunsOutcomes
-pub mod RunsRecords
-pub mod RunsTogether
 pub mod Served
 pub mod TakenAnswers
 pub mod UnderWay

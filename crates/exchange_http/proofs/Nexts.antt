@@ -25,7 +25,7 @@ use Rattle.exchange_http.specs.declared.over.Over.{Over}
 use Rattle.exchange_http.proofs.Comings.{all_came, came_otherwise, fails_later, fault_next, next_closes, next_stays, none_came, none_more}
 use Rattle.exchange_http.proofs.Ended.{over_ends}
 use Rattle.exchange_http.proofs.Gathered.{known_none}
-use Rattle.exchange_http.proofs.RunsCalls.{runs_none}
+use Rattle.desk_runs.proofs.RunsCalls.{runs_none}
 use Rattle.exchange_http.proofs.UnderWay.{Way, may_fail}
 
 -- a message that the held bytes begin with comes first, whatever the source brings behind them

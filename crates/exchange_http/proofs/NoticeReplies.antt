@@ -22,14 +22,15 @@ use Rattle.notice_book.specs.declared.kind.NoticeKind.{NoticeKind}
 use Rattle.notice_book.specs.declared.ruling.Ruling.{Ruling}
 use Rattle.notice_book.specs.Rules.{ruling_of}
 use Rattle.adx_http.specs.Targets.{path_of}
-use Rattle.script_day.specs.Meanings.{Told}
-use Rattle.script_day.specs.OnDisk.{history_after}
-use Rattle.script_day.proofs.DeskRuns.{history_append}
+use Rattle.desk_runs.specs.Meanings.{Told}
+use Rattle.desk_runs.specs.OnDisk.{history_after}
+use Rattle.desk_runs.proofs.DeskRuns.{history_append}
 use Rattle.exchange_messages.specs.Courses.{AnswersOn, Course}
 use Rattle.exchange_messages.specs.Meanings.{MeansBy, ServedMeans, notifies}
 use Rattle.exchange_messages.specs.Outcomes.{outcome_reply}
 use Rattle.exchange_messages.specs.Paths.{is_served, path_named}
-use Rattle.exchange_http.specs.Running.{AreOutcomes, IsOutcome, StayTo, Waits, outcome_bytes, outcomes_bytes, told_all, told_by}
+use Rattle.exchange_http.specs.Running.{AreOutcomes, IsOutcome, StayTo, Waits, outcome_bytes, outcomes_bytes}
+use Rattle.desk_runs.specs.Told.{told_all, told_by}
 use Rattle.exchange_messages.specs.Turns.{AnswerReplies, CallReplies, terms_by}
 use Rattle.exchange_messages.specs.declared.path.Path.{Path}
 

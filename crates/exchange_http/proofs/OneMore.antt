@@ -17,15 +17,15 @@ use Rattle.http_connection.specs.declared.conn.ConnEnd.{ConnEnd}
 use Rattle.http_service.specs.Connections.{Answering, Replies, Served}
 use Rattle.http_service.specs.Replies.{reply_to}
 use Rattle.http_service.specs.declared.answer.Answer.{Answer}
-use Rattle.script_day.specs.Meanings.{Told}
-use Rattle.script_day.specs.OnDisk.{history_after}
+use Rattle.desk_runs.specs.Meanings.{Told}
+use Rattle.desk_runs.specs.OnDisk.{history_after}
 use Rattle.exchange_messages.specs.Courses.{AnswersOn, Course, begun, reply_of}
 use Rattle.exchange_http.specs.Gathered.{Moves, Replied, count_of}
 use Rattle.exchange_http.specs.Running.{AnswersHere, CameSo, Coming, GivesUpHere, Waits, before_one}
 use Rattle.exchange_messages.specs.Turns.{IsAnswered, LeavesUnmade, terms_by}
 use Rattle.exchange_http.proofs.Gathered.{fails_within, replied_more, replies_join}
-use Rattle.exchange_http.proofs.RunsCalls.{runs_none}
-use Rattle.exchange_http.proofs.RunsJoined.{runs_join}
+use Rattle.desk_runs.proofs.RunsCalls.{runs_none}
+use Rattle.desk_runs.proofs.RunsJoined.{runs_join}
 use Rattle.exchange_http.proofs.UnderWay.{Ends, Way, failed_within, history_now, may_fail, zip_none}
 
 -- all replies were put

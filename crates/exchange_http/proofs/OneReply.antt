@@ -16,8 +16,8 @@ use Rattle.http_connection.specs.Messages.{Request}
 use Rattle.http_service.specs.Connections.{Replies}
 use Rattle.http_service.specs.Replies.{reply_to}
 use Rattle.rtb_request.specs.declared.bid_request.BidRequest.{BidRequest}
-use Rattle.script_day.specs.Meanings.{Told, turn_of}
-use Rattle.script_day.specs.OnDisk.{history_after}
+use Rattle.desk_runs.specs.Meanings.{Told, turn_of}
+use Rattle.desk_runs.specs.OnDisk.{history_after}
 use Rattle.exchange_messages.specs.Courses.{AnswersOn, Course, begun}
 use Rattle.exchange_http.specs.Laws.{AreOne, HasOneReply}
 use Rattle.exchange_messages.specs.Meanings.{Meaning, asks, notifies, refused, sets_budget, wants_books, wants_meters}

@@ -25,13 +25,13 @@ use Rattle.fan_out.specs.Lanes.{IsWorked, Outcome}
 use Rattle.http_connection.specs.Messages.{Request}
 use Rattle.rtb_request.specs.ForBidders.{request_for_bidders}
 use Rattle.rtb_request.specs.declared.bid_request.BidRequest.{BidRequest}
-use Rattle.script_day.specs.Meanings.{Told}
-use Rattle.exchange_http.proofs.RunsCalls.{runs_legal, runs_none}
+use Rattle.desk_runs.specs.Meanings.{Told}
+use Rattle.desk_runs.proofs.RunsCalls.{runs_legal, runs_none}
 use Rattle.exchange_http.proofs.Changes.{IsChange}
 use Rattle.exchange_http.specs.Asking.{AsksAt, LeavesCall, StopsAt, TakesCall}
 use Rattle.exchange_messages.specs.Meanings.{Meaning, Means, asks, refused, sets_budget, wants_books, wants_meters}
 use Rattle.exchange_messages.specs.Meters.{meters_text}
-use Rattle.exchange_http.specs.Records.{RunsOn}
+use Rattle.desk_runs.specs.Records.{RunsOn}
 use Rattle.exchange_messages.specs.Replies.{Reply, refusal_reply, with_status}
 use Rattle.exchange_http.specs.Running.{AnswersHere, GivesUpHere, IsFloor}
 use Rattle.exchange_http.specs.Serving.{AreLanes}

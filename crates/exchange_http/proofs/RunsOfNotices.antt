@@ -1,5 +1,5 @@
 -- Notices that a desk took, with their outcomes: none, one, one more, and a batch.
-use Rattle.std.proofs.Common.{◌≡◌, ℕ, ◌≤◌, List, [], ◌∷◌, ◌++◌, map, length, Option, Some, Result, Ok, Err, IfOk, sym, ap, ◌∙◌, subst}
+use Rattle.std.proofs.Common.{◌≡◌, ℕ, suc, ◌≤◌, List, [], ◌∷◌, ◌++◌, map, length, Option, Some, Result, Ok, Err, IfOk, refl, sym, ap, ◌∙◌, subst}
 use Rattle.std.specs.Result.{result_ok}
 use Rattle.notice_batches.specs.Batches.{AreApart, answers_in_turn, entries_in_turn}
 use Rattle.adx_desk.specs.Desks.{OnDisk}
@@ -11,17 +11,39 @@ use Rattle.notice_batches.specs.declared.batch.TheConstants.{BATCH_LIMIT}
 use Rattle.adx_desk.specs.declared.fault.DeskFault.{DeskFault}
 use Rattle.day_rules.specs.declared.answer.Answer.{Answer}
 use Rattle.day_rules.specs.declared.entry.Entry.{Entry}
-use Rattle.day_rules.specs.Laws.{Arrival, arrival_reply}
+use Rattle.day_rules.specs.Laws.{Arrival, after_arrival, arrival_reply}
 use Rattle.day_rules.specs.Legal.{IsLegal}
 use Rattle.deal_floor.specs.declared.roster.Roster.{Roster}
-use Rattle.script_day.specs.OnDisk.{history_after}
-use Rattle.exchange_http.specs.Records.{RunsOn}
-use Rattle.exchange_http.specs.Running.{AreOutcomes, IsOutcome, TakesNotices, told_all, told_by}
-use Rattle.exchange_http.proofs.RunsCalls.{runs_none}
-use Rattle.exchange_http.proofs.RunsJoined.{runs_join}
-use Rattle.exchange_http.proofs.RunsOfCalls.{runs_notice}
-use Rattle.exchange_http.proofs.RunsOutcomes.{outcomes_in_turn, outcomes_more, told_more}
-use Rattle.exchange_http.proofs.RunsTogether.{batch_done, batch_given_up}
+use Rattle.desk_runs.specs.OnDisk.{history_after}
+use Rattle.desk_runs.specs.Records.{RunsOn}
+use Rattle.exchange_messages.specs.Turns.{terms_by}
+use Rattle.exchange_http.specs.Running.{AreOutcomes, IsOutcome, TakesNotices}
+use Rattle.desk_runs.specs.Told.{told_all, told_by}
+use Rattle.desk_runs.proofs.RunsCalls.{runs_none}
+use Rattle.desk_runs.proofs.RunsJoined.{runs_join}
+use Rattle.desk_runs.proofs.RunsOfCalls.{runs_notice}
+use Rattle.desk_runs.proofs.RunsOutcomes.{told_more}
+use Rattle.desk_runs.proofs.RunsTogether.{batch_done, batch_given_up}
+
+-- the answers in turn are the outcomes one after another
+outcomes_in_turn : (r : Roster) (history : List Entry) (calls : List Arrival) → AreOutcomes r history calls (map Some (answers_in_turn history calls))
+outcomes_in_turn r history [] = tt
+outcomes_in_turn r history (x ∷ calls) = (refl, outcomes_in_turn r (after_arrival history x) calls)
+
+-- one notice more
+outcomes_more : (r : Roster) (history : List Entry) (done : List Arrival) (x : Arrival) (outcomes : List (Option Answer)) (o : Option Answer) → AreOutcomes r history done outcomes
+    → IsOutcome r (history_after (terms_by r) history (told_all done outcomes)) x o → AreOutcomes r history (done ++ x ∷ []) (outcomes ++ o ∷ [])
+outcomes_more r history [] x [] o are one = (one, tt)
+outcomes_more r history [] x (p ∷ outcomes) o are one = absurd are
+outcomes_more r history (y ∷ done) x [] o are one = absurd are
+outcomes_more r history (y ∷ done) x (p ∷ outcomes) o are one =
+    (are.0, outcomes_more r (history_after (terms_by r) history (told_by y p ∷ [])) done x outcomes o are.1 one)
+
+outcomes_length : (r : Roster) (history : List Entry) (calls : List Arrival) (outcomes : List (Option Answer)) → AreOutcomes r history calls outcomes → length outcomes ≡ length calls
+outcomes_length r history [] [] are = refl
+outcomes_length r history [] (o ∷ outcomes) are = absurd are
+outcomes_length r history (x ∷ calls) [] are = absurd are
+outcomes_length r history (x ∷ calls) (o ∷ outcomes) are = ap suc (outcomes_length r (history_after (terms_by r) history (told_by x o ∷ [])) calls outcomes are.1)
 
 -- the outcome of one call
 outcome_of : (r : Roster) (history : List Entry) (x : Arrival) (result : Result Answer DeskFault) → IfOk result (λ (a : Answer). a ≡ (arrival_reply history x).answer) → IsOutcome r history x (result_ok result)

@@ -17,7 +17,7 @@ use Rattle.exchange_messages.specs.Courses.{begun}
 use Rattle.exchange_http.specs.Running.{EndsHere}
 use Rattle.exchange_http.specs.Serving.{ServesConnection}
 use Rattle.exchange_http.proofs.Gathered.{known_none}
-use Rattle.exchange_http.proofs.RunsCalls.{runs_books, runs_none}
+use Rattle.desk_runs.proofs.RunsCalls.{runs_books, runs_none}
 
 module _ {D L : Type 0} (faults : D → ℕ) (may_leave : D → List ℕ → Type 0) (moment : D → ℕ) (left_since : D → ℕ → List ℕ → Type 0) (Works : List ℕ → List ℕ → Lane L → Lane L → Outcome → Type 0) (IsMoment : ℕ → Type 0) (r : Roster) where
   abbrev Serves : Option Tape → Option Tape → Option (List ℕ) → Option (List ℕ) → List (Lane L) → List (Lane L) → OnDisk D → OnDisk D → ConnEnd → Type 0

@@ -20,19 +20,20 @@ use Rattle.http_grammar.specs.Requests.{is_kept}
 use Rattle.http_grammar.specs.declared.fault.HttpFault.{HttpFault}
 use Rattle.http_service.specs.Connections.{AreSpent, Brings, BringsLast, CloseLast, GoOn}
 use Rattle.http_service.specs.declared.limits.TheConstants.{MESSAGE_LIMIT, REQUEST_LIMIT}
-use Rattle.script_day.specs.Meanings.{Told}
-use Rattle.script_day.specs.OnDisk.{history_after}
+use Rattle.desk_runs.specs.Meanings.{Told}
+use Rattle.desk_runs.specs.OnDisk.{history_after}
 use Rattle.exchange_messages.specs.Courses.{AnswersOn, Course, begun}
 use Rattle.exchange_http.specs.Gathered.{FailsWithin, Replied, count_of}
 use Rattle.exchange_messages.specs.Meanings.{Means, notifies}
-use Rattle.exchange_http.specs.Records.{RunsOn}
-use Rattle.exchange_http.specs.Running.{AreOutcomes, CameSo, CameToFault, Coming, EndsHere, FlushFails, Flushes, IsUnderWay, MayFail, StayTo, TakesNotices, Waits, before_one, ended, more, outcomes_bytes, told_all}
+use Rattle.desk_runs.specs.Records.{RunsOn}
+use Rattle.exchange_http.specs.Running.{AreOutcomes, CameSo, CameToFault, Coming, EndsHere, FlushFails, Flushes, IsUnderWay, MayFail, StayTo, TakesNotices, Waits, before_one, ended, more, outcomes_bytes}
+use Rattle.desk_runs.specs.Told.{told_all}
 use Rattle.exchange_messages.specs.Turns.{terms_by}
 use Rattle.exchange_http.specs.Serving.{IsAny}
 use Rattle.exchange_http.specs.declared.over.Over.{Over}
 use Rattle.exchange_http.proofs.Gathered.{fails_within, known_none, replied_more}
 use Rattle.exchange_http.proofs.NoticeReplies.{notices_replied}
-use Rattle.exchange_http.proofs.RunsJoined.{runs_join}
+use Rattle.desk_runs.proofs.RunsJoined.{runs_join}
 
 abbrev AllKept : List Request → Type 0
 AllKept ms = All (λ (m : Request). is_kept m.head ≡ true) ms

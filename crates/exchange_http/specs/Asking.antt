@@ -6,8 +6,8 @@ use Rattle.day_rules.specs.Replies.{Call, ask, tick}
 use Rattle.deal_floor.specs.declared.roster.Roster.{Roster}
 use Rattle.fan_out.specs.declared.answer.BidderAnswer.{BidderAnswer}
 use Rattle.rtb_request.specs.declared.bid_request.BidRequest.{BidRequest}
-use Rattle.script_day.specs.Meanings.{Told}
-use Rattle.exchange_http.specs.Records.{RunsOn}
+use Rattle.desk_runs.specs.Meanings.{Told}
+use Rattle.desk_runs.specs.Records.{RunsOn}
 use Rattle.exchange_messages.specs.Replies.{Reply}
 use Rattle.exchange_messages.specs.Turns.{AsksBehind, CallReplies, ask_by}
 

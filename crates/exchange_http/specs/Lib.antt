@@ -1,4 +1,3 @@
-pub mod Records
 pub mod Serving
 pub mod Gathered
 pub mod Running

@@ -24,12 +24,14 @@ use Rattle.http_grammar.specs.declared.fault.HttpFault.{HttpFault}
 use Rattle.http_service.specs.Connections.{AreSpent, Brings, BringsLast, CloseLast, Gave, GoOn, TookFront}
 use Rattle.http_service.specs.Replies.{answer_bytes}
 use Rattle.http_service.specs.declared.limits.TheConstants.{MESSAGE_LIMIT, REQUEST_LIMIT}
-use Rattle.script_day.specs.Meanings.{Told}
-use Rattle.script_day.specs.OnDisk.{history_after}
+use Rattle.desk_runs.specs.Meanings.{Told}
+use Rattle.desk_runs.specs.Told.{told_all, told_by}
+use Rattle.desk_runs.specs.OnDisk.{history_after}
 use Rattle.exchange_messages.specs.Courses.{AnswersOn, GivesUpOn, begun}
 use Rattle.exchange_http.specs.Gathered.{Moves, Replied, count_of}
 use Rattle.exchange_messages.specs.Meanings.{Means, notifies}
-use Rattle.exchange_http.specs.Records.{RunsOn, call_by}
+use Rattle.desk_runs.specs.Records.{RunsOn}
+use Rattle.desk_calls.specs.Together.{call_by}
 use Rattle.exchange_messages.specs.Outcomes.{outcome_reply}
 use Rattle.exchange_messages.specs.Replies.{Reply}
 use Rattle.exchange_http.specs.Serving.{AreLanes, EndsWith, IsAny}
@@ -40,17 +42,6 @@ use Rattle.exchange_http.specs.declared.stop.Stop.{Stop}
 -- a message is this notice
 abbrev pub Waits : Request → Arrival → Type 0
 Waits request x = Means request (notifies x.kind x.auction x.award)
-
--- the notice was done with this answer, or given up by the disk's fault
-abbrev pub told_by : Arrival → Option Answer → Told
-told_by x None = record { call = call_by x; fault = Some Fault.Disk }
-told_by x (Some answer) = record { call = call_by x; fault = None }
-
--- the notices with their outcomes
-abbrev pub told_all : List Arrival → List (Option Answer) → List Told
-told_all [] outcomes = []
-told_all (x ∷ notices) [] = []
-told_all (x ∷ notices) (o ∷ outcomes) = told_by x o ∷ told_all notices outcomes
 
 -- the outcome is that of a notice after a history
 abbrev pub IsOutcome : Roster → List Entry → Arrival → Option Answer → Type 0

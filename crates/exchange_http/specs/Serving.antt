@@ -12,10 +12,10 @@ use Rattle.http_connection.specs.declared.conn.ConnEnd.{ConnEnd}
 use Rattle.http_grammar.specs.declared.fault.HttpFault.{HttpFault}
 use Rattle.http_service.specs.Connections.{Answering, GivingUp, AreSpent, Brings, CloseLast, FailsRefusing, GoOn, Replies, TookWithFront, EndsWith as EndsService}
 use Rattle.http_service.specs.declared.limits.TheConstants.{REQUEST_LIMIT}
-use Rattle.script_day.specs.Calls.{HasBooks}
-use Rattle.script_day.specs.Meanings.{turns_of}
+use Rattle.desk_runs.specs.Calls.{HasBooks}
+use Rattle.desk_runs.specs.Meanings.{turns_of}
 use Rattle.exchange_messages.specs.Courses.{AnswersOn, Course, GivesUpOn, begun}
-use Rattle.exchange_http.specs.Records.{RunsOn}
+use Rattle.desk_runs.specs.Records.{RunsOn}
 
 -- a moment that a clock gives: below 2^63, and the one that it tells
 abbrev pub IsMomentOf : Option ℕ → ℕ → Type 0

@@ -11,7 +11,7 @@ ghost use Rattle.fan_out.specs.Lanes.{IsWorked};
 ghost use Rattle.rtb_request.specs.ForBidders.{request_for_bidders};
 ghost use Rattle.exchange_http.specs.Asking.{AsksAt, LeavesCall, StopsAt, TakesCall};
 ghost use Rattle.exchange_messages.specs.Courses.{reply_of};
-ghost use Rattle.exchange_http.specs.Records.{RunsOn};
+ghost use Rattle.desk_runs.specs.Records.{RunsOn};
 ghost use Rattle.exchange_http.specs.Serving.{IsMomentOf};
 ghost use Rattle.exchange_messages.specs.Turns.{Gathers};
 

@@ -23,11 +23,11 @@ use adx_json::{Json, JsonFault, read};
 use adx_links::Link;
 use adx_units::OutOfMemory;
 use deal_floor::Roster;
+use desk_runs::push_books;
 use exchange_messages::{ChangeTexts, Other, Refusal, push_meters, refuse};
 use fan_out::Lane;
 use http_service::{Answer as HttpAnswer, plain};
 use rtb_request::{BidRequest, RequestFault};
-use script_day::push_books;
 use script_lines::read_change;
 use std::alloc::Global;
 

@@ -4,7 +4,7 @@
 //! each message into a sink, in their order. Its contract names the messages, the calls that they made, what they were
 //! replied, what the disk keeps of it, and why no more were read. `make_ask` is the ask of a request and its answers.
 //! Stands on `adx_desk` and `notice_batches` for the day, on `exchange_messages` for what a message means and is replied, on
-//! `ask_making` for asks, on `fan_out` for bidders, on `http_service` for replies and on `script_day` for the books.
+//! `ask_making` for asks, on `fan_out` for bidders, on `http_service` for replies and on `desk_runs` for the runs of its calls and the books.
 #![tactic(auto)]
 
 mod asking;

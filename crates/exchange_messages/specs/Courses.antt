@@ -7,8 +7,8 @@ use Rattle.fan_out.specs.declared.lane.Lane.{Lane}
 use Rattle.fan_out.specs.Lanes.{Outcome}
 use Rattle.http_service.specs.Connections.{Answering, GivingUp}
 use Rattle.http_service.specs.declared.answer.Answer.{Answer}
-use Rattle.script_day.specs.Meanings.{Told}
-use Rattle.script_day.specs.OnDisk.{history_after}
+use Rattle.desk_runs.specs.Meanings.{Told}
+use Rattle.desk_runs.specs.OnDisk.{history_after}
 use Rattle.exchange_messages.specs.Replies.{Reply}
 use Rattle.exchange_messages.specs.Turns.{IsAnswered, LeavesUnmade, terms_by}
 

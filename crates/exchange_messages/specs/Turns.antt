@@ -27,7 +27,7 @@ use Rattle.http_connection.specs.Messages.{Request}
 use Rattle.rtb_request.specs.ForBidders.{request_for_bidders}
 use Rattle.rtb_request.specs.declared.bid_request.BidRequest.{BidRequest}
 use Rattle.rtb_response.specs.declared.bid_answer.BidAnswer.{BidAnswer}
-use Rattle.script_day.specs.Meanings.{Told, turn_of}
+use Rattle.desk_runs.specs.Meanings.{Told, turn_of}
 use Rattle.script_lines.specs.Changes.{pair_place}
 use Rattle.http_service.specs.declared.answer.Methods.{Methods}
 use Rattle.exchange_messages.specs.Meanings.{Meaning, asks, notifies, sets_budget, wants_books, wants_meters, refused, Means}

@@ -11,8 +11,9 @@ use Rattle.deal_floor.specs.declared.roster.Roster.{Roster}
 use Rattle.deal_floor.specs.declared.campaign.Campaign.{Campaign}
 use Rattle.script_lines.specs.Meanings.{calls, refused}
 use Rattle.script_lines.specs.declared.refusal.Refusal.{Refusal}
-use Rattle.script_day.specs.Answering.{AnswersCall, AnswersTo, LeavesCall, LeavesUnwritten}
-use Rattle.script_day.specs.Meanings.{Told, call_answer}
+use Rattle.script_day.specs.Answering.{AnswersCall, AnswersTo, LeavesUnwritten}
+use Rattle.desk_runs.specs.Answering.{LeavesCall}
+use Rattle.desk_runs.specs.Meanings.{Told, call_answer}
 use Rattle.script_day.specs.Output.{refusal_line, writing}
 use Rattle.script_day.specs.Script.{Means, terms_by, cut_line}
 

@@ -13,10 +13,12 @@ use Rattle.script_day.specs.declared.limits.TheConstants.{INPUT_LIMIT}
 use Rattle.deal_floor.specs.declared.roster.Roster.{Roster}
 use Rattle.script_lines.specs.declared.refusal.RosterRefusal.{RosterRefusal}
 use Rattle.script_day.specs.Days.{ServesDay}
-use Rattle.script_day.specs.Courses.{Course, unopened, given_up, served, EndsBy, EndsEarly, EndsUnopened, GoesOn}
+use Rattle.desk_runs.specs.Courses.{Course, unopened, given_up, served, taken_calls, GoesOn}
+use Rattle.script_day.specs.Courses.{EndsBy, EndsEarly, EndsUnopened, IsCutShort}
+use Rattle.script_day.specs.Further.{IsOneAhead, RunsOneAhead}
 use Rattle.script_day.specs.Endings.{Command, EndsWith, TookDue, TookFront, TookOfWhole, LeftBehind, LeftOver, IsDue, IsWhole}
-use Rattle.script_day.specs.Meanings.{Told}
-use Rattle.script_day.specs.OnDisk.{CourseOn}
+use Rattle.desk_runs.specs.Meanings.{Told}
+use Rattle.desk_runs.specs.OnDisk.{CourseOn}
 use Rattle.script_day.specs.Output.{roster_refused_line, unopened_line}
 use Rattle.script_day.specs.Parts.{PutsEnd, PutsUnopened, IsShortRoster, WholeFails, CutFails}
 use Rattle.script_day.specs.Firsts.{EndsRosterless, HasNoRoster, ReadsLine, StopsAt, StopsInLine}
@@ -223,6 +225,8 @@ module _ {D : Type 0} (faults : D → ℕ) (reads : D → Option (List ℕ)) (ma
       ends = over_line (λ y z. EndsWith mid.allowed (script_of r start script.told script.unwritten) mid.held now result y.left z.left) (served r start script.told script.unwritten) script.ends
           (λ line y z piece roster counted e. script_up line y.left z.left r start script.told script.unwritten mid.allowed before.held now result piece roster counted
           (subst (λ h. EndsWith mid.allowed (script_of r start script.told script.unwritten) h now result y.left z.left) same e));
+      further = λ short. told_then before.tape mid.tape tape (ReadsLine (λ line. IsShortRoster line r) before mid) (λ y z. RunsOneAhead r start (taken_calls script.told script.unwritten) y.left z.left mid.held now) (λ x z. IsOneAhead (served r start script.told script.unwritten) x.left z.left before.held now) first (script.further short)
+          (λ x y z l ahead. (y.left, subst (λ (i : List ℕ). HasRosterLine i r y.left) (sym l.3.next) (has_line l.0 y.left r l.1 l.2), subst (λ (h : Option (List ℕ)). RunsOneAhead r start (taken_calls script.told script.unwritten) y.left z.left h now) same ahead));
     }
     roster_ends (inr (why, on_disk, asked, puts)) = record {
       course = given_up r why;
@@ -230,6 +234,7 @@ module _ {D : Type 0} (faults : D → ℕ) (reads : D → Option (List ℕ)) (ma
       on_disk = on_disk;
       ends = over_line (λ y z. LeftBehind y.left z.left) (given_up r why) (unasked_left mid.tape tape asked)
           (λ line y z piece roster counted over. given_line line y.left z.left r why mid before.held now result piece roster over same none puts);
+      further = λ short. told_then before.tape mid.tape tape (ReadsLine (λ line. IsShortRoster line r) before mid) (λ y z. LeftBehind y.left z.left) (λ x z. IsOneAhead (given_up r why) x.left z.left before.held now) first (unasked_left mid.tape tape asked) (λ x y z l ahead. tt);
     }
 
   -- the same where none was
@@ -241,6 +246,7 @@ module _ {D : Type 0} (faults : D → ℕ) (reads : D → Option (List ℕ)) (ma
     on_disk = refl;
     ends = told_map before.tape tape (λ x z. HasNoRoster before.allowed why x.left z.left) (λ x z. EndsWith INPUT_LIMIT (day unopened) before.held now (Err ending) x.left z.left) first
         (λ x z line. rosterless_line before.allowed why before.held now (Err ending) x.left z.left whole line puts);
+    further = λ short. told_map before.tape tape (λ x z. HasNoRoster before.allowed why x.left z.left) (λ x z. IsOneAhead unopened x.left z.left before.held now) first (λ x z line. tt);
   }
   rosterless_ends before tape now disk ending whole (inr (stop, first, unput, is)) =
       subst (λ (h : Option (List ℕ)). EndsDay faults reads may_leave moment left_since INPUT_LIMIT before tape h disk disk (Err ending)) (sym unput)
@@ -250,16 +256,19 @@ module _ {D : Type 0} (faults : D → ℕ) (reads : D → Option (List ℕ)) (ma
         on_disk = refl;
         ends = told_map before.tape tape (λ x z. StopsInLine StopsAt before.allowed stop x.left z.left) (λ x z. EndsWith INPUT_LIMIT (day unopened) before.held before.held (Err (Ending.Stopped stop)) x.left z.left) first
             (λ x z line. stopped_line before.allowed stop before.held x.left z.left whole line);
+        further = λ short. told_map before.tape tape (λ x z. StopsInLine StopsAt before.allowed stop x.left z.left) (λ x z. IsOneAhead unopened x.left z.left before.held before.held) first (λ x z line. tt);
       }))
 
   -- a day's end, from its source to its sink, with all that the sink took
   serves_by : (course : Course) (source tape : Option Tape) (held now : Option (List ℕ)) (old new : D) (result : Result (Unit {0}) Ending) → EndsBy course result → CourseOn faults reads may_leave moment left_since course old new
-      → WhereTold source tape (λ x y. EndsWith INPUT_LIMIT (day course) held now result x.left y.left) → ServesDay faults reads may_leave moment left_since source tape held now old new result
-  serves_by course source tape held now old new result by_course on_disk ends = record {
+      → WhereTold source tape (λ x y. EndsWith INPUT_LIMIT (day course) held now result x.left y.left)
+      → (IsCutShort result → WhereTold source tape (λ x y. IsOneAhead course x.left y.left held now)) → ServesDay faults reads may_leave moment left_since source tape held now old new result
+  serves_by course source tape held now old new result by_course on_disk ends further = record {
     course = course;
     by_course = by_course;
     on_disk = on_disk;
     ends = ends;
+    further = further;
     of_whole = told_map source tape (λ x y. EndsWith INPUT_LIMIT (day course) held now result x.left y.left) (λ x y. (more : Course) → GoesOn course more → TookOfWhole INPUT_LIMIT (day more) x.left held now) ends (λ x y r.
         of_whole_at course held now result x.left y.left r);
   }
@@ -273,6 +282,9 @@ module _ {D : Type 0} (faults : D → ℕ) (reads : D → Option (List ℕ)) (ma
       (serves_by all.course source tape held now old new result all.by_course all.on_disk
       (told_first source tape (λ x y. EndsWith INPUT_LIMIT (day all.course) held now result x.left y.left) (λ x y. EndsWith INPUT_LIMIT (day all.course) held now result x.left y.left)
       (subst (λ h. WhereTold (tape_behind [] source) tape (λ x y. EndsWith INPUT_LIMIT (day all.course) h now result x.left y.left)) same (subst (λ t. WhereTold t tape (λ x y. EndsWith INPUT_LIMIT (day all.course) before.held now result x.left y.left)) at all.ends))
+      (λ x y r. r))
+      (λ short. told_first source tape (λ x y. IsOneAhead all.course x.left y.left held now) (λ x y. IsOneAhead all.course x.left y.left held now)
+      (subst (λ h. WhereTold (tape_behind [] source) tape (λ x y. IsOneAhead all.course x.left y.left h now)) same (subst (λ t. WhereTold t tape (λ x y. IsOneAhead all.course x.left y.left before.held now)) at (all.further short)))
       (λ x y r. r))))
 
   -- memory was refused before anything was read
@@ -281,3 +293,4 @@ module _ {D : Type 0} (faults : D → ℕ) (reads : D → Option (List ℕ)) (ma
       serves_by unopened tape tape held held disk disk (Err (Ending.Stopped Stop.OutOfMemory)) tt refl
       (told_start tape (λ x y. EndsWith INPUT_LIMIT (day unopened) held held (Err (Ending.Stopped Stop.OutOfMemory)) x.left y.left) (λ t.
       unanswered (day unopened) [] t.left t.left held held (omega arith) ([], t.left, inl refl, tt, refl, ([], omega arith, refl)) [] (All-nil (λ b. b ≢ 10), refl) (took_nothing held [])))
+      (λ short. told_start tape (λ x y. IsOneAhead unopened x.left y.left held held) (λ t. tt))

@@ -2,12 +2,8 @@ pub mod FirstLines
 pub mod FirstReads
 pub mod OneMeaning
 pub mod AnswerLaws
-pub mod ToldAnswers
 pub mod AnsweredCalls
-pub mod DeskCalls
-pub mod DeskRuns
 pub mod Lent
-pub mod Books
 pub mod Rosters
 pub mod Putting
 pub mod Told
@@ -15,6 +11,7 @@ pub mod Runs
 pub mod OneOutput
 pub mod Days
 pub mod Outputs
+pub mod Further
 pub mod Scripts
 pub mod DiskCounts
 pub mod Unopened

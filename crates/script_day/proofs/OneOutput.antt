@@ -15,13 +15,13 @@ use Rattle.script_day.specs.declared.ending.Ending.{Ending}
 use Rattle.script_day.specs.declared.limits.TheConstants.{INPUT_LIMIT, LINE_LIMIT}
 use Rattle.deal_floor.specs.declared.roster.Roster.{Roster}
 use Rattle.script_day.specs.Days.{HasOneOutput}
-use Rattle.script_day.specs.Courses.{Course, unopened, given_up, served, AreAlike, GoesOn, GoesOnFrom}
+use Rattle.desk_runs.specs.Courses.{Course, unopened, given_up, served, AreAlike, GoesOn, GoesOnFrom}
 use Rattle.script_day.specs.Endings.{IsWhole, IsWholeOf, IsDue}
 use Rattle.script_lines.specs.Meanings.{Meaning, calls, refused}
 use Rattle.script_lines.specs.Rosters.{IsRosterLine}
 use Rattle.script_lines.specs.declared.refusal.RosterRefusal.{RosterRefusal}
 use Rattle.script_day.specs.Lines.{IsCut}
-use Rattle.script_day.specs.Meanings.{Writing, Answers, AnswersLine, IsLine, Told, call_answer, turns_of}
+use Rattle.desk_runs.specs.Meanings.{Writing, Answers, AnswersLine, IsLine, Told, call_answer, turns_of}
 use Rattle.script_day.specs.Output.{writing, roster_refused_line}
 use Rattle.script_day.specs.Script.{terms_by, WritesRun, nothing, closing, toolong, HasRosterLine, BehindRoster, RefusesRoster, RefusesDay, FirstFails, IsFirstLine, Means, day}
 use Rattle.script_day.proofs.FirstLines.{first_longer, first_same, rest_same, no_first}

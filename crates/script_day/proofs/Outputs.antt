@@ -21,14 +21,14 @@ use Rattle.script_lines.specs.declared.refusal.RosterRefusal.{RosterRefusal}
 use Rattle.script_lines.proofs.SomeMeaning.{some_meaning, some_first}
 use Rattle.script_lines.proofs.CallsTaken.{call_taken}
 use Rattle.script_day.specs.Days.{HasOutputs, MayBegin}
-use Rattle.script_day.specs.Courses.{Course, unopened, served, HasNoDiskFault, IsSound}
+use Rattle.desk_runs.specs.Courses.{Course, unopened, served, HasNoDiskFault, IsSound}
 use Rattle.script_day.specs.Endings.{IsWhole}
 use Rattle.script_day.specs.Lines.{IsCut}
-use Rattle.script_day.specs.Meanings.{Writing, Answers, AnswersLine, AreDone, Told, call_answer, turn_of, turns_of}
+use Rattle.desk_runs.specs.Meanings.{Writing, Answers, AnswersLine, AreDone, Told, call_answer, turn_of, turns_of}
 use Rattle.script_day.specs.Output.{writing, roster_refused_line}
 use Rattle.script_day.specs.Script.{terms_by, WritesRun, closing, toolong, HasRosterLine, FirstFails, IsFirstLine, Means, day}
 use Rattle.script_day.proofs.AnswerLaws.{budgets_counted}
-use Rattle.script_day.proofs.Books.{run_books}
+use Rattle.desk_runs.proofs.Books.{run_books}
 use Rattle.script_day.proofs.OneOutput.{front_of}
 
 -- an input begins with a line, or has no newline

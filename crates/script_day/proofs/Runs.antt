@@ -20,19 +20,20 @@ use Rattle.script_day.specs.declared.ending.Ending.{Ending}
 use Rattle.script_day.specs.declared.limits.TheConstants.{LINE_LIMIT}
 use Rattle.deal_floor.specs.declared.roster.Roster.{Roster}
 use Rattle.script_lines.specs.Meanings.{calls}
-use Rattle.script_day.specs.Answering.{ServesLine}
-use Rattle.script_day.specs.Calls.{HasBooks}
-use Rattle.script_day.specs.Courses.{EndsServed, EndsWhole, HasDiskFault, HasNoDiskFault, IsCutShort, one_more}
+use Rattle.desk_runs.specs.Answering.{ServesLine}
+use Rattle.desk_runs.specs.Calls.{HasBooks}
+use Rattle.script_day.specs.Courses.{EndsServed, EndsWhole, IsCutShort}
+use Rattle.desk_runs.specs.Courses.{HasDiskFault, HasNoDiskFault, one_more}
 use Rattle.script_day.specs.Endings.{EndsWith, TookDue, TookFront, TookWhole}
-use Rattle.script_day.specs.Meanings.{Answers, IsLine, Told, turns_of}
+use Rattle.desk_runs.specs.Meanings.{Answers, IsLine, Told, turns_of}
 use Rattle.script_day.specs.Output.{writing, toolong_line}
 use Rattle.script_day.specs.Parts.{PutsEnd}
 use Rattle.script_day.specs.Running.{EndsTalk, RunsOn, Running, PutsFront}
 use Rattle.script_day.specs.Script.{script_of, terms_by, closing, nothing, toolong, IsOver, WritesRun, Means}
-use Rattle.script_day.proofs.Books.{run_append, run_books}
-use Rattle.script_day.proofs.DeskRuns.{turns_append}
-use Rattle.script_day.proofs.Putting.{puts_more, puts_on, puts_out, front_put, some_behind, end_behind, ends_put}
-use Rattle.script_day.proofs.Told.{told_start, told_behind}
+use Rattle.desk_runs.proofs.Books.{run_append, run_books}
+use Rattle.desk_runs.proofs.DeskRuns.{turns_append}
+use Rattle.script_day.proofs.Putting.{front_behind, puts_more, puts_on, puts_out, front_put, some_behind, end_behind, ends_put}
+use Rattle.script_day.proofs.Told.{told_start, told_behind, told_source}
 
 -- one more line was answered
 pub answers_more : (roster : Roster) (start : List Entry) (n m : ℕ) (lines : List (List ℕ)) (told : List Told) (answers : List ℕ) (mid : List Entry) (line : List ℕ) (more : List Told) (out : List ℕ)
@@ -131,7 +132,7 @@ over_lines roster start told before mid history number x y behind r books last p
   written = ap (λ n. r.answers ++ behind n last history) r.numbered;
 }
 
-fronted : (roster : Roster) (start : List Entry) (told : List Told) (before mid : TalkState) (history : List Entry) (number : ℕ) (x y : Tape) (r : RunsOn roster start told before mid number x y)
+pub fronted : (roster : Roster) (start : List Entry) (told : List Told) (before mid : TalkState) (history : List Entry) (number : ℕ) (x y : Tape) (r : RunsOn roster start told before mid number x y)
     → HasBooks (terms_by roster) start (turns_of told) history → (last : List ℕ) → HasNoNewline last → WritesRun roster start told nothing (flat_map ended r.lines ++ last) r.answers
 fronted roster start told before mid history number x y r books last piece =
     subst (WritesRun roster start told nothing (flat_map ended r.lines ++ last)) (append-nil r.answers) (over_lines roster start told before mid history number x y nothing r books last piece)
@@ -247,6 +248,25 @@ pub run_stopped : (roster : Roster) (start : List Entry) (told : List Told) (bef
     → EndsTalk before.allowed (script_of roster start told None) before tape after.held (Err (Ending.Stopped stop))
 run_stopped roster start told before mid after history number pending tape stop legal taken ran running next small looked puts =
     stopped_so roster start told before mid after history number pending tape stop (run_books (terms_by roster) start (turns_of told) history legal taken ran) running next small looked puts
+
+-- the sink failed while the answer to a line was put
+pub run_cut : (roster : Roster) (start : List Entry) (told : List Told) (before last : TalkState) (history : List Entry) (number : ℕ) (pending : List ℕ) (tape : Option Tape) (held_now : Option (List ℕ))
+    → HasBooks (terms_by roster) start (turns_of told) history → Running roster start told before last number → last.tape ≡ tape_behind pending tape → length pending ≤ CHUNK → TookFront last.held held_now last.out
+    → EndsTalk before.allowed (script_of roster start told None) before tape held_now (Err (Ending.Stopped Stop.WriteFault))
+run_cut roster start told before last history number pending tape held_now books running at small took =
+    told_source before.tape pending tape (RunsOn roster start told before last number) (λ old new. EndsWith before.allowed (script_of roster start told None) before.held held_now (Err (Ending.Stopped Stop.WriteFault)) old.left new.left)
+    (subst (λ (t : Option Tape). WhereTold before.tape t (RunsOn roster start told before last number)) at running) (λ x z r. (
+      flat_map ended r.lines,
+      pending ++ z.left,
+      r.answers,
+      r.reads.next,
+      ([], pending ++ z.left, inl refl, tt, refl, (pending, small, refl)),
+      inl (
+        omega (arith, r.reads.counted),
+        subst (λ b. WritesRun roster start told nothing b r.answers) (append-nil (flat_map ended r.lines)) (fronted roster start told before last history number x (with_pending pending z) r books [] (All-nil (λ b. b ≢ 10))),
+      ),
+      front_behind before.held last.held held_now r.answers last.out r.written took,
+    ))
 
 -- the call of a line that wasn't answered, if it made one
 abbrev pub unwritten_of : List Told → Option Told

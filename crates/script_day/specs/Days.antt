@@ -7,9 +7,11 @@ use Rattle.day_rules.specs.Legal.{IsLegal}
 use Rattle.deal_floor.specs.declared.roster.Roster.{Roster}
 use Rattle.script_day.specs.declared.ending.Ending.{Ending}
 use Rattle.script_day.specs.declared.limits.TheConstants.{INPUT_LIMIT}
-use Rattle.script_day.specs.Courses.{Course, AreAlike, EndsBy, GoesOn, IsSound}
+use Rattle.desk_runs.specs.Courses.{Course, AreAlike, GoesOn, IsSound}
+use Rattle.script_day.specs.Courses.{EndsBy, IsCutShort}
 use Rattle.script_day.specs.Endings.{Ends, IsWhole, TookOfWhole}
-use Rattle.script_day.specs.OnDisk.{CourseOn}
+use Rattle.script_day.specs.Further.{IsOneAhead}
+use Rattle.desk_runs.specs.OnDisk.{CourseOn}
 use Rattle.script_day.specs.Script.{HasRosterLine, day, terms_by}
 
 -- A day ended so over a source, a sink and a disk.
@@ -18,9 +20,11 @@ pub record ServesDay {D : Type 0} (faults : D → ℕ) (reads : D → Option (Li
   -- how it ended by how the day went, and what became of the disk
   pub by_course : EndsBy course result
   pub on_disk : CourseOn faults reads may_leave moment left_since course old new
-  -- what was read and written, where the source tells its bytes; and whatever the sink took is a front of each whole
-  -- output that goes on from there
+  -- what was read and written, where the source tells its bytes
   pub ends : Ends INPUT_LIMIT (day course) tape tape_now held held_now result
+  -- where the run was cut short, the answers to all lines but at most one stand in the sink whole
+  pub further : IsCutShort result → WhereTold tape tape_now (λ before now. IsOneAhead course before.left now.left held held_now)
+  -- whatever the sink took is a front of each whole output that goes on from there
   pub of_whole : WhereTold tape tape_now (λ before now. (more : Course) → GoesOn course more → TookOfWhole INPUT_LIMIT (day more) before.left held held_now)
 
 -- an input whose roster's day may begin with this history

@@ -1,14 +1,13 @@
 pub mod Lines
 pub mod Endings
 pub mod Steps
-pub mod Meanings
 pub mod Output
-pub mod Calls
 pub mod Courses
 pub mod Script
-pub mod OnDisk
 pub mod Parts
 pub mod Firsts
+pub mod Further
 pub mod Running
 pub mod Answering
 pub mod Days
+pub mod Clauses

@@ -13,7 +13,7 @@ use Rattle.deal_floor.specs.declared.campaign.Campaign.{Campaign}
 use Rattle.script_lines.specs.Whys.{why_of, roster_why}
 use Rattle.script_lines.specs.declared.refusal.Refusal.{Refusal}
 use Rattle.script_lines.specs.declared.refusal.RosterRefusal.{RosterRefusal}
-use Rattle.script_day.specs.Meanings.{Writing}
+use Rattle.desk_runs.specs.Meanings.{Writing}
 
 -- the line of an answer, from the history that its call left: by the ask that stands there at the place that it names
 abbrev pub told_line : List Campaign → List Entry → Answer → List ℕ

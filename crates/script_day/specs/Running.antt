@@ -12,11 +12,13 @@ use Rattle.day_rules.specs.declared.entry.Entry.{Entry}
 use Rattle.deal_floor.specs.declared.roster.Roster.{Roster}
 use Rattle.script_day.specs.declared.ending.Ending.{Ending}
 use Rattle.script_day.specs.declared.first.FirstLine.{FirstLine}
-use Rattle.script_day.specs.Answering.{DeskRuns}
-use Rattle.script_day.specs.Courses.{Course, EndsBy, EndsServed, given_up, taken_calls}
+use Rattle.desk_runs.specs.Answering.{DeskRuns}
+use Rattle.desk_runs.specs.Courses.{Course, given_up, taken_calls}
+use Rattle.script_day.specs.Courses.{EndsBy, EndsServed, IsCutShort}
 use Rattle.script_day.specs.Endings.{Command, EndsWith}
-use Rattle.script_day.specs.Meanings.{Answers, Told}
-use Rattle.script_day.specs.OnDisk.{CourseOn, ServesRun}
+use Rattle.script_day.specs.Further.{IsOneAhead, RunsOneAhead}
+use Rattle.desk_runs.specs.Meanings.{Answers, Told}
+use Rattle.desk_runs.specs.OnDisk.{CourseOn, ServesRun}
 use Rattle.script_day.specs.Output.{writing}
 use Rattle.script_day.specs.Parts.{IsShortRoster, PutsUnopened, WholeFails}
 use Rattle.script_day.specs.Script.{day, script_of, terms_by, Means}
@@ -59,6 +61,7 @@ pub record EndsScript {D : Type 0} (faults : D → ℕ) (reads : D → Option (L
   pub ends_so : EndsServed told unwritten result
   pub on_disk : ServesRun faults reads may_leave moment left_since (desk_terms roster) start (taken_calls told unwritten) old new
   pub ends : EndsTalk before.allowed (script_of roster start told unwritten) before tape held_now result
+  pub further : IsCutShort result → WhereTold before.tape tape (λ x y. RunsOneAhead roster start (taken_calls told unwritten) x.left y.left before.held held_now)
 
 -- what was found of a whole first line
 abbrev pub FindsFirst : List ℕ → FirstLine → Type 0
@@ -81,3 +84,4 @@ pub record EndsDay {D : Type 0} (faults : D → ℕ) (reads : D → Option (List
   pub by_course : EndsBy course result
   pub on_disk : CourseOn faults reads may_leave moment left_since course old new
   pub ends : EndsTalk limit (day course) before tape held_now result
+  pub further : IsCutShort result → WhereTold before.tape tape (λ x y. IsOneAhead course x.left y.left before.held held_now)

@@ -14,11 +14,12 @@ use Rattle.script_lines.specs.Rosters.{IsRosterLine, RefusesRosterLine}
 use Rattle.script_lines.specs.declared.refusal.Refusal.{Refusal}
 use Rattle.script_lines.specs.declared.refusal.Refusal.TheVariants.{Cut, Long}
 use Rattle.script_lines.specs.declared.refusal.RosterRefusal.{RosterRefusal}
-use Rattle.script_day.specs.Calls.{HasBooks}
-use Rattle.script_day.specs.Courses.{Course, unopened, given_up, served, EndsWhole, EndsUnopened}
+use Rattle.desk_runs.specs.Calls.{HasBooks}
+use Rattle.desk_runs.specs.Courses.{Course, unopened, given_up, served}
+use Rattle.script_day.specs.Courses.{EndsWhole, EndsUnopened}
 use Rattle.script_day.specs.Endings.{Command}
 use Rattle.script_day.specs.Lines.{IsCut, BeginsWithLine}
-use Rattle.script_day.specs.Meanings.{Answers, Told, turns_of}
+use Rattle.desk_runs.specs.Meanings.{Answers, Told, turns_of}
 use Rattle.script_day.specs.declared.ending.Ending.{Ending}
 use Rattle.answer_lines.specs.Table.{closing_table}
 use Rattle.script_day.specs.Output.{writing, refusal_line, toolong_line, roster_refused_line, unopened_line}

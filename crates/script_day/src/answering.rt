@@ -1,16 +1,15 @@
 //! A line's answer: what the desk answers its call, or why it gave the call up.
 ghost use Rattle.std.specs.Prelude.{◌≡◌, ◌≤◌, ◌<◌, ◌^◌, ℕ, List, ◌++◌, length, option_map, Option, Some, None, Result, Ok, IfOk, IfErr, OnErr, OnOk, string_bytes};
-ghost use Rattle.adx_io.specs.Lines.{Keeps};
 ghost use Rattle.adx_io.specs.Talk.{ended};
 ghost use Rattle.answer_lines.specs.Answers.{answer_line as line_of_answer, fault_line};
 ghost use Rattle.day_rules.specs.Asks.{IsWellFormed, IsUndecided};
-ghost use Rattle.day_rules.specs.Replies.{Call, ask as ask_call, notice as notice_call, set_budget as budget_call, tick as tick_call};
+ghost use Rattle.day_rules.specs.Replies.{Call, ask as ask_call, set_budget as budget_call, tick as tick_call};
 ghost use Rattle.day_rules.specs.Runs.{IsCall};
 ghost use Rattle.script_lines.specs.Changes.{change_told};
 ghost use Rattle.script_lines.specs.Found.{call_of};
-ghost use Rattle.script_day.specs.declared.limits.TheConstants.{LINE_LIMIT};
 ghost use Rattle.adx_desk.specs.Lines.{told_as};
-ghost use Rattle.script_day.specs.Answering.{AnswersCall, AnswersTo, IsOfCall, LeavesCall, LeavesUnwritten};
+ghost use Rattle.script_day.specs.Clauses.{CallAnswered, CallLeft, IsKept, IsShort, LineAnswered, LineLeft, notice_of};
+ghost use Rattle.desk_runs.specs.Answering.{IsOfCall};
 ghost use Rattle.script_day.specs.Script.{terms_by};
 
 use crate::refusals::{push, push_refused};
@@ -68,8 +67,8 @@ fn answer_ask<D: Disk>(
 ) -> Result<(), OutOfMemory>
     requires well_formed { IsWellFormed (length desk.old.desk.terms.day.budgets) ask }
     requires undecided { IsUndecided ask }
-    ensures answered { OnOk result (AnswersCall D.faults D.may_leave D.moment D.left_since campaigns.now desk.old desk.new (ask_call ask) (string_bytes out.old) (string_bytes out.new)) }
-    ensures unwritten { OnErr result (LeavesCall D.faults D.may_leave D.moment D.left_since desk.old desk.new (ask_call ask)) }
+    ensures answered { OnOk result (CallAnswered D.Disk campaigns.now desk.old desk.new (ask_call ask) (string_bytes out.old) (string_bytes out.new)) }
+    ensures unwritten { OnErr result (CallLeft D.Disk desk.old desk.new (ask_call ask)) }
     ensures lasts { D.lasts desk.old.disk desk.new.disk }
 {
     match desk.ask(ask) {
@@ -91,8 +90,8 @@ fn answer_notice<D: Disk>(
     notice: &Notice,
     out: &mut String,
 ) -> Result<(), OutOfMemory>
-    ensures answered { OnOk result (AnswersCall D.faults D.may_leave D.moment D.left_since campaigns.now desk.old desk.new (notice_call notice.now.kind notice.now.auction notice.now.award) (string_bytes out.old) (string_bytes out.new)) }
-    ensures unwritten { OnErr result (LeavesCall D.faults D.may_leave D.moment D.left_since desk.old desk.new (notice_call notice.now.kind notice.now.auction notice.now.award)) }
+    ensures answered { OnOk result (CallAnswered D.Disk campaigns.now desk.old desk.new (notice_of notice.now) (string_bytes out.old) (string_bytes out.new)) }
+    ensures unwritten { OnErr result (CallLeft D.Disk desk.old desk.new (notice_of notice.now)) }
     ensures lasts { D.lasts desk.old.disk desk.new.disk }
 {
     match desk.notice(notice.kind, notice.auction.as_str(), notice.award) {
@@ -115,8 +114,8 @@ fn answer_tick<D: Disk>(
     out: &mut String,
 ) -> Result<(), OutOfMemory>
     requires { now < 2 ^ 63 }
-    ensures answered { OnOk result (AnswersCall D.faults D.may_leave D.moment D.left_since campaigns.now desk.old desk.new (tick_call now) (string_bytes out.old) (string_bytes out.new)) }
-    ensures unwritten { OnErr result (LeavesCall D.faults D.may_leave D.moment D.left_since desk.old desk.new (tick_call now)) }
+    ensures answered { OnOk result (CallAnswered D.Disk campaigns.now desk.old desk.new (tick_call now) (string_bytes out.old) (string_bytes out.new)) }
+    ensures unwritten { OnErr result (CallLeft D.Disk desk.old desk.new (tick_call now)) }
     ensures lasts { D.lasts desk.old.disk desk.new.disk }
 {
     match desk.tick(now) {
@@ -139,8 +138,8 @@ fn answer_change<D: Disk>(
     out: &mut String,
 ) -> Result<(), OutOfMemory>
     requires { IsCall (length desk.old.desk.terms.day.budgets) (budget_call (change_told change)) }
-    ensures answered { OnOk result (AnswersCall D.faults D.may_leave D.moment D.left_since campaigns.now desk.old desk.new (budget_call (change_told change)) (string_bytes out.old) (string_bytes out.new)) }
-    ensures unwritten { OnErr result (LeavesCall D.faults D.may_leave D.moment D.left_since desk.old desk.new (budget_call (change_told change))) }
+    ensures answered { OnOk result (CallAnswered D.Disk campaigns.now desk.old desk.new (budget_call (change_told change)) (string_bytes out.old) (string_bytes out.new)) }
+    ensures unwritten { OnErr result (CallLeft D.Disk desk.old desk.new (budget_call (change_told change))) }
     ensures lasts { D.lasts desk.old.disk desk.new.disk }
 {
     match desk.set_budget(change.campaign, change.number, change.budget) {
@@ -163,8 +162,8 @@ fn answer_call<D: Disk>(
     out: &mut String,
 ) -> Result<(), OutOfMemory>
     requires { IsCall (length desk.old.desk.terms.day.budgets) (call_of call) }
-    ensures answered { OnOk result (AnswersCall D.faults D.may_leave D.moment D.left_since campaigns.now desk.old desk.new (call_of call) (string_bytes out.old) (string_bytes out.new)) }
-    ensures unwritten { OnErr result (LeavesCall D.faults D.may_leave D.moment D.left_since desk.old desk.new (call_of call)) }
+    ensures answered { OnOk result (CallAnswered D.Disk campaigns.now desk.old desk.new (call_of call) (string_bytes out.old) (string_bytes out.new)) }
+    ensures unwritten { OnErr result (CallLeft D.Disk desk.old desk.new (call_of call)) }
     ensures lasts { D.lasts desk.old.disk desk.new.disk }
 {
     match call {
@@ -185,8 +184,8 @@ fn answer_text<D: Disk>(
     out: &mut String,
 ) -> Result<(), OutOfMemory>
     requires terms { desk.old.desk.terms.day ≡ terms_by roster.now }
-    ensures answered { OnOk result (AnswersTo D.faults D.may_leave D.moment D.left_since roster.entry.now desk.old desk.new number (λ text. (text ≡ line.now) × (length text ≤ LINE_LIMIT)) (string_bytes out.old) (string_bytes out.new)) }
-    ensures unwritten { OnErr result (LeavesUnwritten D.faults D.may_leave D.moment D.left_since roster.entry.now desk.old desk.new (λ text. (text ≡ line.now) × (length text ≤ LINE_LIMIT))) }
+    ensures answered { OnOk result (LineAnswered D.Disk roster.entry.now desk.old desk.new number (IsShort line.now) (string_bytes out.old) (string_bytes out.new)) }
+    ensures unwritten { OnErr result (LineLeft D.Disk roster.entry.now desk.old desk.new (IsShort line.now)) }
     ensures lasts { D.lasts desk.old.disk desk.new.disk }
 {
     match read_line(alloc, roster, line) {
@@ -212,8 +211,8 @@ pub(crate) fn answer_line<D: Disk>(
     out: &mut String,
 ) -> Result<(), OutOfMemory>
     requires terms { desk.old.desk.terms.day ≡ terms_by roster.now }
-    ensures answered { OnOk result (AnswersTo D.faults D.may_leave D.moment D.left_since roster.entry.now desk.old desk.new number (Keeps LINE_LIMIT buffer.now.overlong buffer.now.line) (string_bytes out.old) (string_bytes out.new)) }
-    ensures unwritten { OnErr result (LeavesUnwritten D.faults D.may_leave D.moment D.left_since roster.entry.now desk.old desk.new (Keeps LINE_LIMIT buffer.now.overlong buffer.now.line)) }
+    ensures answered { OnOk result (LineAnswered D.Disk roster.entry.now desk.old desk.new number (IsKept buffer.now) (string_bytes out.old) (string_bytes out.new)) }
+    ensures unwritten { OnErr result (LineLeft D.Disk roster.entry.now desk.old desk.new (IsKept buffer.now)) }
     ensures lasts { D.lasts desk.old.disk desk.new.disk }
 {
     match buffer.line() {

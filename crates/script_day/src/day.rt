@@ -5,8 +5,7 @@ ghost use Rattle.adx_io.specs.TalkState.{state_of, place_of};
 ghost use Rattle.adx_io.specs.declared.stop.Stop.TheVariants.{ReadFault, WriteFault};
 ghost use Rattle.script_day.specs.declared.ending.Ending.TheVariants.{Stopped};
 ghost use Rattle.script_day.specs.declared.limits.TheConstants.{INPUT_LIMIT as input_limit};
-ghost use Rattle.script_day.specs.Days.{ServesDay};
-ghost use Rattle.script_day.specs.Running.{EndsDay};
+ghost use Rattle.script_day.specs.Clauses.{DayEnded, DayServed};
 ghost use Rattle.script_day.specs.Steps.{HasCauses};
 
 use crate::ending::Ending;
@@ -24,7 +23,7 @@ fn serve<S: Source, K: Sink, D: Disk>(
 ) -> Result<(), Ending>
     requires unwritten { (state_of talk.old).out ≡ [] }
     requires whole { (state_of talk.old).allowed ≡ input_limit }
-    ensures ends { EndsDay D.faults D.reads D.may_leave D.moment D.left_since input_limit (state_of talk.old) (S.tape talk.new.source.now) (K.held talk.new.sink.now) disk.old disk.new result }
+    ensures ends { DayEnded D.Disk input_limit disk.old disk.new talk.old talk.new result }
     ensures lasts { D.lasts disk.old disk.new }
     ensures causes { HasCauses (state_of talk.old) (state_of talk.new) result }
     ensures same { place_of talk.new ≡ place_of talk.old }
@@ -39,21 +38,22 @@ fn serve<S: Source, K: Sink, D: Disk>(
 ///
 /// The roster line is the first of the source. Its day is opened by the history that the disk's file stands for. Then each
 /// line of the script is answered with a line, and behind the last the closing table is written. A call's entry is in the
-/// journal before its answer is written, and what is written is put into the sink before more is asked of the source.
+/// journal before its answer is written, and the answer is put into the sink before the next line is read.
 /// A call that the disk's fault gives up, or that the journal has no room for, is answered so, and the day goes on.
 ///
 /// `Ok`: the source was read to its end, and the disk's fault gave up no call. `Refused`: the first line isn't a roster's, or
 /// the input passes `INPUT_LIMIT` bytes, of which one more is taken. `DiskFault`: the disk failed while the day was opened,
 /// and then the sink took nothing, or the source was read to its end and the disk's fault gave up some call. `NoHistory`:
 /// the disk's file stands for no history of the roster, and the sink took a line that says why. `Stopped`: the source or
-/// the sink failed, whose count rose then, or memory was refused; then the sink took a front of the output.
+/// the sink failed, whose count rose then, or memory was refused; then the sink took a front of the output, and the answers
+/// to all lines that were taken up but at most one.
 pub fn serve_day<S: Source, K: Sink, D: Disk>(
     alloc: Global,
     source: &mut S,
     sink: &mut K,
     disk: &mut D,
 ) -> Result<(), Ending>
-    ensures ends { ServesDay D.faults D.reads D.may_leave D.moment D.left_since (S.tape source.old) (S.tape source.new) (K.held sink.old) (K.held sink.new) disk.old disk.new result }
+    ensures ends { DayServed S.Source K.Sink D.Disk source.old source.new sink.old sink.new disk.old disk.new result }
     ensures lasts { D.lasts disk.old disk.new }
     ensures read_fault { result ≡ Err (Stopped ReadFault) → Rises (S.faults source.old) (S.faults source.new) }
     ensures read_passed { result ≢ Err (Stopped ReadFault) → S.faults source.new ≡ S.faults source.old }

@@ -1,12 +1,11 @@
 //! The first line of an input, which is to be a roster's.
 ghost use Rattle.std.specs.Prelude.{◌≡◌, ◌≤◌, ◌++◌, List, ℕ, [], length, IfErr, IfOk, OnOk, Err};
-ghost use Rattle.adx_io.specs.Lines.{Keeps};
-ghost use Rattle.adx_io.specs.Streams.{WhereTold};
 ghost use Rattle.adx_io.specs.TalkState.{state_of, place_of};
 ghost use Rattle.adx_io.specs.declared.line_buffer.TheConstants.{CHUNK};
 ghost use Rattle.script_day.specs.declared.ending.Ending.TheVariants.{Refused};
 ghost use Rattle.script_day.specs.declared.limits.TheConstants.{LINE_LIMIT as line_limit};
-ghost use Rattle.script_day.specs.Firsts.{EndsLineless, EndsRosterless, ReadsLine};
+ghost use Rattle.script_day.specs.Clauses.{IsKept, LineRead, OfLine};
+ghost use Rattle.script_day.specs.Firsts.{EndsLineless, EndsRosterless};
 ghost use Rattle.script_day.specs.Output.{roster_refused_line};
 ghost use Rattle.script_day.specs.Parts.{CutFails, IsShortRoster, PutsEnd};
 ghost use Rattle.script_day.specs.Running.{FindsFirst};
@@ -50,7 +49,7 @@ fn first_of(alloc: Global, line: &[u8]) -> Result<FirstLine, OutOfMemory>
 /// What the first line of an input is, which the buffer keeps and whose newline was read: a roster's line, or why it is none.
 /// A line of more than `LINE_LIMIT` bytes is refused as `Long`. The buffer stays as it is.
 fn first_line(alloc: Global, buffer: &LineBuffer) -> Result<FirstLine, OutOfMemory>
-    ensures { IfOk result (λ found. (line : List ℕ) → Keeps line_limit buffer.now.overlong buffer.now.line line → FindsFirst line found) }
+    ensures { IfOk result (λ found. OfLine buffer.now (λ line. FindsFirst line found)) }
 {
     match buffer.line() {
         Some(line) => {
@@ -65,7 +64,7 @@ fn first_line(alloc: Global, buffer: &LineBuffer) -> Result<FirstLine, OutOfMemo
 
 /// Why a first line without a newline, which the buffer keeps, is no roster's: `Long` above `LINE_LIMIT` bytes, and else `Cut`.
 fn cut_first(buffer: &LineBuffer) -> RosterRefusal
-    ensures { (line : List ℕ) → Keeps line_limit buffer.now.overlong buffer.now.line line → CutFails line result }
+    ensures { OfLine buffer.now (λ line. CutFails line result) }
 {
     match buffer.line() {
         Some(_) => RosterRefusal::Cut,
@@ -106,7 +105,7 @@ pub fn read_first<S: Source, K: Sink>(
     talk: &mut Talk<'_, S, K>,
 ) -> Result<(), Ending>
     requires unwritten { (state_of talk.old).out ≡ [] }
-    ensures reads { OnOk result (WhereTold (state_of talk.old).tape (state_of talk.new).tape (ReadsLine (Keeps line_limit talk.new.buffer.now.overlong talk.new.buffer.now.line) (state_of talk.old) (state_of talk.new))) }
+    ensures reads { OnOk result (LineRead (IsKept talk.new.buffer.now) talk.old talk.new) }
     ensures unput { OnOk result ((state_of talk.new).held ≡ (state_of talk.old).held) }
     ensures unwritten { OnOk result ((state_of talk.new).out ≡ []) }
     ensures within { OnOk result ((state_of talk.new).allowed ≤ (state_of talk.old).allowed) }
@@ -136,7 +135,7 @@ pub fn first_roster<S: Source, K: Sink>(
     talk: &mut Talk<'_, S, K>,
 ) -> Result<Roster, Ending>
     requires unwritten { (state_of talk.old).out ≡ [] }
-    ensures reads { IfOk result (λ roster. WhereTold (state_of talk.old).tape (state_of talk.new).tape (ReadsLine (λ line. IsShortRoster line roster) (state_of talk.old) (state_of talk.new))) }
+    ensures reads { IfOk result (λ roster. LineRead (λ line. IsShortRoster line roster) talk.old talk.new) }
     ensures unput { OnOk result ((state_of talk.new).held ≡ (state_of talk.old).held) }
     ensures unwritten { OnOk result ((state_of talk.new).out ≡ []) }
     ensures within { OnOk result ((state_of talk.new).allowed ≤ (state_of talk.old).allowed) }

@@ -23,4 +23,4 @@ pub use first::{first_roster, read_first, refuse_roster};
 pub use limits::{INPUT_LIMIT, LINE_LIMIT};
 pub use opening::{ending_of, give_up, push_unopened};
 pub use refusals::push_roster_refused;
-pub use script::{push_books, put_end};
+pub use script::put_end;

@@ -1,19 +1,15 @@
 //! The lines of a script, from the first to the closing table.
 ghost use Rattle.std.specs.Prelude.{◌≡◌, ◌≢◌, ◌⊎◌, ◌+◌, ◌<◌, ◌≤◌, ◌++◌, ℕ, List, [], length, MatchBool, IfErr, OnErr, OnOk, Ok, Err, string_bytes};
-ghost use Rattle.adx_io.specs.Lines.{Keeps};
 ghost use Rattle.adx_io.specs.TalkState.{state_of, place_of};
 ghost use Rattle.adx_desk.specs.Rosters.{desk_terms};
-ghost use Rattle.day_rules.specs.declared.entry.Entry.{Entry};
 ghost use Rattle.script_day.specs.declared.ending.Ending.TheVariants.{DiskFault as FaultOfDisk, Refused, Stopped};
 ghost use Rattle.adx_io.specs.declared.stop.Stop.TheVariants.{OutOfMemory as NoMemory};
 ghost use Rattle.adx_io.specs.declared.line_buffer.TheConstants.{CHUNK};
-ghost use Rattle.script_day.specs.declared.limits.TheConstants.{INPUT_LIMIT as input_limit, LINE_LIMIT as line_limit};
-ghost use Rattle.answer_lines.specs.Table.{closing_table};
+ghost use Rattle.script_day.specs.declared.limits.TheConstants.{INPUT_LIMIT as input_limit};
 ghost use Rattle.script_day.specs.Courses.{IsCutShort};
-ghost use Rattle.script_day.specs.Answering.{AnswersTo, DeskRuns, LeavesUnwritten};
+ghost use Rattle.script_day.specs.Clauses.{DayOpened, IsKept, LineAnswered, LineLeft, OfLine, PutsClosing, ScriptEnded};
 ghost use Rattle.script_day.specs.Output.{toolong_line};
 ghost use Rattle.script_day.specs.Parts.{PutsEnd};
-ghost use Rattle.script_day.specs.Running.{EndsOpened, EndsScript};
 ghost use Rattle.script_day.specs.Script.{closing, cut_line, terms_by};
 ghost use Rattle.script_day.specs.Steps.{HasCauses, IsAnswer};
 
@@ -25,8 +21,8 @@ use crate::refusals::{push_refusal, push_refused};
 use adx_desk::Desk;
 use adx_io::{Disk, LineBuffer, Next, Sink, Source, Talk};
 use adx_units::OutOfMemory;
-use answer_lines::push_table;
-use deal_floor::{Campaign, Roster};
+use deal_floor::Roster;
+use desk_runs::push_books;
 use script_lines::Refusal;
 use std::alloc::Global;
 
@@ -37,7 +33,7 @@ fn push_cut(
     number: u64,
     buffer: &LineBuffer,
 ) -> Result<(), OutOfMemory>
-    ensures { OnOk result ((line : List ℕ) → Keeps line_limit buffer.now.overlong buffer.now.line line → string_bytes out.new ≡ string_bytes out.old ++ cut_line number line) }
+    ensures { OnOk result (OfLine buffer.now (λ line. string_bytes out.new ≡ string_bytes out.old ++ cut_line number line)) }
 {
     match buffer.line() {
         Some([]) => Ok(()),
@@ -52,40 +48,6 @@ fn push_cut(
     }
 }
 
-/// Writes the closing table of a day with these campaigns.
-fn push_campaigns<D: Disk>(
-    out: &mut String,
-    desk: &Desk<D>,
-    campaigns: &[Campaign],
-) -> Result<(), OutOfMemory>
-    requires { length desk.now.desk.terms.day.budgets ≡ length campaigns.now }
-    ensures { OnOk result (string_bytes out.new ≡ string_bytes out.old ++ closing_table campaigns.now desk.now.desk.terms.day desk.now.desk.history) }
-{
-    push_table(
-        out,
-        campaigns,
-        desk.book(),
-        desk.ask_count(),
-        desk.entries(),
-    )?;
-    Ok(())
-}
-
-/// Writes the closing table of the day of a roster, behind what is there: a line for each campaign with its money, in units
-/// (millionths of a CPM dollar), in the roster's order, and a line with the counts of the desk's history. Where memory is
-/// refused, a part of the table may stand there.
-pub fn push_books<D: Disk>(
-    out: &mut String,
-    desk: &Desk<D>,
-    roster: &Roster,
-) -> Result<(), OutOfMemory>
-    requires { desk.now.desk.terms.day ≡ terms_by roster.now }
-    ensures { OnOk result (string_bytes out.new ≡ string_bytes out.old ++ closing_table roster.entry.now.campaigns (terms_by roster.entry.now) desk.now.desk.history) }
-{
-    push_campaigns(out, desk, roster.campaigns.as_slice())?;
-    Ok(())
-}
-
 /// Writes what comes behind the answers to all lines.
 fn push_close<D: Disk>(
     alloc: Global,
@@ -96,8 +58,7 @@ fn push_close<D: Disk>(
     buffer: &LineBuffer,
 ) -> Result<(), OutOfMemory>
     requires { desk.now.desk.terms.day ≡ terms_by roster.now }
-    ensures { OnOk result ((line : List ℕ) → Keeps line_limit buffer.now.overlong buffer.now.line line
-        → string_bytes out.new ≡ string_bytes out.old ++ closing roster.entry.now number line desk.now.desk.history) }
+    ensures { OnOk result (OfLine buffer.now (λ line. string_bytes out.new ≡ string_bytes out.old ++ closing roster.entry.now number line desk.now.desk.history)) }
 {
     push_cut(alloc, out, number, buffer)?;
     push_books(out, desk, roster)?;
@@ -140,10 +101,8 @@ fn close<S: Source, K: Sink, D: Disk>(
     talk: &mut Talk<'_, S, K>,
 ) -> Result<(), Ending>
     requires { desk.now.desk.terms.day ≡ terms_by roster.now }
-    ensures done { desk.now.desk.faults ≡ 0 → (line : List ℕ) → Keeps line_limit talk.old.buffer.now.overlong talk.old.buffer.now.line line
-        → PutsEnd (state_of talk.old).held (state_of talk.new).held ((state_of talk.old).out ++ closing roster.entry.now number line desk.now.desk.history) (Ok tt) result }
-    ensures fault { desk.now.desk.faults ≢ 0 → (line : List ℕ) → Keeps line_limit talk.old.buffer.now.overlong talk.old.buffer.now.line line
-        → PutsEnd (state_of talk.old).held (state_of talk.new).held ((state_of talk.old).out ++ closing roster.entry.now number line desk.now.desk.history) (Err FaultOfDisk) result }
+    ensures done { desk.now.desk.faults ≡ 0 → PutsClosing roster.entry.now number desk.now.desk.history talk.old talk.new (Ok tt) result }
+    ensures fault { desk.now.desk.faults ≢ 0 → PutsClosing roster.entry.now number desk.now.desk.history talk.old talk.new (Err FaultOfDisk) result }
     ensures done_so { desk.now.desk.faults ≡ 0 → (result ≡ Ok tt) ⊎ IsCutShort result }
     ensures fault_so { desk.now.desk.faults ≢ 0 → (result ≡ Err FaultOfDisk) ⊎ IsCutShort result }
     ensures rest { (talk.new.source ≡ talk.old.source) × (talk.new.buffer ≡ talk.old.buffer) × (talk.new.room ≡ talk.old.room) }
@@ -174,8 +133,8 @@ fn answer_next<S: Source, K: Sink, D: Disk>(
     talk: &mut Talk<'_, S, K>,
 ) -> Result<(), Ending>
     requires terms { desk.old.desk.terms.day ≡ terms_by roster.now }
-    ensures answered { OnOk result (AnswersTo D.faults D.may_leave D.moment D.left_since roster.entry.now desk.old desk.new number (Keeps line_limit talk.old.buffer.now.overlong talk.old.buffer.now.line) (state_of talk.old).out (state_of talk.new).out) }
-    ensures unwritten { OnErr result (LeavesUnwritten D.faults D.may_leave D.moment D.left_since roster.entry.now desk.old desk.new (Keeps line_limit talk.old.buffer.now.overlong talk.old.buffer.now.line)) }
+    ensures answered { OnOk result (LineAnswered D.Disk roster.entry.now desk.old desk.new number (IsKept talk.old.buffer.now) (state_of talk.old).out (state_of talk.new).out) }
+    ensures unwritten { OnErr result (LineLeft D.Disk roster.entry.now desk.old desk.new (IsKept talk.old.buffer.now)) }
     ensures failed { IfErr result (λ e. e ≡ Stopped NoMemory) }
     ensures state { state_of talk.new ≡ record (state_of talk.old) { out = (state_of talk.new).out } }
     ensures rest { (talk.new.source ≡ talk.old.source) × (talk.new.buffer ≡ talk.old.buffer) }
@@ -187,7 +146,8 @@ fn answer_next<S: Source, K: Sink, D: Disk>(
     Ok(())
 }
 
-/// Answers the lines of a script on a day that begins, and closes it.
+/// Answers the lines of a script on a day that begins, and closes it. The answer to a line is put before the next line is
+/// read, so that a run that is cut short is at most one line ahead of its output.
 fn run_lines<S: Source, K: Sink, D: Disk>(
     alloc: Global,
     roster: &Roster,
@@ -197,8 +157,7 @@ fn run_lines<S: Source, K: Sink, D: Disk>(
     requires unwritten { (state_of talk.old).out ≡ [] }
     requires within { (state_of talk.old).allowed ≤ input_limit }
     requires terms { desk.old.desk.terms ≡ desk_terms roster.now }
-    ensures ends { (disk : D) (start : List Entry) → DeskRuns D.faults D.reads D.may_leave D.moment D.left_since (desk_terms roster.entry.now) disk start [] desk.old
-        → EndsScript D.faults D.reads D.may_leave D.moment D.left_since roster.entry.now start (state_of talk.old) (S.tape talk.new.source.now) (K.held talk.new.sink.now) disk desk.new.disk result }
+    ensures ends { ScriptEnded D.Disk roster.entry.now desk.old desk.new.disk talk.old talk.new result }
     ensures lasts { D.lasts desk.old.disk desk.new.disk }
     ensures causes { HasCauses (state_of talk.old) (state_of talk.new) result }
     ensures same { place_of talk.new ≡ place_of talk.old }
@@ -208,6 +167,7 @@ fn run_lines<S: Source, K: Sink, D: Disk>(
         match talk.next_line(LINE_LIMIT)? {
             Next::Line => {
                 answer_next(alloc, roster, desk, number, talk)?;
+                talk.put_out()?;
                 number += 1;
             }
             Next::End => return close(alloc, roster, desk, number, talk),
@@ -226,7 +186,7 @@ pub(crate) fn run_day<S: Source, K: Sink, D: Disk>(
     requires unwritten { (state_of talk.old).out ≡ [] }
     requires within { (state_of talk.old).allowed ≤ input_limit }
     requires ahead { length talk.old.buffer.now.pending ≤ CHUNK }
-    ensures ends { EndsOpened D.faults D.reads D.may_leave D.moment D.left_since roster.entry.now (state_of talk.old) (S.tape talk.new.source.now) (K.held talk.new.sink.now) disk.old disk.new result }
+    ensures ends { DayOpened D.Disk roster.entry.now disk.old disk.new talk.old talk.new result }
     ensures lasts { D.lasts disk.old disk.new }
     ensures causes { HasCauses (state_of talk.old) (state_of talk.new) result }
     ensures same { place_of talk.new ≡ place_of talk.old }

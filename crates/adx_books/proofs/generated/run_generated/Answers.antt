@@ -5,7 +5,7 @@ use Rattle.answer_lines.specs.Table.{closing_table}
 use Rattle.day_rules.specs.declared.entry.Entry.{Entry}
 use Rattle.day_rules.specs.Runs.{run}
 use Rattle.day_rules.specs.Terms.{Terms}
-use Rattle.script_day.specs.Meanings.{turns_of}
+use Rattle.desk_runs.specs.Meanings.{turns_of}
 use Rattle.script_day.specs.Script.{terms_by}
 use Rattle.adx_books.specs.GeneratedEnds.{table_behind}
 use Rattle.adx_books.proofs.Serving.{day_put}

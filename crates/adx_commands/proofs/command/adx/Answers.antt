@@ -1,5 +1,6 @@
 -- Words in plain spelling do what they ask for.
-use Rattle.std.proofs.Common.{false, true}
+use Rattle.std.proofs.Common.{false, inl, inr, true}
+use Rattle.command_archive.proofs.Statuses.{list_fault, list_passed, put_fault, put_passed}
 use Rattle.command_check.proofs.Ended.{accepted_input}
 use Rattle.command_check.proofs.OneAnswer.{one_answer}
 use Rattle.command_close.proofs.OneDocument.{one_document}
@@ -11,51 +12,60 @@ use Rattle.adx_commands.proofs.Commands.{plain_does, plain_taken}
 use Rattle.adx_commands.proofs.command.adx.Goals as goal
 
 pub returns-clause-day : goal.returns-clause-day
-returns-clause-day g c = λ day. (plain_does _ _ _ _ _ _ c.run_words.ensures.does (Command.Day day.0) day.1).by_run
+returns-clause-day g c = λ day. (plain_does c.run_words.ensures.does (Command.Day day.0) day.1).by_run
 
 pub returns-clause-connection : goal.returns-clause-connection
-returns-clause-connection g c = λ connection. (plain_does _ _ _ _ _ _ c.run_words.ensures.does (Command.Connection connection.0) connection.1).by_run
+returns-clause-connection g c = λ connection. (plain_does c.run_words.ensures.does (Command.Connection connection.0) connection.1).by_run
 
 pub returns-clause-bidder : goal.returns-clause-bidder
-returns-clause-bidder g c = λ bidder. (plain_does _ _ _ _ _ _ c.run_words.ensures.does Command.Bidder bidder).by_run
+returns-clause-bidder g c = λ bidder. (plain_does c.run_words.ensures.does Command.Bidder bidder).by_run
 
 pub returns-clause-generated : goal.returns-clause-generated
-returns-clause-generated g c = λ seed asks generated. (plain_does _ _ _ _ _ _ c.run_words.ensures.does (Command.Generate seed asks) generated).by_run
+returns-clause-generated g c = λ seed asks generated. (plain_does c.run_words.ensures.does (Command.Generate seed asks) generated).by_run
 
 pub returns-clause-notices : goal.returns-clause-notices
-returns-clause-notices g c = λ notices. (plain_does _ _ _ _ _ _ c.run_words.ensures.does (Command.Notices notices.0) notices.1).by_run
+returns-clause-notices g c = λ notices. (plain_does c.run_words.ensures.does (Command.Notices notices.0) notices.1).by_run
 
 pub returns-clause-close : goal.returns-clause-close
-returns-clause-close g c = λ close. (plain_does _ _ _ _ _ _ c.run_words.ensures.does (Command.Close close.0 false) close.1).by_run
+returns-clause-close g c = λ close. (plain_does c.run_words.ensures.does (Command.Close close.0 false) close.1).by_run
 
 pub returns-clause-ratio : goal.returns-clause-ratio
-returns-clause-ratio g c = λ ratio. (plain_does _ _ _ _ _ _ c.run_words.ensures.does (Command.Close ratio.0 true) ratio.1).by_run
+returns-clause-ratio g c = λ ratio. (plain_does c.run_words.ensures.does (Command.Close ratio.0 true) ratio.1).by_run
 
 pub returns-clause-check : goal.returns-clause-check
-returns-clause-check g c = λ check. (plain_does _ _ _ _ _ _ c.run_words.ensures.does Command.Check check).by_run
+returns-clause-check g c = λ check. (plain_does c.run_words.ensures.does Command.Check check).by_run
 
 pub returns-clause-accepted : goal.returns-clause-accepted
 returns-clause-accepted g c = λ check is.
     accepted_input (g.S.Source.tape c.args.source.now) (g.S.Source.tape c.run_words.new.source) (g.K.Sink.held c.args.sink.now) (g.K.Sink.held c.run_words.new.sink) c.run_words.result
-    (plain_does _ _ _ _ _ _ c.run_words.ensures.does Command.Check check).by_run is
+    (plain_does c.run_words.ensures.does Command.Check check).by_run is
+
+pub returns-clause-archive_put : goal.returns-clause-archive_put
+returns-clause-archive_put g c = λ put. (plain_does c.run_words.ensures.does (Command.ArchivePut put.0) put.1).by_run
+
+pub returns-clause-archive_list : goal.returns-clause-archive_list
+returns-clause-archive_list g c = λ q list. (plain_does c.run_words.ensures.does (Command.ArchiveList list.0 q.seat q.cid q.first q.last) list.1).by_run
+
+pub returns-clause-reconcile : goal.returns-clause-reconcile
+returns-clause-reconcile g c = λ name reconcile. (plain_does c.run_words.ensures.does (Command.Reconcile reconcile.0 name) reconcile.1).by_run
 
 pub returns-clause-help : goal.returns-clause-help
-returns-clause-help g c = λ topic help. (plain_does _ _ _ _ _ _ c.run_words.ensures.does (Command.Help topic) help).by_run
+returns-clause-help g c = λ topic help. (plain_does c.run_words.ensures.does (Command.Help topic) help).by_run
 
 pub returns-clause-version : goal.returns-clause-version
-returns-clause-version g c = λ version. (plain_does _ _ _ _ _ _ c.run_words.ensures.does Command.Version version).by_run
+returns-clause-version g c = λ version. (plain_does c.run_words.ensures.does Command.Version version).by_run
 
 pub returns-clause-usage : goal.returns-clause-usage
-returns-clause-usage g c = λ is command.
-    plain_taken g.D.Disk (g.S.Source.tape c.args.source.now) (g.S.Source.tape c.run_words.new.source)
-    (g.K.Sink.held c.args.sink.now) (g.K.Sink.held c.run_words.new.sink) c.args.disk.now c.run_words.new.disk c.args.source.now c.run_words.new.source c.run_words.result c.args.words.now
-    c.run_words.ensures.does is command
+returns-clause-usage g c = λ is command. plain_taken c.run_words.ensures.does is command
 
 pub returns-clause-unasked : goal.returns-clause-unasked
-returns-clause-unasked g c = λ command plain nothing. (plain_does _ _ _ _ _ _ c.run_words.ensures.does command plain).unasked nothing
+returns-clause-unasked g c = λ command plain nothing. (plain_does c.run_words.ensures.does command plain).unasked nothing
 
 pub returns-clause-untouched : goal.returns-clause-untouched
-returns-clause-untouched g c = λ command plain left. (plain_does _ _ _ _ _ _ c.run_words.ensures.does command plain).untouched left
+returns-clause-untouched g c = λ command plain left. (plain_does c.run_words.ensures.does command plain).untouched left
+
+pub returns-clause-nothing_kept : goal.returns-clause-nothing_kept
+returns-clause-nothing_kept g c = λ command plain left. (plain_does c.run_words.ensures.does command plain).nothing_kept left
 
 pub returns-clause-outputs : goal.returns-clause-outputs
 returns-clause-outputs g c = has_outputs
@@ -71,3 +81,23 @@ returns-clause-one_document g c = one_document
 
 pub returns-clause-one_guarantee : goal.returns-clause-one_guarantee
 returns-clause-one_guarantee g c = one_guarantee
+
+pub returns-clause-keeper_fault : goal.returns-clause-keeper_fault
+returns-clause-keeper_fault g c = λ words is. elim words [
+  | inl put ↦
+      put_fault g.S.Source g.K.Sink g.P.Keeper c.args.source.now c.run_words.new.source c.args.sink.now c.run_words.new.sink c.args.keeper.now c.run_words.new.keeper c.run_words.result
+      (plain_does c.run_words.ensures.does (Command.ArchivePut put.0) put.1).by_run is
+  | inr (q, list) ↦
+      list_fault g.P.Keeper q c.args.keeper.now c.run_words.new.keeper (g.K.Sink.held c.args.sink.now) (g.K.Sink.held c.run_words.new.sink) c.run_words.result
+      (plain_does c.run_words.ensures.does (Command.ArchiveList list.0 q.seat q.cid q.first q.last) list.1).by_run is
+]
+
+pub returns-clause-keeper_passed : goal.returns-clause-keeper_passed
+returns-clause-keeper_passed g c = λ words never unput. elim words [
+  | inl put ↦
+      put_passed g.S.Source g.K.Sink g.P.Keeper c.args.source.now c.run_words.new.source c.args.sink.now c.run_words.new.sink c.args.keeper.now c.run_words.new.keeper c.run_words.result
+      (plain_does c.run_words.ensures.does (Command.ArchivePut put.0) put.1).by_run never unput
+  | inr (q, list) ↦
+      list_passed g.P.Keeper q c.args.keeper.now c.run_words.new.keeper (g.K.Sink.held c.args.sink.now) (g.K.Sink.held c.run_words.new.sink) c.run_words.result
+      (plain_does c.run_words.ensures.does (Command.ArchiveList list.0 q.seat q.cid q.first q.last) list.1).by_run never unput
+]

@@ -7,4 +7,4 @@ returns-in-Ok-clause-does g c = (c.in-Ok.read, c.in-Ok.ensures.other, c.run.ensu
 
 pub returns-in-Err-clause-does : goal.returns-in-Err-clause-does
 returns-in-Err-clause-does g c =
-    does_unstarted g.D.Disk (g.S.Source.tape c.args.source.now) (g.K.Sink.held c.args.sink.now) c.args.disk.now c.args.source.now c.args.words.now
+    does_unstarted g.S.Source g.K.Sink g.D.Disk g.P.Keeper c.args.source.now c.args.sink.now c.args.disk.now c.args.keeper.now c.args.words.now

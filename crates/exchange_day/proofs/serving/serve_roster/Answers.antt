@@ -3,7 +3,7 @@ use Rattle.std.proofs.Common.{◌∙◌, inl, inr, refl, ap, subst, rules, Err}
 use Rattle.std.proofs.lemmas.Result.{err_from_is_err_and}
 use Rattle.std.specs.Borrow.{MutBor}
 use Rattle.adx_io.specs.TalkState.{state_of}
-use Rattle.script_day.proofs.Lent.{course_lent}
+use Rattle.desk_runs.proofs.Lent.{course_lent}
 use Rattle.script_day.proofs.Told.{left_behind}
 use Rattle.script_day.proofs.Unopened.{gave_up}
 use Rattle.exchange_day.proofs.Connected.{connection_lent}

@@ -2,11 +2,11 @@
 use Rattle.std.proofs.Common.{◌⊎◌, inl, inr, ◌∙◌, [], refl, string_bytes}
 use Rattle.std.proofs.lemmas.Result.{IfOk-weaker}
 use Rattle.day_rules.specs.Replies.{ask}
-use Rattle.script_day.proofs.AnsweredCalls.{on_err}
+use Rattle.desk_runs.proofs.ToldAnswers.{on_err}
 use Rattle.exchange_http.proofs.AskRuns.{asked_none, asked_ticked, asked_unticked, err_on, stopped_ticked, stopped_unticked, ticked_legal}
 use Rattle.exchange_http.specs.Asking.{LeavesCall, StopsAt}
 use Rattle.exchange_messages.specs.Courses.{reply_of}
-use Rattle.exchange_http.specs.Records.{RunsOn}
+use Rattle.desk_runs.specs.Records.{RunsOn}
 use Rattle.exchange_http.specs.Serving.{IsMomentOf}
 use Rattle.exchange_http.proofs.asking.ask_now.Goals as goal
 

@@ -3,7 +3,7 @@ use Rattle.std.proofs.lemmas.Result.{IfOk-weaker}
 use Rattle.adx_json.specs.View.{tree_of}
 use Rattle.day_rules.specs.Replies.{seen_in}
 use Rattle.fan_out.specs.Lanes.{IsWorked}
-use Rattle.script_day.proofs.AnsweredCalls.{on_err}
+use Rattle.desk_runs.proofs.ToldAnswers.{on_err}
 use Rattle.exchange_http.proofs.Requested.{asked_spelled, gathered_new, gathered_other, gathered_same, left_new, looked_up}
 use Rattle.exchange_http.proofs.asking.gather.Goals as goal
 

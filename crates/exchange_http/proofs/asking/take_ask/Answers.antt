@@ -2,7 +2,7 @@
 use Rattle.std.proofs.Common.{Option, string_bytes, subst, sym}
 use Rattle.std.proofs.lemmas.Result.{IfOk-weaker}
 use Rattle.day_rules.specs.declared.ask.Ask.{Ask}
-use Rattle.script_day.proofs.AnsweredCalls.{on_err}
+use Rattle.desk_runs.proofs.ToldAnswers.{on_err}
 use Rattle.day_rules.specs.Replies.{ask}
 use Rattle.exchange_http.proofs.AskRuns.{ask_left, ask_taken, done_fits, formed_here}
 use Rattle.exchange_http.proofs.CallRuns.{call_refused, fault_left, fault_taken}

@@ -2,7 +2,7 @@
 use Rattle.std.proofs.Common.{string_bytes, sym}
 use Rattle.std.proofs.lemmas.Result.{IfOk-weaker}
 use Rattle.day_rules.specs.Replies.{set_budget}
-use Rattle.script_day.proofs.AnsweredCalls.{on_err}
+use Rattle.desk_runs.proofs.ToldAnswers.{on_err}
 use Rattle.script_lines.specs.Changes.{change_told}
 use Rattle.exchange_http.proofs.CallRuns.{call_refused, change_left, change_taken, fault_left, fault_taken}
 use Rattle.exchange_http.specs.Asking.{LeavesCall}

@@ -5,7 +5,7 @@ use Rattle.script_lines.specs.declared.refusal.Refusal.{Refusal}
 use Rattle.script_day.specs.declared.limits.TheConstants.{LINE_LIMIT}
 use Rattle.script_day.specs.Answering.{LeavesUnwritten}
 use Rattle.script_day.proofs.AnswerLaws.{answered_kept, dropped_line, line_refused, unwritten_kept}
-use Rattle.script_day.proofs.AnsweredCalls.{on_err}
+use Rattle.desk_runs.proofs.ToldAnswers.{on_err}
 use Rattle.script_day.proofs.answering.answer_line.Goals as goal
 
 pub returns-in_ok-answer_text-in-Some-clause-answered : goal.returns-in_ok-answer_text-in-Some-clause-answered

@@ -7,7 +7,7 @@ use Rattle.script_lines.specs.Meanings.{LineMeans, calls, refused}
 use Rattle.script_day.specs.declared.limits.TheConstants.{LINE_LIMIT}
 use Rattle.script_day.specs.Answering.{AnswersCall, LeavesUnwritten}
 use Rattle.script_day.proofs.AnswerLaws.{budgets_counted, call_answered, call_unwritten, line_refused}
-use Rattle.script_day.proofs.AnsweredCalls.{on_err}
+use Rattle.desk_runs.proofs.ToldAnswers.{on_err}
 use Rattle.script_day.proofs.answering.answer_text.Goals as goal
 
 pub answer_call-requires : goal.answer_call-requires

@@ -6,8 +6,9 @@ use Rattle.adx_io.specs.TalkState.{state_of}
 use Rattle.adx_desk.specs.Histories.{DeskTerms}
 use Rattle.adx_desk.specs.Rosters.{desk_terms}
 use Rattle.day_rules.specs.Legal.{IsLegal}
-use Rattle.script_day.proofs.DeskRuns.{desk_begins}
-use Rattle.script_day.proofs.Lent.{course_lent, script_lent}
+use Rattle.desk_runs.proofs.DeskRuns.{desk_begins}
+use Rattle.desk_runs.proofs.Lent.{course_lent}
+use Rattle.script_day.proofs.Lent.{script_lent}
 use Rattle.script_day.proofs.script.run_day.Goals as goal
 
 pub returns-in-Ok-clause-ends : goal.returns-in-Ok-clause-ends

@@ -7,7 +7,7 @@ use Rattle.day_meters.specs.DayMeters.{meters_after}
 use Rattle.fan_out.specs.Lanes.{IsWorked}
 use Rattle.http_connection.specs.Messages.{Request}
 use Rattle.http_service.specs.declared.answer.Answer.{Answer}
-use Rattle.script_day.proofs.AnsweredCalls.{on_err}
+use Rattle.desk_runs.proofs.ToldAnswers.{on_err}
 use Rattle.exchange_http.proofs.AskRuns.{err_on}
 use Rattle.exchange_http.proofs.Requested.{books_answered, meters_answered, nothing_done, refused_answered}
 use Rattle.exchange_messages.specs.Courses.{reply_of}

@@ -5,7 +5,7 @@ use Rattle.day_rules.specs.Replies.{set_budget}
 use Rattle.fan_out.specs.Lanes.{IsWorked}
 use Rattle.http_connection.specs.Messages.{Request}
 use Rattle.http_service.specs.declared.answer.Answer.{Answer}
-use Rattle.script_day.proofs.AnsweredCalls.{on_err}
+use Rattle.desk_runs.proofs.ToldAnswers.{on_err}
 use Rattle.script_lines.specs.Changes.{change_told}
 use Rattle.exchange_http.proofs.AskRuns.{err_on}
 use Rattle.exchange_http.proofs.Changes.{change_is, no_change}

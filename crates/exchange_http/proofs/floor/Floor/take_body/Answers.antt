@@ -6,7 +6,7 @@ use Rattle.adx_json.specs.declared.fault.JsonFault.{JsonFault}
 use Rattle.fan_out.specs.Lanes.{IsWorked}
 use Rattle.http_connection.specs.Messages.{Request}
 use Rattle.http_service.specs.declared.answer.Answer.{Answer}
-use Rattle.script_day.proofs.AnsweredCalls.{on_err}
+use Rattle.desk_runs.proofs.ToldAnswers.{on_err}
 use Rattle.exchange_http.proofs.AskRuns.{err_on}
 use Rattle.exchange_http.proofs.Requested.{nothing_done, refused_answered}
 use Rattle.exchange_messages.specs.Courses.{reply_of}

@@ -8,7 +8,7 @@ use Rattle.fan_out.specs.Lanes.{IsWorked}
 use Rattle.http_connection.specs.Messages.{Request}
 use Rattle.http_service.specs.declared.answer.Answer.{Answer}
 use Rattle.rtb_request.specs.ForBidders.{request_for_bidders}
-use Rattle.script_day.proofs.AnsweredCalls.{on_err}
+use Rattle.desk_runs.proofs.ToldAnswers.{on_err}
 use Rattle.exchange_http.proofs.AskRuns.{err_on}
 use Rattle.exchange_http.proofs.Requested.{floor_on, gathered_few, gathered_left, lanes_on, request_answered, request_dropped, request_runs, request_stopped, still_runs}
 use Rattle.exchange_messages.specs.Courses.{reply_of}

@@ -1,5 +1,0 @@
-pub mod Lines
-pub mod Reading
-pub mod Opened
-pub mod Posted
-pub mod Ends

@@ -1,3 +1,0 @@
-pub mod PostLines
-pub mod Notices
-pub mod Printing

@@ -1,0 +1,5 @@
+mod Order
+mod Cuts
+mod Least
+mod Walked
+mod Written

@@ -1,0 +1,4 @@
+pub mod Endings
+pub mod Keeps
+pub mod Lists
+pub mod Puts

@@ -1,0 +1,2 @@
+pub mod Bidders
+pub mod Serving

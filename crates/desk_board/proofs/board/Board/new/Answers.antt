@@ -1,0 +1,13 @@
+use Rattle.std.proofs.Common.{◌∙◌, arith}
+use Rattle.std.proofs.lemmas.Grind.{common_steps}
+use Rattle.desk_board.proofs.board.Board.new.Goals as goal
+
+pub loop-reader-preserved : goal.loop-reader-preserved
+loop-reader-preserved g c =
+    let was = c.loop-reader.invariant in
+    record {
+      taken = c.in_ok-reader.ensures.taken ∙ was.taken;
+      published = c.in_ok-reader.ensures.published ∙ was.published;
+      many = grind (arith, common_steps);
+      of = grind (arith, common_steps, was.of, c.in_ok-reader.ensures.same, c.in_ok-reader.ensures.of);
+    }

@@ -1,0 +1,14 @@
+pub mod Books
+pub mod DeskCalls
+pub mod DeskRuns
+pub mod DiskCounts
+pub mod Lent
+pub mod RunsCalls
+pub mod RunsCounts
+pub mod RunsJoined
+pub mod RunsOfCalls
+pub mod RunsOutcomes
+pub mod RunsRecords
+pub mod RunsTogether
+pub mod Terms
+pub mod ToldAnswers

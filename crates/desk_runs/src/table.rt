@@ -1,0 +1,44 @@
+//! The closing table of a desk's day.
+ghost use Rattle.std.specs.Prelude.{◌≡◌, ◌++◌, length, OnOk, string_bytes};
+ghost use Rattle.adx_desk.specs.Rosters.{desk_terms};
+ghost use Rattle.answer_lines.specs.Table.{closing_table};
+
+use adx_desk::Desk;
+use adx_io::Disk;
+use adx_units::OutOfMemory;
+use answer_lines::push_table;
+use deal_floor::{Campaign, Roster};
+
+/// Writes the closing table of a day with these campaigns.
+fn push_campaigns<D: Disk>(
+    out: &mut String,
+    desk: &Desk<D>,
+    campaigns: &[Campaign],
+) -> Result<(), OutOfMemory>
+    requires { length desk.now.desk.terms.day.budgets ≡ length campaigns.now }
+    ensures { OnOk result (string_bytes out.new ≡ string_bytes out.old ++ closing_table campaigns.now desk.now.desk.terms.day desk.now.desk.history) }
+{
+    push_table(
+        out,
+        campaigns,
+        desk.book(),
+        desk.ask_count(),
+        desk.entries(),
+    )?;
+    Ok(())
+}
+
+/// Writes the closing table of the day of a roster, behind what is there: a line for each campaign with its money, in units
+/// (millionths of a CPM dollar), in the roster's order, and a line with the counts of the desk's history. Where memory is
+/// refused, a part of the table may stand there.
+pub fn push_books<D: Disk>(
+    out: &mut String,
+    desk: &Desk<D>,
+    roster: &Roster,
+) -> Result<(), OutOfMemory>
+    requires { desk.now.desk.terms.day ≡ (desk_terms roster.now).day }
+    ensures { OnOk result (string_bytes out.new ≡ string_bytes out.old ++ closing_table roster.entry.now.campaigns (desk_terms roster.entry.now).day desk.now.desk.history) }
+{
+    push_campaigns(out, desk, roster.campaigns.as_slice())?;
+    Ok(())
+}

@@ -1,0 +1,5 @@
+mod PairsRead
+mod Escapes
+mod Queries
+mod Told
+mod ReadBack
