@@ -131,16 +131,26 @@ fn answer<R: Wait>(rt: &R, pair: &mut Pair, met: &Mutex<bool>) -> bool {
     true
 }
 
+/// No call.
+const NONE: &[u64] = &[];
+
+/// The first call.
+const FIRST: &[u64] = &[0];
+
+/// Which calls fail.
+fn first_where(fails: bool) -> &'static [u64] {
+    if fails { FIRST } else { NONE }
+}
+
 /// A new connection. `r`: the source fails at its first call. `x`: the sink does. Any other letter comes from the source.
 fn pair_of(alloc: Global, letter: u8) -> Result<Pair, OutOfMemory>
     ensures { IfOk result (λ p. IsNew (pair_told p)) }
 {
-    let first = [0];
-    let read_fails = if letter == b'r' { 1 } else { 0 };
-    let write_fails = if letter == b'x' { 1 } else { 0 };
+    let read_fails = first_where(letter == b'r');
+    let write_fails = first_where(letter == b'x');
     Ok((
-        MemorySource::new(alloc, &[letter], 0, &first[..read_fails])?,
-        MemorySink::new(alloc, 0, &first[..write_fails])?,
+        MemorySource::new(alloc, &[letter], 0, read_fails)?,
+        MemorySink::new(alloc, 0, write_fails)?,
     ))
 }
 
