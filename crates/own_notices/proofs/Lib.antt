@@ -3,3 +3,9 @@ mod Escapes
 mod Queries
 mod Told
 mod ReadBack
+mod Named
+mod Templates
+mod UrlParts
+mod UrlQueries
+mod Bases
+mod Whole

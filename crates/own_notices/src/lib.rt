@@ -1,7 +1,8 @@
 //! What a bidder reads of the notices that an exchange sends it.
 //!
-//! One law of the definitions of `notice_macros`, `bidder_core` and `bidder_http`: a bidder reads of the query of its own
-//! notice just what was put there (`specs/OwnNotices`). Nothing is computed here.
+//! Laws of the definitions of `notice_macros`, `bidder_core` and `bidder_http`: the exchange makes of a bidder's own template
+//! the base, the page and a query; a URL with that query has just that query; the bidder reads of it just what was put there;
+//! and the three of them in one (`specs/OwnNotices`). Nothing is computed here.
 #![tactic(auto)]
 
 mod law;

@@ -1,0 +1,5 @@
+mod Order
+mod Same
+mod OneText
+mod Agreed
+mod Sums
