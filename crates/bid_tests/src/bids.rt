@@ -33,17 +33,27 @@ fn bytes_of(alloc: Global, text: &str) -> Result<Vec<u8>, OutOfMemory> {
     Ok(bytes)
 }
 
+/// No call.
+const NONE: &[u64] = &[];
+
+/// The first call.
+const FIRST: &[u64] = &[0];
+
+/// Which calls fail.
+fn first_where(fails: bool) -> &'static [u64] {
+    if fails { FIRST } else { NONE }
+}
+
 /// A new connection that brings this. Where it begins with `r` the source fails at its first call, and with `x` the sink.
 fn pair_of(alloc: Global, text: &str) -> Result<Pair, OutOfMemory>
     ensures { IfOk result (λ p. IsNew (pair_told p)) }
 {
-    let first = [0];
-    let read_fails = if text.starts_with('r') { 1 } else { 0 };
-    let write_fails = if text.starts_with('x') { 1 } else { 0 };
+    let read_fails = first_where(text.starts_with('r'));
+    let write_fails = first_where(text.starts_with('x'));
     let bytes = bytes_of(alloc, text.trim_start_matches(['r', 'x']))?;
     Ok((
-        MemorySource::new(alloc, &bytes, 0, &first[..read_fails])?,
-        MemorySink::new(alloc, 0, &first[..write_fails])?,
+        MemorySource::new(alloc, &bytes, 0, read_fails)?,
+        MemorySink::new(alloc, 0, write_fails)?,
     ))
 }
 
