@@ -1,0 +1,5 @@
+//! Tests of a bidder over connections, over public calls alone.
+#![tactic(auto)]
+
+#[cfg(test)]
+mod bids;

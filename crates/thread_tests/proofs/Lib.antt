@@ -1,0 +1,2 @@
+pub mod SmallSteps
+mod NewPairs
