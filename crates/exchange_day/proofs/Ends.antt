@@ -13,6 +13,7 @@ use Rattle.http_service.specs.Behind.{IsLeftAtEnd, IsLeftBehind}
 use Rattle.http_service.specs.Connections.{HasCauses as ConnCauses}
 use Rattle.desk_runs.specs.Courses.{given_up}
 use Rattle.script_day.specs.Firsts.{EndsRosterless, HasNoRoster, ReadsLine, StopsAt, StopsInLine}
+use Rattle.desk_runs.specs.Told.{told_of}
 use Rattle.desk_runs.specs.Meanings.{Told}
 use Rattle.script_day.specs.Output.{roster_refused_line}
 use Rattle.script_day.specs.Parts.{IsShortRoster, PutsEnd}
@@ -181,17 +182,17 @@ module _ {D : Type 0} (faults : D → ℕ) (reads : D → Option (List ℕ)) (ma
 
   module _ (tape tape_now : Option Tape) (held held_now : Option (List ℕ)) (old new : D) (result : Result (Unit {0}) Ending) where
     pub disk_risen : EndsExchange faults reads may_leave moment left_since tape tape_now held held_now old new result → result ≡ Err Ending.DiskFault → Rises (faults old) (faults new)
-    disk_risen (inl (r, behind, first, inl serves)) is = so_risen serves.end serves.course.told (faults old) (faults new) result serves.ends is
+    disk_risen (inl (r, behind, first, inl serves)) is = so_risen serves.end (told_of serves.course.steps) (faults old) (faults new) result serves.ends is
     disk_risen (inl (r, behind, first, inr (why, on_disk, gives, puts, left))) is = day_rises faults reads may_leave moment left_since (given_up r why) old new result gives on_disk is
     disk_risen (inr (same, inl (why, read, puts))) is = absurd (no_fault held held_now (roster_refused_line why) (Err Ending.Refused) result (λ e. cc e) puts is)
     disk_risen (inr (same, inr (stop, read, unwritten, ends))) is = absurd (cc (sym ends ∙ is))
 
     pub disk_stayed : EndsExchange faults reads may_leave moment left_since tape tape_now held held_now old new result → (result ≡ Ok tt) ⊎ (result ≡ Err Ending.NoHistory) → faults new ≡ faults old
-    disk_stayed (inl (r, behind, first, inl serves)) is = so_stayed serves.end serves.course.told (faults old) (faults new) result serves.ends is
+    disk_stayed (inl (r, behind, first, inl serves)) is = so_stayed serves.end (told_of serves.course.steps) (faults old) (faults new) result serves.ends is
     disk_stayed (inl (r, behind, first, inr (why, (gives_up, cause), gives, puts, left))) is = cause_stays (faults old) (faults new) why result gives cause (not_disk result is)
     disk_stayed (inr (same, ends)) is = ap faults same
 
     pub disk_since : EndsExchange faults reads may_leave moment left_since tape tape_now held held_now old new result → faults old ≤ faults new
-    disk_since (inl (r, behind, first, inl serves)) = counts_later serves.course.told (faults old) (faults new) serves.on_disk.counted
+    disk_since (inl (r, behind, first, inl serves)) = counts_later (told_of serves.course.steps) (faults old) (faults new) serves.on_disk.counted
     disk_since (inl (r, behind, first, inr (why, on_disk, gives, puts, left))) = day_later faults reads may_leave moment left_since (given_up r why) old new on_disk
     disk_since (inr (same, ends)) = omega (arith, ap faults same)

@@ -9,7 +9,10 @@ use Rattle.adx_desk.specs.Rosters.{desk_terms}
 use Rattle.adx_desk.specs.declared.fault.DeskFault.{DeskFault}
 use Rattle.day_rules.specs.declared.entry.Entry.{Entry}
 use Rattle.deal_floor.specs.declared.roster.Roster.{Roster}
-use Rattle.exchange_http.specs.Serving.{EndsWith, IsMomentOf}
+use Rattle.desk_calls.specs.Steps.{AreSteps, alone}
+use Rattle.desk_runs.specs.Told.{told_of}
+use Rattle.exchange_floor.specs.Floors.{IsMomentOf}
+use Rattle.exchange_http.specs.Serving.{EndsWith, Talked, talked}
 use Rattle.exchange_messages.specs.Courses.{AnswersOn, Course, GivesUpOn, begun}
 use Rattle.fan_out.specs.declared.lane.Lane.{Lane}
 use Rattle.http_connection.specs.declared.conn.ConnEnd.{ConnEnd}
@@ -22,7 +25,7 @@ use Rattle.desk_runs.specs.Courses.{HasNoDiskFault, given_up}
 use Rattle.script_day.specs.Endings.{LeftBehind}
 use Rattle.script_day.specs.Firsts.{HasNoRoster, StopsAt, StopsInLine}
 use Rattle.desk_runs.specs.Meanings.{Told}
-use Rattle.desk_runs.specs.OnDisk.{CourseOn}
+use Rattle.desk_runs.specs.OnDisk.{CourseOn, history_after}
 use Rattle.script_day.specs.Output.{roster_refused_line, unopened_line}
 use Rattle.script_day.specs.Parts.{IsShortRoster, PutsEnd}
 use Rattle.script_day.specs.declared.ending.Ending.{Ending}
@@ -68,9 +71,10 @@ EndsStopped tape tape_now held held_now result =
     × (held_now ≡ held) × (result ≡ Err (Ending.Stopped stop))
 
 -- how messages are answered where bidders answer by the texts of the roster and its moment is the clock's
-abbrev pub Answered : Roster → List Entry → List (Lane RosterLink) → Course RosterLink → Option Tape → Option Tape → Option (List ℕ) → Option (List ℕ) → ConnEnd → Type 0
-Answered r start lanes course behind behind_now held held_now end =
-    EndsWith (AnswersOn WorksByTexts (IsMomentOf (Some r.now)) r start) (GivesUpOn WorksByTexts (IsMomentOf (Some r.now)) r start) REQUEST_LIMIT behind behind_now held held_now (begun lanes) course end
+abbrev pub Answered : Roster → List (Lane RosterLink) → Course RosterLink → Talked → Talked → ConnEnd → Type 0
+Answered r lanes course before now end =
+    EndsWith (AnswersOn WorksByTexts (IsMomentOf (Some r.now)) r) (GivesUpOn WorksByTexts (IsMomentOf (Some r.now)) r) REQUEST_LIMIT
+    before.tape now.tape before.held now.held (begun lanes) course end
 
 module _ {D : Type 0} (faults : D → ℕ) (reads : D → Option (List ℕ)) (may_leave : D → List ℕ → Type 0) (moment : D → ℕ) (left_since : D → ℕ → List ℕ → Type 0) where
   -- A roster's day was opened on a disk, and the connection that comes behind its line was served on it.
@@ -83,11 +87,12 @@ module _ {D : Type 0} (faults : D → ℕ) (reads : D → Option (List ℕ)) (ma
     -- the bidders answer by the roster's texts, from the first on
     pub lanes_are : AreRosterLanes r lanes
     -- which messages came, what they were replied, and why no more were read
-    pub answered : Answered r start lanes course behind behind_now held held_now end
+    pub answered : Answered r lanes course (talked behind held) (talked behind_now held_now) end
     pub left : IsLeftBehind end behind_now tape_now
-    -- the calls of the messages, and what the disk keeps of them
-    pub on_disk : ServesTogether faults reads may_leave moment left_since (desk_terms r) start course.told old new
-    pub ends : EndsSo end course.told (faults old) (faults new) result
+    -- the steps of the messages, each at the history that those before it leave, and what the disk keeps of their calls
+    pub steps : AreSteps alone (desk_terms r) start course.steps (history_after (desk_terms r).day start (told_of course.steps))
+    pub on_disk : ServesTogether faults reads may_leave moment left_since (desk_terms r) start (told_of course.steps) old new
+    pub ends : EndsSo end (told_of course.steps) (faults old) (faults new) result
 
   -- Opening a roster's day gave up, and the line was put that says why, if there is one. No message was read.
   abbrev pub GivesUpBehind : Roster → Option Tape → Option Tape → Option (List ℕ) → Option (List ℕ) → D → D → Result (Unit {0}) Ending → Type 0

@@ -2,11 +2,13 @@
 use Rattle.std.specs.Prelude.{◌≡◌, ◌≢◌, ◌⊎◌, ℕ, List, Option, Some, Result, Ok, Err}
 use Rattle.adx_io.specs.Streams.{Tape, WhereTold}
 use Rattle.adx_io.specs.declared.stop.Stop.{Stop}
+use Rattle.adx_io.specs.declared.disk.Disk.{Ghosts as DiskGhosts}
+use Rattle.adx_links.specs.declared.link.Link.{Ghosts as LinkGhosts}
 use Rattle.adx_desk.specs.Desks.{OnDisk}
 use Rattle.deal_floor.specs.declared.roster.Roster.{Roster}
-use Rattle.exchange_http.specs.Serving.{IsMomentOf, ServesConnection}
+use Rattle.exchange_floor.specs.Floors.{IsMomentOf}
+use Rattle.exchange_http.specs.Serving.{ServesConnection, talked}
 use Rattle.fan_out.specs.declared.lane.Lane.{Lane}
-use Rattle.fan_out.specs.Lanes.{Outcome}
 use Rattle.http_connection.specs.declared.conn.ConnEnd.{ConnEnd}
 use Rattle.http_service.specs.Behind.{IsLeftBehind}
 use Rattle.script_day.specs.Endings.{LeftBehind}
@@ -29,10 +31,10 @@ EndsConn ConnEnd.Spent faults result = EndsReadOut faults result
 EndsConn ConnEnd.OutOfMemory faults result = result ≡ Err (Ending.Stopped Stop.OutOfMemory)
 
 -- the connection behind a roster's line was served on a desk, and the run ended so
-pub record ServesDesk {D L : Type 0} (faults : D → ℕ) (may_leave : D → List ℕ → Type 0) (moment : D → ℕ) (left_since : D → ℕ → List ℕ → Type 0) (Works : List ℕ → List ℕ → Lane L → Lane L → Outcome → Type 0) (r : Roster) (behind tape_now : Option Tape) (held held_now : Option (List ℕ)) (lanes lanes_now : List (Lane L)) (old new : OnDisk D) (result : Result (Unit {0}) Ending) : Type 0 where
+pub record ServesDesk {D L : Type 0} (d : DiskGhosts D) (l : LinkGhosts L) (r : Roster) (behind tape_now : Option Tape) (held held_now : Option (List ℕ)) (lanes lanes_now : List (Lane L)) (old new : OnDisk D) (result : Result (Unit {0}) Ending) : Type 0 where
   pub end : ConnEnd
   pub behind_now : Option Tape
-  pub serves : ServesConnection faults may_leave moment left_since Works (IsMomentOf (Some r.now)) r behind behind_now held held_now lanes lanes_now old new end
+  pub serves : ServesConnection d l (IsMomentOf (Some r.now)) r (talked behind held) (talked behind_now held_now) lanes lanes_now old new end
   pub left : IsLeftBehind end behind_now tape_now
   pub ends : EndsConn end new.desk.faults result
 

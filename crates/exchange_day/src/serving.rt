@@ -6,8 +6,8 @@ ghost use Rattle.adx_io.specs.TalkState.{place_of, state_of};
 ghost use Rattle.adx_io.specs.declared.line_buffer.TheConstants.{CHUNK};
 ghost use Rattle.adx_io.specs.declared.stop.Stop.TheVariants.{ReadFault, WriteFault};
 ghost use Rattle.adx_desk.specs.Rosters.{desk_terms};
-ghost use Rattle.exchange_http.specs.Serving.{AreLanes, IsMomentOf, ServesConnection};
-ghost use Rattle.fan_out.specs.Lanes.{IsWorked};
+ghost use Rattle.exchange_floor.specs.Floors.{AreLanes, IsMomentOf};
+ghost use Rattle.exchange_http.specs.Serving.{ServesConnection, talked};
 ghost use Rattle.http_connection.specs.declared.conn.ConnEnd.TheVariants.{ReadFault as ConnReadFault};
 ghost use Rattle.http_service.specs.Connections.{HasCauses as ConnCauses};
 ghost use Rattle.script_day.specs.Steps.{HasCauses};
@@ -20,7 +20,8 @@ use adx_desk::Desk;
 use adx_io::{Disk, LineBuffer, Lines, Sink, Source, Stop, Talk};
 use adx_links::Link;
 use deal_floor::Roster;
-use exchange_http::{FixedClock, serve_connection};
+use exchange_floor::FixedClock;
+use exchange_http::serve_connection;
 use fan_out::Lane;
 use http_connection::ConnEnd;
 use roster_links::roster_lanes;
@@ -62,7 +63,7 @@ fn clock_of(roster: &Roster) -> FixedClock
 }
 
 /// Serves the connection that comes behind what the buffer looked at.
-fn serve_rest<S: Source, K: Sink, D: Disk, L: Link>(
+fn serve_rest<S: Source, K: Sink, D: Disk, L: Link + Drop>(
     alloc: Global,
     roster: &Roster,
     desk: &mut Desk<D>,
@@ -78,7 +79,10 @@ fn serve_rest<S: Source, K: Sink, D: Disk, L: Link>(
     ensures last { TookLast (S.tape source.new) buffer.new.pending }
     ensures ahead { length buffer.new.pending ≤ CHUNK }
     ensures read_out { result ≡ ConnReadFault → buffer.new.pending ≡ [] }
-    ensures serves { ServesConnection D.faults D.may_leave D.moment D.left_since (IsWorked L.exchanges L.course L.faults L.place) (IsMomentOf (Some roster.entry.now.now)) roster.entry.now (tape_behind buffer.old.pending (S.tape source.old)) (tape_behind buffer.new.pending (S.tape source.new)) (K.held sink.old) (K.held sink.new) lanes.old.items lanes.new.items desk.old desk.new result }
+    ensures serves { ServesConnection D.Disk L.Link (IsMomentOf (Some roster.entry.now.now)) roster.entry.now
+        (talked (tape_behind buffer.old.pending (S.tape source.old)) (K.held sink.old))
+        (talked (tape_behind buffer.new.pending (S.tape source.new)) (K.held sink.new))
+        lanes.old.items lanes.new.items desk.old desk.new result }
     ensures causes { ConnCauses (S.faults source.old) (S.faults source.new) (K.faults sink.old) (K.faults sink.new) result }
     ensures lasts { D.lasts desk.old.disk desk.new.disk }
     ensures source_same { S.place source.new ≡ S.place source.old }
@@ -91,7 +95,7 @@ fn serve_rest<S: Source, K: Sink, D: Disk, L: Link>(
 }
 
 /// Serves the connection that comes behind the roster line, on the day's desk.
-fn serve_behind<S: Source, K: Sink, D: Disk, L: Link>(
+fn serve_behind<S: Source, K: Sink, D: Disk, L: Link + Drop>(
     alloc: Global,
     roster: &Roster,
     desk: &mut Desk<D>,
@@ -101,7 +105,9 @@ fn serve_behind<S: Source, K: Sink, D: Disk, L: Link>(
     requires terms { desk.old.desk.terms ≡ desk_terms roster.now }
     requires lanes { AreLanes roster.now lanes.old.items }
     requires ahead { length talk.old.buffer.now.pending ≤ CHUNK }
-    ensures ends { ServesDesk D.faults D.may_leave D.moment D.left_since (IsWorked L.exchanges L.course L.faults L.place) roster.entry.now (state_of talk.old).tape (S.tape talk.new.source.now) (K.held talk.old.sink.now) (K.held talk.new.sink.now) lanes.old.items lanes.new.items desk.old desk.new result }
+    ensures ends { ServesDesk D.Disk L.Link roster.entry.now
+        (state_of talk.old).tape (S.tape talk.new.source.now) (K.held talk.old.sink.now) (K.held talk.new.sink.now)
+        lanes.old.items lanes.new.items desk.old desk.new result }
     ensures causes { HasCauses (state_of talk.old) (state_of talk.new) result }
     ensures lasts { D.lasts desk.old.disk desk.new.disk }
     ensures same { place_of talk.new ≡ place_of talk.old }
@@ -127,7 +133,9 @@ fn serve_roster<S: Source, K: Sink, D: Disk>(
 ) -> Result<(), Ending>
     requires unwritten { (state_of talk.old).out ≡ [] }
     requires ahead { length talk.old.buffer.now.pending ≤ CHUNK }
-    ensures ends { EndsRoster D.faults D.reads D.may_leave D.moment D.left_since roster.entry.now (state_of talk.old).tape (S.tape talk.new.source.now) (K.held talk.old.sink.now) (K.held talk.new.sink.now) disk.old disk.new result }
+    ensures ends { EndsRoster D.faults D.reads D.may_leave D.moment D.left_since
+        roster.entry.now (state_of talk.old).tape (S.tape talk.new.source.now)
+        (K.held talk.old.sink.now) (K.held talk.new.sink.now) disk.old disk.new result }
     ensures lasts { D.lasts disk.old disk.new }
     ensures causes { HasCauses (state_of talk.old) (state_of talk.new) result }
     ensures same { place_of talk.new ≡ place_of talk.old }
@@ -155,7 +163,9 @@ fn serve<S: Source, K: Sink, D: Disk>(
 ) -> Result<(), Ending>
     requires unwritten { (state_of talk.old).out ≡ [] }
     requires whole { (state_of talk.old).allowed ≡ input_limit }
-    ensures ends { EndsExchange D.faults D.reads D.may_leave D.moment D.left_since (state_of talk.old).tape (S.tape talk.new.source.now) (K.held talk.old.sink.now) (K.held talk.new.sink.now) disk.old disk.new result }
+    ensures ends { EndsExchange D.faults D.reads D.may_leave D.moment D.left_since
+        (state_of talk.old).tape (S.tape talk.new.source.now) (K.held talk.old.sink.now) (K.held talk.new.sink.now)
+        disk.old disk.new result }
     ensures lasts { D.lasts disk.old disk.new }
     ensures causes { HasCauses (state_of talk.old) (state_of talk.new) result }
     ensures same { place_of talk.new ≡ place_of talk.old }
@@ -183,7 +193,8 @@ pub fn serve_exchange<S: Source, K: Sink, D: Disk>(
     sink: &mut K,
     disk: &mut D,
 ) -> Result<(), Ending>
-    ensures ends { EndsExchange D.faults D.reads D.may_leave D.moment D.left_since (S.tape source.old) (S.tape source.new) (K.held sink.old) (K.held sink.new) disk.old disk.new result }
+    ensures ends { EndsExchange D.faults D.reads D.may_leave D.moment D.left_since
+        (S.tape source.old) (S.tape source.new) (K.held sink.old) (K.held sink.new) disk.old disk.new result }
     ensures lasts { D.lasts disk.old disk.new }
     ensures disk_fault { result ≡ Err FaultOfDisk → Rises (D.faults disk.old) (D.faults disk.new) }
     ensures disk_passed { (result ≡ Ok tt) ⊎ (result ≡ Err NoHistory) → D.faults disk.new ≡ D.faults disk.old }

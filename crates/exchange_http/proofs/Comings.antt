@@ -2,7 +2,7 @@
 use Rattle.std.proofs.Common.{◌≡◌, inl, inr, ℕ, suc, ◌<◌, List, [], ◌∷◌, ◌++◌, length, Bool, true, false, All, Option, Some, None, Ok, Err, refl, sym, ap, ◌∙◌, subst, arith, append_assoc, length-append}
 use Rattle.std.proofs.lemmas.List.Elements.{All-nil}
 use Rattle.adx_io.specs.Streams.{Tape, WhereTold}
-use Rattle.adx_desk.specs.Desks.{OnDisk}
+use Rattle.desk_calls.specs.declared.day_desk.DayDesk.{Ghosts as DeskGhosts}
 use Rattle.day_rules.specs.Laws.{Arrival}
 use Rattle.deal_floor.specs.declared.roster.Roster.{Roster}
 use Rattle.fan_out.specs.declared.lane.Lane.{Lane}
@@ -167,16 +167,16 @@ none_came tape = record { many = refl; few = omega arith; fits = omega arith; st
     same (Some t) = refl
 
 -- a connection that is under way over what came otherwise
-pub came_otherwise : {D L : Type 0} (faults : D → ℕ) (may_leave : D → List ℕ → Type 0) (moment : D → ℕ) (left_since : D → ℕ → List ℕ → Type 0) (Works : List ℕ → List ℕ → Lane L → Lane L → Outcome → Type 0) (IsMoment : ℕ → Type 0) (r : Roster)
-    (start : OnDisk D) (lanes : List (Lane L)) (tape tape_old tape_now : Option Tape) (c c_now : Coming) (before : Option (List ℕ)) (now : OnDisk D) (lanes_now : List (Lane L)) (notices : List Arrival) (close : Bool) (held : Option (List ℕ)) (least waiting : ℕ)
+pub came_otherwise : {Y L : Type 0} (y : DeskGhosts Y) (Works : List ℕ → List ℕ → Lane L → Lane L → Outcome → Type 0) (IsMoment : ℕ → Type 0) (r : Roster)
+    (start : Y) (lanes : List (Lane L)) (tape tape_old tape_now : Option Tape) (c c_now : Coming) (before : Option (List ℕ)) (now : Y) (lanes_now : List (Lane L)) (notices : List Arrival) (close : Bool) (held : Option (List ℕ)) (least waiting : ℕ)
     → ((ms : List Request) → CameSo tape tape_old c ms → CameSo tape tape_now c_now ms) → ((ms : List Request) → MayFail tape tape_old ms → MayFail tape tape_now ms)
-    → IsUnderWay faults may_leave moment left_since Works IsMoment r start lanes tape tape_old c before now lanes_now notices close held least waiting
-    → IsUnderWay faults may_leave moment left_since Works IsMoment r start lanes tape tape_now c_now before now lanes_now notices close held least waiting
-came_otherwise faults may_leave moment left_since Works IsMoment r start lanes tape tape_old tape_now c c_now before now lanes_now notices close held least waiting came may w = record {
-  told = w.told;
+    → IsUnderWay y Works IsMoment r start lanes tape tape_old c before now lanes_now notices close held least waiting
+    → IsUnderWay y Works IsMoment r start lanes tape tape_now c_now before now lanes_now notices close held least waiting
+came_otherwise y Works IsMoment r start lanes tape tape_old tape_now c c_now before now lanes_now notices close held least waiting came may w = record {
+  steps = w.steps;
   requests = w.requests;
   late = w.late;
-  runs = w.runs;
+  ran = w.ran;
   came = came (w.requests ++ w.late) w.came;
   cut = may w.requests w.cut;
   waits = w.waits;

@@ -3,7 +3,7 @@ use Rattle.std.proofs.Common.{◌≡◌, inr, ℕ, ◌≤◌, List, [], ◌++◌
 use Rattle.std.specs.Io.KnownBytes.{append_known}
 use Rattle.adx_io.specs.Streams.{Rises, Tape, Took}
 use Rattle.adx_io.specs.declared.failed.Failed.{Failed}
-use Rattle.adx_desk.specs.Desks.{OnDisk}
+use Rattle.desk_calls.specs.declared.day_desk.DayDesk.{Ghosts as DeskGhosts}
 use Rattle.deal_floor.specs.declared.roster.Roster.{Roster}
 use Rattle.fan_out.specs.declared.lane.Lane.{Lane}
 use Rattle.fan_out.specs.Lanes.{Outcome}
@@ -65,13 +65,13 @@ fails_refusing answers tape tape_now before held sunk s now ms least waiting fau
 abbrev as_end : ConnEnd → Result ConnEnd Failed
 as_end e = Ok e
 
-module _ {D L : Type 0} (faults : D → ℕ) (may_leave : D → List ℕ → Type 0) (moment : D → ℕ) (left_since : D → ℕ → List ℕ → Type 0) (Works : List ℕ → List ℕ → Lane L → Lane L → Outcome → Type 0) (IsMoment : ℕ → Type 0) (r : Roster) where
-  module _ (start : OnDisk D) (lanes : List (Lane L)) (tape tape_now : Option Tape) (before : Option (List ℕ)) (now : OnDisk D) (lanes_now : List (Lane L)) (held sunk : Option (List ℕ)) (least waiting : ℕ) where
+module _ {Y L : Type 0} (y : DeskGhosts Y) (Works : List ℕ → List ℕ → Lane L → Lane L → Outcome → Type 0) (IsMoment : ℕ → Type 0) (r : Roster) where
+  module _ (start : Y) (lanes : List (Lane L)) (tape tape_now : Option Tape) (before : Option (List ℕ)) (now : Y) (lanes_now : List (Lane L)) (held sunk : Option (List ℕ)) (least waiting : ℕ) where
     abbrev Over_Way : Over → Type 0
-    Over_Way over = IsUnderWay faults may_leave moment left_since Works IsMoment r start lanes tape tape_now (ended over) before now lanes_now [] false held least waiting
+    Over_Way over = IsUnderWay y Works IsMoment r start lanes tape tape_now (ended over) before now lanes_now [] false held least waiting
 
     abbrev Over_Ends : ConnEnd → Type 0
-    Over_Ends = EndsHere faults may_leave moment left_since Works IsMoment r start lanes tape tape_now before now lanes_now sunk
+    Over_Ends = EndsHere y Works IsMoment r start lanes tape tape_now before now lanes_now sunk
 
     -- a connection that ends by a fault of its next message
     fault_ends : (fault : HttpFault) (end : ConnEnd) → Over_Way (Over.Fault fault) → EndsAt held sunk fault (Ok end) → Over_Ends end
@@ -80,47 +80,47 @@ module _ {D L : Type 0} (faults : D → ℕ) (may_leave : D → List ℕ → Typ
     fault_ends fault ConnEnd.Spent w e = absurd e
     fault_ends fault ConnEnd.OutOfMemory w e = absurd e
     fault_ends fault ConnEnd.Cut w e =
-        let answers = AnswersOn Works IsMoment r start.desk.history in
-        let c : Course L = record { told = w.told; lanes = lanes_now } in
-        let came : CameToFault tape tape_now w.requests HttpFault.Cut = subst (CameToFault tape tape_now w.requests) e.0 (none_late faults may_leave moment left_since Works IsMoment r start lanes tape tape_now (ended (Over.Fault fault)) before now lanes_now held least waiting w) in
-        (w.told, w.runs, (w.requests, all_served answers (begun lanes) c w.requests before held sunk least waiting w.replied e.1, came.0, came.1))
+        let answers = AnswersOn Works IsMoment r in
+        let c : Course L = record { steps = w.steps; lanes = lanes_now } in
+        let came : CameToFault tape tape_now w.requests HttpFault.Cut = subst (CameToFault tape tape_now w.requests) e.0 (none_late y Works IsMoment r start lanes tape tape_now (ended (Over.Fault fault)) before now lanes_now held least waiting w) in
+        (w.steps, w.ran, (w.requests, all_served answers (begun lanes) c w.requests before held sunk least waiting w.replied e.1, came.0, came.1))
     fault_ends fault ConnEnd.ReadFault w e =
-        let answers = AnswersOn Works IsMoment r start.desk.history in
-        let c : Course L = record { told = w.told; lanes = lanes_now } in
-        let came : CameToFault tape tape_now w.requests HttpFault.ReadFault = subst (CameToFault tape tape_now w.requests) e.0 (none_late faults may_leave moment left_since Works IsMoment r start lanes tape tape_now (ended (Over.Fault fault)) before now lanes_now held least waiting w) in
-        (w.told, w.runs, (w.requests, all_served answers (begun lanes) c w.requests before held sunk least waiting w.replied e.1, came.0, came.2))
+        let answers = AnswersOn Works IsMoment r in
+        let c : Course L = record { steps = w.steps; lanes = lanes_now } in
+        let came : CameToFault tape tape_now w.requests HttpFault.ReadFault = subst (CameToFault tape tape_now w.requests) e.0 (none_late y Works IsMoment r start lanes tape tape_now (ended (Over.Fault fault)) before now lanes_now held least waiting w) in
+        (w.steps, w.ran, (w.requests, all_served answers (begun lanes) c w.requests before held sunk least waiting w.replied e.1, came.0, came.2))
     fault_ends fault (ConnEnd.Refused f) w e =
-        let answers = AnswersOn Works IsMoment r start.desk.history in
-        let c : Course L = record { told = w.told; lanes = lanes_now } in
-        let came = none_late faults may_leave moment left_since Works IsMoment r start lanes tape tape_now (ended (Over.Fault fault)) before now lanes_now held least waiting w in (
-          w.told,
-          w.runs,
+        let answers = AnswersOn Works IsMoment r in
+        let c : Course L = record { steps = w.steps; lanes = lanes_now } in
+        let came = none_late y Works IsMoment r start lanes tape tape_now (ended (Over.Fault fault)) before now lanes_now held least waiting w in (
+          w.steps,
+          w.ran,
           subst (λ (g : HttpFault). Refuses answers REQUEST_LIMIT tape tape_now before sunk (begun lanes) c g) (sym e.0)
               (refuses answers tape tape_now before held sunk (begun lanes) c w.requests least waiting fault w.replied came e.1),
         )
 
     fault_fails : (fault : HttpFault) → Over_Way (Over.Fault fault) → WritesRefusal TookFront held sunk fault → Over_Ends ConnEnd.WriteFault
     fault_fails fault w e =
-        let answers = AnswersOn Works IsMoment r start.desk.history in
-        let c : Course L = record { told = w.told; lanes = lanes_now } in
-        let came = none_late faults may_leave moment left_since Works IsMoment r start lanes tape tape_now (ended (Over.Fault fault)) before now lanes_now held least waiting w in
-        (w.told, w.runs, inr (fault, fails_refusing answers tape tape_now before held sunk (begun lanes) c w.requests least waiting fault w.replied came e))
+        let answers = AnswersOn Works IsMoment r in
+        let c : Course L = record { steps = w.steps; lanes = lanes_now } in
+        let came = none_late y Works IsMoment r start lanes tape tape_now (ended (Over.Fault fault)) before now lanes_now held least waiting w in
+        (w.steps, w.ran, inr (fault, fails_refusing answers tape tape_now before held sunk (begun lanes) c w.requests least waiting fault w.replied came e))
 
     -- all replies were put, and then it ended
     pub over_ends : (over : Over) (end : ConnEnd) → Over_Way over → EndsOver held sunk over (Ok end) → Over_Ends end
     over_ends Over.Closed end w (is, same) =
-        let answers = AnswersOn Works IsMoment r start.desk.history in
-        let c : Course L = record { told = w.told; lanes = lanes_now } in
-        let came = none_late faults may_leave moment left_since Works IsMoment r start lanes tape tape_now (ended Over.Closed) before now lanes_now held least waiting w in
-        subst Over_Ends (sym (closed_is end is)) (w.told, w.runs, (w.requests, all_served answers (begun lanes) c w.requests before held sunk least waiting w.replied same, came))
+        let answers = AnswersOn Works IsMoment r in
+        let c : Course L = record { steps = w.steps; lanes = lanes_now } in
+        let came = none_late y Works IsMoment r start lanes tape tape_now (ended Over.Closed) before now lanes_now held least waiting w in
+        subst Over_Ends (sym (closed_is end is)) (w.steps, w.ran, (w.requests, all_served answers (begun lanes) c w.requests before held sunk least waiting w.replied same, came))
       where
         closed_is : (e : ConnEnd) → as_end e ≡ as_end ConnEnd.Closed → e ≡ ConnEnd.Closed
         closed_is e is = cc is
     over_ends Over.Spent end w (is, same) =
-        let answers = AnswersOn Works IsMoment r start.desk.history in
-        let c : Course L = record { told = w.told; lanes = lanes_now } in
-        let came = none_late faults may_leave moment left_since Works IsMoment r start lanes tape tape_now (ended Over.Spent) before now lanes_now held least waiting w in
-        subst Over_Ends (sym (spent_is end is)) (w.told, w.runs, (w.requests, all_served answers (begun lanes) c w.requests before held sunk least waiting w.replied same, came.0, came.1))
+        let answers = AnswersOn Works IsMoment r in
+        let c : Course L = record { steps = w.steps; lanes = lanes_now } in
+        let came = none_late y Works IsMoment r start lanes tape tape_now (ended Over.Spent) before now lanes_now held least waiting w in
+        subst Over_Ends (sym (spent_is end is)) (w.steps, w.ran, (w.requests, all_served answers (begun lanes) c w.requests before held sunk least waiting w.replied same, came.0, came.1))
       where
         spent_is : (e : ConnEnd) → as_end e ≡ as_end ConnEnd.Spent → e ≡ ConnEnd.Spent
         spent_is e is = cc is

@@ -5,20 +5,18 @@ use Rattle.std.proofs.lemmas.List.{take-append-drop}
 use Rattle.adx_http.specs.Written.{Writes, WritesBy}
 use Rattle.adx_http.specs.declared.reply.WriteFault.{WriteFault}
 use Rattle.adx_io.specs.Streams.{HasCause, Tape, Took}
-use Rattle.adx_desk.specs.Desks.{OnDisk}
+use Rattle.desk_calls.specs.Steps.{Step}
+use Rattle.desk_calls.specs.Together.{TakesNotices}
+use Rattle.desk_calls.specs.declared.day_desk.DayDesk.{Ghosts as DeskGhosts}
 use Rattle.day_rules.specs.Laws.{Arrival}
-use Rattle.day_rules.specs.Legal.{IsLegal}
 use Rattle.day_rules.specs.declared.answer.Answer.{Answer}
 use Rattle.deal_floor.specs.declared.roster.Roster.{Roster}
 use Rattle.fan_out.specs.declared.lane.Lane.{Lane}
 use Rattle.fan_out.specs.Lanes.{Outcome}
 use Rattle.notice_batches.specs.Batches.{BatchState, MayJoin, joined}
 use Rattle.exchange_http.specs.Gathered.{Moves, count_of}
-use Rattle.exchange_http.specs.Running.{Coming, FlushFails, Flushes, IsFloor, IsSettled, IsUnderWay, TakesNotices, outcomes_bytes}
-use Rattle.desk_runs.specs.Told.{told_all}
+use Rattle.exchange_http.specs.Running.{Coming, FlushFails, Flushes, IsSettled, IsUnderWay, outcomes_bytes}
 use Rattle.exchange_http.proofs.Gathered.{known_none}
-use Rattle.desk_runs.proofs.RunsCalls.{runs_legal}
-use Rattle.exchange_http.proofs.RunsOfNotices.{takes_none}
 
 -- no notice waits
 pub no_items : {T : Type 0} (items : List T) → length items ≡ 0 → items ≡ []
@@ -54,35 +52,34 @@ same_calls true old new x is clause = absurd (cc is)
 same_calls false old new x is clause = ap (λ (s : BatchState). s.calls) clause.1
 
 -- under way with the same notices, and behind the same last message
-pub way_notices : {D L : Type 0} {faults : D → ℕ} {may_leave : D → List ℕ → Type 0} {moment : D → ℕ} {left_since : D → ℕ → List ℕ → Type 0} {Works : List ℕ → List ℕ → Lane L → Lane L → Outcome → Type 0} {IsMoment : ℕ → Type 0} {r : Roster}
-    {start : OnDisk D} {lanes : List (Lane L)} {tape tape_now : Option Tape} {coming : Coming} {before : Option (List ℕ)} {now : OnDisk D} {lanes_now : List (Lane L)} {close : Bool} {held : Option (List ℕ)} {least waiting : ℕ}
+pub way_notices : {Y L : Type 0} {y : DeskGhosts Y} {Works : List ℕ → List ℕ → Lane L → Lane L → Outcome → Type 0} {IsMoment : ℕ → Type 0} {r : Roster}
+    {start : Y} {lanes : List (Lane L)} {tape tape_now : Option Tape} {coming : Coming} {before : Option (List ℕ)} {now : Y} {lanes_now : List (Lane L)} {close : Bool} {held : Option (List ℕ)} {least waiting : ℕ}
     (notices other : List Arrival) → notices ≡ other
-    → IsUnderWay faults may_leave moment left_since Works IsMoment r start lanes tape tape_now coming before now lanes_now notices close held least waiting
-    → IsUnderWay faults may_leave moment left_since Works IsMoment r start lanes tape tape_now coming before now lanes_now other close held least waiting
-way_notices {faults = faults} {may_leave = may_leave} {moment = moment} {left_since = left_since} {Works = Works} {IsMoment = IsMoment} {r = r} {start = start} {lanes = lanes} {tape = tape} {tape_now = tape_now} {coming = coming} {before = before} {now = now} {lanes_now = lanes_now} {close = close} {held = held} {least = least} {waiting = waiting} notices other same w =
-    subst (λ (l : List Arrival). IsUnderWay faults may_leave moment left_since Works IsMoment r start lanes tape tape_now coming before now lanes_now l close held least waiting) same w
+    → IsUnderWay y Works IsMoment r start lanes tape tape_now coming before now lanes_now notices close held least waiting
+    → IsUnderWay y Works IsMoment r start lanes tape tape_now coming before now lanes_now other close held least waiting
+way_notices {y = y} {Works = Works} {IsMoment = IsMoment} {r = r} {start = start} {lanes = lanes} {tape = tape} {tape_now = tape_now} {coming = coming} {before = before} {now = now} {lanes_now = lanes_now} {close = close} {held = held} {least = least} {waiting = waiting} notices other same w =
+    subst (λ (l : List Arrival). IsUnderWay y Works IsMoment r start lanes tape tape_now coming before now lanes_now l close held least waiting) same w
 
-pub way_close : {D L : Type 0} {faults : D → ℕ} {may_leave : D → List ℕ → Type 0} {moment : D → ℕ} {left_since : D → ℕ → List ℕ → Type 0} {Works : List ℕ → List ℕ → Lane L → Lane L → Outcome → Type 0} {IsMoment : ℕ → Type 0} {r : Roster}
-    {start : OnDisk D} {lanes : List (Lane L)} {tape tape_now : Option Tape} {coming : Coming} {before : Option (List ℕ)} {now : OnDisk D} {lanes_now : List (Lane L)} {notices : List Arrival} {held : Option (List ℕ)} {least waiting : ℕ}
+pub way_close : {Y L : Type 0} {y : DeskGhosts Y} {Works : List ℕ → List ℕ → Lane L → Lane L → Outcome → Type 0} {IsMoment : ℕ → Type 0} {r : Roster}
+    {start : Y} {lanes : List (Lane L)} {tape tape_now : Option Tape} {coming : Coming} {before : Option (List ℕ)} {now : Y} {lanes_now : List (Lane L)} {notices : List Arrival} {held : Option (List ℕ)} {least waiting : ℕ}
     (close other : Bool) → close ≡ other
-    → IsUnderWay faults may_leave moment left_since Works IsMoment r start lanes tape tape_now coming before now lanes_now notices close held least waiting
-    → IsUnderWay faults may_leave moment left_since Works IsMoment r start lanes tape tape_now coming before now lanes_now notices other held least waiting
-way_close {faults = faults} {may_leave = may_leave} {moment = moment} {left_since = left_since} {Works = Works} {IsMoment = IsMoment} {r = r} {start = start} {lanes = lanes} {tape = tape} {tape_now = tape_now} {coming = coming} {before = before} {now = now} {lanes_now = lanes_now} {notices = notices} {held = held} {least = least} {waiting = waiting} close other same w =
-    subst (λ (b : Bool). IsUnderWay faults may_leave moment left_since Works IsMoment r start lanes tape tape_now coming before now lanes_now notices b held least waiting) same w
+    → IsUnderWay y Works IsMoment r start lanes tape tape_now coming before now lanes_now notices close held least waiting
+    → IsUnderWay y Works IsMoment r start lanes tape tape_now coming before now lanes_now notices other held least waiting
+way_close {y = y} {Works = Works} {IsMoment = IsMoment} {r = r} {start = start} {lanes = lanes} {tape = tape} {tape_now = tape_now} {coming = coming} {before = before} {now = now} {lanes_now = lanes_now} {notices = notices} {held = held} {least = least} {waiting = waiting} close other same w =
+    subst (λ (b : Bool). IsUnderWay y Works IsMoment r start lanes tape tape_now coming before now lanes_now notices b held least waiting) same w
 
-module _ {D : Type 0} (faults : D → ℕ) (may_leave : D → List ℕ → Type 0) (moment : D → ℕ) (left_since : D → ℕ → List ℕ → Type 0) where
+module _ {Y : Type 0} (y : DeskGhosts Y) where
   -- nothing was to be taken
-  pub none_flushed : (close : Bool) (notices : List Arrival) (old : OnDisk D) (held : Option (List ℕ)) (least waiting : ℕ) → length notices ≡ 0 → IsLegal old.desk.terms.day old.desk.history
-      → ((c : List ℕ) → left_since old.disk (moment old.disk) c → may_leave old.disk c) → Flushes faults may_leave moment left_since close notices old old held held least waiting least waiting
-  none_flushed close notices old held least waiting none legal only_now =
-      subst (λ (l : List Arrival). Flushes faults may_leave moment left_since close l old old held held least waiting least waiting) (sym (no_items notices none))
-      (record { outcomes = []; takes = takes_none faults may_leave moment left_since old legal only_now; holds = sym (known_none held); moves = inl (omega arith, refl) })
+  pub none_flushed : (close : Bool) (notices : List Arrival) (old : Y) (held : Option (List ℕ)) (least waiting : ℕ) → length notices ≡ 0 → y.runs old old [] → Flushes y.runs close notices old old held held least waiting least waiting
+  none_flushed close notices old held least waiting none ran =
+      subst (λ (l : List Arrival). Flushes y.runs close l old old held held least waiting least waiting) (sym (no_items notices none))
+      (record { outcomes = []; takes = record { steps = []; are = refl; ran = ran }; holds = sym (known_none held); moves = inl (omega arith, refl) })
 
-  module _ (close : Bool) (count : ℕ) (notices : List Arrival) (old new : OnDisk D) (outcomes : List (Option Answer)) (held held_mid held_now : Option (List ℕ)) (least waiting least_mid waiting_mid least_now waiting_now : ℕ)
-      (many : count ≡ length notices) (takes : TakesNotices faults may_leave moment left_since old new notices outcomes) (same : held_mid ≡ held) (moves : Moves count held least waiting least_mid waiting_mid)
+  module _ (close : Bool) (count : ℕ) (notices : List Arrival) (old new : Y) (outcomes : List (Option Answer)) (held held_mid held_now : Option (List ℕ)) (least waiting least_mid waiting_mid least_now waiting_now : ℕ)
+      (many : count ≡ length notices) (takes : TakesNotices y.runs old new notices outcomes) (same : held_mid ≡ held) (moves : Moves count held least waiting least_mid waiting_mid)
       (waits : waiting_now ≡ waiting_mid) (leasts : least_now ≡ least_mid) where
     -- the replies were gathered
-    pub all_flushed : Took held_mid held_now (outcomes_bytes close outcomes) → Flushes faults may_leave moment left_since close notices old new held held_now least waiting least_now waiting_now
+    pub all_flushed : Took held_mid held_now (outcomes_bytes close outcomes) → Flushes y.runs close notices old new held held_now least waiting least_now waiting_now
     all_flushed took = record {
       outcomes = outcomes;
       takes = takes;
@@ -91,7 +88,7 @@ module _ {D : Type 0} (faults : D → ℕ) (may_leave : D → List ℕ → Type 
     }
 
     -- the sink failed within them
-    pub part_flushed : (fault : WriteFault) → Writes held_mid held_now (outcomes_bytes close outcomes) (Err fault) → FlushFails faults may_leave moment left_since close notices old new held held_now least waiting least_now waiting_now
+    pub part_flushed : (fault : WriteFault) → Writes held_mid held_now (outcomes_bytes close outcomes) (Err fault) → FlushFails y.runs close notices old new held held_now least waiting least_now waiting_now
     part_flushed fault written =
         let bytes = outcomes_bytes close outcomes in
         inr (
@@ -104,27 +101,15 @@ module _ {D : Type 0} (faults : D → ℕ) (may_leave : D → List ℕ → Type 
           moves_by count (length notices) held least waiting least_mid waiting_mid least_now waiting_now many moves waits leasts,
         )
 
-  -- the floor behind notices
-  pub floor_behind : {L : Type 0} (r : Roster) (old new : OnDisk D) (lanes : List (Lane L)) (notices : List Arrival) (outcomes : List (Option Answer)) → IsFloor r old lanes
-      → TakesNotices faults may_leave moment left_since old new notices outcomes → IsFloor r new lanes
-  floor_behind r old new lanes notices outcomes floor takes = record {
-    terms = takes.runs.terms ∙ floor.terms;
-    legal = runs_legal faults may_leave moment left_since old new (told_all notices outcomes) takes.runs;
-    lanes_are = floor.lanes_are;
-  }
+-- the steps of notices that were taken, whether their replies were gathered or not
+module _ {Y : Type 0} (runs : Y → Y → List Step → Type 0) (none : (d : Y) → runs d d []) where
+  pub failed_ran : (close : Bool) (notices : List Arrival) (old new : Y) (held held_now : Option (List ℕ)) (least waiting least_now waiting_now : ℕ) → FlushFails runs close notices old new held held_now least waiting least_now waiting_now
+      → (steps : List Step) × runs old new steps
+  failed_ran close notices old new held held_now least waiting least_now waiting_now (inl still) = ([], subst (λ (d : Y). runs old d []) (sym still.0) (none old))
+  failed_ran close notices old new held held_now least waiting least_now waiting_now (inr f) = (TakesNotices.steps f.1, TakesNotices.ran f.1)
 
-  pub floor_flushed : {L : Type 0} (r : Roster) (old new : OnDisk D) (lanes : List (Lane L)) (close : Bool) (notices : List Arrival) (held held_now : Option (List ℕ)) (least waiting least_now waiting_now : ℕ) → IsFloor r old lanes
-      → Flushes faults may_leave moment left_since close notices old new held held_now least waiting least_now waiting_now → IsFloor r new lanes
-  floor_flushed r old new lanes close notices held held_now least waiting least_now waiting_now floor f = floor_behind r old new lanes notices f.outcomes floor f.takes
-
-  pub floor_failed : {L : Type 0} (r : Roster) (old new : OnDisk D) (lanes : List (Lane L)) (close : Bool) (notices : List Arrival) (held held_now : Option (List ℕ)) (least waiting least_now waiting_now : ℕ) → IsFloor r old lanes
-      → FlushFails faults may_leave moment left_since close notices old new held held_now least waiting least_now waiting_now → IsFloor r new lanes
-  floor_failed {L = L} r old new lanes close notices held held_now least waiting least_now waiting_now floor (inl same) = subst (λ (d : OnDisk D). IsFloor r d lanes) (sym same.0) floor
-  floor_failed {L = L} r old new lanes close notices held held_now least waiting least_now waiting_now floor (inr f) = floor_behind r old new lanes notices f.0 floor f.1
-
-  -- the floor behind notices, whose replies were gathered or not
-  pub floor_after : {L T E : Type 0} (result : Result T E) (r : Roster) (old new : OnDisk D) (lanes : List (Lane L)) (close : Bool) (notices : List Arrival) (held held_now : Option (List ℕ)) (least waiting least_now waiting_now : ℕ) → IsFloor r old lanes
-      → OnOk result (Flushes faults may_leave moment left_since close notices old new held held_now least waiting least_now waiting_now)
-      → OnErr result (FlushFails faults may_leave moment left_since close notices old new held held_now least waiting least_now waiting_now) → IsFloor r new lanes
-  floor_after (Ok done) r old new lanes close notices held held_now least waiting least_now waiting_now floor done_so fails = floor_flushed r old new lanes close notices held held_now least waiting least_now waiting_now floor done_so
-  floor_after (Err e) r old new lanes close notices held held_now least waiting least_now waiting_now floor done_so fails = floor_failed r old new lanes close notices held held_now least waiting least_now waiting_now floor fails
+  pub flush_ran : {T E : Type 0} (result : Result T E) (close : Bool) (notices : List Arrival) (old new : Y) (held held_now : Option (List ℕ)) (least waiting least_now waiting_now : ℕ)
+      → OnOk result (Flushes runs close notices old new held held_now least waiting least_now waiting_now)
+      → OnErr result (FlushFails runs close notices old new held held_now least waiting least_now waiting_now) → (steps : List Step) × runs old new steps
+  flush_ran (Ok done) close notices old new held held_now least waiting least_now waiting_now f fails = (f.takes.steps, f.takes.ran)
+  flush_ran (Err e) close notices old new held held_now least waiting least_now waiting_now f fails = failed_ran close notices old new held held_now least waiting least_now waiting_now fails

@@ -1,10 +1,6 @@
 pub mod Along
-pub mod Answered
-pub mod AskRuns
 pub mod BatchCalls
-pub mod CallRuns
 pub mod Causes
-pub mod Changes
 pub mod Comings
 pub mod Ended
 pub mod Flushing
@@ -14,9 +10,6 @@ pub mod Nexts
 pub mod NoticeReplies
 pub mod OneMore
 pub mod OneReply
-pub mod Requested
-pub mod RunsOfNotices
 pub mod Served
-pub mod TakenAnswers
 pub mod UnderWay
 pub mod WrittenOutcomes

@@ -2,9 +2,8 @@
 use Rattle.std.proofs.Common.{◌≡◌, ℕ, suc, ◌<◌, ◌≤◌, List, [], ◌++◌, length, Bool, true, false, Option, Some, None, Ok, Err, refl, sym, ap, arith, subst, append-nil}
 use Rattle.std.proofs.lemmas.List.Elements.{All-nil}
 use Rattle.adx_io.specs.Streams.{Tape, WhereTold}
-use Rattle.adx_desk.specs.Desks.{OnDisk}
+use Rattle.desk_calls.specs.declared.day_desk.DayDesk.{Ghosts as DeskGhosts}
 use Rattle.day_rules.specs.Laws.{Arrival}
-use Rattle.day_rules.specs.Legal.{IsLegal}
 use Rattle.deal_floor.specs.declared.roster.Roster.{Roster}
 use Rattle.fan_out.specs.declared.lane.Lane.{Lane}
 use Rattle.fan_out.specs.Lanes.{Outcome}
@@ -25,7 +24,6 @@ use Rattle.exchange_http.specs.declared.over.Over.{Over}
 use Rattle.exchange_http.proofs.Comings.{all_came, came_otherwise, fails_later, fault_next, next_closes, next_stays, none_came, none_more}
 use Rattle.exchange_http.proofs.Ended.{over_ends}
 use Rattle.exchange_http.proofs.Gathered.{known_none}
-use Rattle.desk_runs.proofs.RunsCalls.{runs_none}
 use Rattle.exchange_http.proofs.UnderWay.{Way, may_fail}
 
 -- a message that the held bytes begin with comes first, whatever the source brings behind them
@@ -37,28 +35,28 @@ pub stands_still : (tape : Option Tape) → Advances tape tape
 stands_still None = refl
 stands_still (Some t) = ([], record { taken = sym (append-nil t.taken); left = refl })
 
-module _ {D L : Type 0} (faults : D → ℕ) (may_leave : D → List ℕ → Type 0) (moment : D → ℕ) (left_since : D → ℕ → List ℕ → Type 0) (Works : List ℕ → List ℕ → Lane L → Lane L → Outcome → Type 0) (IsMoment : ℕ → Type 0) (r : Roster) where
-  module _ (start : OnDisk D) (lanes : List (Lane L)) (tape tape_old tape_now : Option Tape) (ahead ahead_now : List ℕ) (count : ℕ) (before : Option (List ℕ)) (old : OnDisk D) (lanes_old : List (Lane L)) (notices : List Arrival) (held : Option (List ℕ)) (least waiting : ℕ) where
+module _ {Y L : Type 0} (y : DeskGhosts Y) (Works : List ℕ → List ℕ → Lane L → Lane L → Outcome → Type 0) (IsMoment : ℕ → Type 0) (r : Roster) where
+  module _ (start : Y) (lanes : List (Lane L)) (tape tape_old tape_now : Option Tape) (ahead ahead_now : List ℕ) (count : ℕ) (before : Option (List ℕ)) (old : Y) (lanes_old : List (Lane L)) (notices : List Arrival) (held : Option (List ℕ)) (least waiting : ℕ) where
     -- what is under way over what came so
     abbrev Now : Option Tape → Coming → Type 0
-    Now now coming = Way faults may_leave moment left_since Works IsMoment r start lanes tape now coming before old lanes_old notices false held least waiting
+    Now now coming = Way y Works IsMoment r start lanes tape now coming before old lanes_old notices false held least waiting
 
     -- the next message came, and stays
     stays : (m : Request) → is_kept m.head ≡ true → count < MESSAGE_LIMIT → BringsOne REQUEST_LIMIT ahead ahead_now tape_old tape_now m → Advances tape_old tape_now → Now tape_old (more ahead count) → Now tape_now (before_one m (more ahead_now (suc count)))
     stays m kept less one advances w =
-        came_otherwise faults may_leave moment left_since Works IsMoment r start lanes tape tape_old tape_now (more ahead count) (before_one m (more ahead_now (suc count))) before old lanes_old notices false held least waiting
+        came_otherwise y Works IsMoment r start lanes tape tape_old tape_now (more ahead count) (before_one m (more ahead_now (suc count))) before old lanes_old notices false held least waiting
         (λ ms came. next_stays tape tape_old tape_now ahead count ms ahead_now m came less one advances kept) (λ ms may. fails_later tape tape_old tape_now ms may advances) w
 
     -- or closes
     closes : (m : Request) → is_kept m.head ≡ false → count < MESSAGE_LIMIT → BringsOne REQUEST_LIMIT ahead ahead_now tape_old tape_now m → Advances tape_old tape_now → Now tape_old (more ahead count) → Now tape_now (before_one m (ended Over.Closed))
     closes m kept less one advances w =
-        came_otherwise faults may_leave moment left_since Works IsMoment r start lanes tape tape_old tape_now (more ahead count) (before_one m (ended Over.Closed)) before old lanes_old notices false held least waiting
+        came_otherwise y Works IsMoment r start lanes tape tape_old tape_now (more ahead count) (before_one m (ended Over.Closed)) before old lanes_old notices false held least waiting
         (λ ms came. next_closes tape tape_old tape_now ahead count ms ahead_now m came less one advances kept) (λ ms may. fails_later tape tape_old tape_now ms may advances) w
 
     -- the source ended
     pub ends_there : (c_now : ConnState) → count < MESSAGE_LIMIT → WhereTold tape_old tape_now (λ o n. GivesMessage REQUEST_LIMIT (ahead ++ o.left) (Ok None) (ahead_now ++ n.left)) → Advances tape_old tape_now → Now tape_old (more ahead count) → Now tape_now (ended Over.Closed)
     ends_there c_now less told advances w =
-        came_otherwise faults may_leave moment left_since Works IsMoment r start lanes tape tape_old tape_now (more ahead count) (ended Over.Closed) before old lanes_old notices false held least waiting
+        came_otherwise y Works IsMoment r start lanes tape tape_old tape_now (more ahead count) (ended Over.Closed) before old lanes_old notices false held least waiting
         (λ ms came. none_more tape tape_old tape_now ahead count ms ahead_now came less told advances) (λ ms may. fails_later tape tape_old tape_now ms may advances) w
 
     -- the next one is refused, or the source failed
@@ -66,18 +64,18 @@ module _ {D L : Type 0} (faults : D → ℕ) (may_leave : D → List ℕ → Typ
         → (fault ≡ HttpFault.ReadFault → WhereTold tape_old tape_now (λ o n. (given : List ℕ) × (o.left ≡ given ++ n.left) × IsUnfinishedRequest REQUEST_LIMIT (ahead ++ given)))
         → Now tape_old (more ahead count) → Now tape_now (ended (Over.Fault fault))
     faults_there fault less told advances unread w =
-        came_otherwise faults may_leave moment left_since Works IsMoment r start lanes tape tape_old tape_now (more ahead count) (ended (Over.Fault fault)) before old lanes_old notices false held least waiting
+        came_otherwise y Works IsMoment r start lanes tape tape_old tape_now (more ahead count) (ended (Over.Fault fault)) before old lanes_old notices false held least waiting
         (λ ms came. fault_next tape tape_old tape_now ahead count ms ahead_now fault came less told advances unread) (λ ms may. fails_later tape tape_old tape_now ms may advances) w
 
     -- by what the call answered, where no notice waits and all replies were put
     pub fault_gives : (fault : HttpFault) (sunk : Option (List ℕ)) (left : List ℕ) → count < MESSAGE_LIMIT → WhereTold tape_old tape_now (λ o n. GivesMessage REQUEST_LIMIT (ahead ++ o.left) (Err fault) (ahead_now ++ n.left)) → Advances tape_old tape_now
         → (fault ≡ HttpFault.ReadFault → WhereTold tape_old tape_now (λ o n. (given : List ℕ) × (o.left ≡ given ++ n.left) × IsUnfinishedRequest REQUEST_LIMIT (ahead ++ given)))
         → notices ≡ [] → sunk ≡ held → Now tape_old (more ahead count)
-        → StepGives faults may_leave moment left_since Works IsMoment r start lanes tape tape_now ahead_now (suc count) before old lanes_old notices held sunk least waiting (fault_over fault)
+        → StepGives y Works IsMoment r start lanes tape tape_now ahead_now (suc count) before old lanes_old notices held sunk least waiting (fault_over fault)
     fault_gives HttpFault.ReadFault sunk left less told advances unread none all w =
-        let came : Way faults may_leave moment left_since Works IsMoment r start lanes tape tape_now (ended (Over.Fault HttpFault.ReadFault)) before old lanes_old [] false held least waiting =
-        subst (λ (l : List Arrival). Way faults may_leave moment left_since Works IsMoment r start lanes tape tape_now (ended (Over.Fault HttpFault.ReadFault)) before old lanes_old l false held least waiting) none (faults_there HttpFault.ReadFault less told advances unread w) in
-        over_ends faults may_leave moment left_since Works IsMoment r start lanes tape tape_now before old lanes_old held sunk least waiting (Over.Fault HttpFault.ReadFault) ConnEnd.ReadFault came (refl, all)
+        let came : Way y Works IsMoment r start lanes tape tape_now (ended (Over.Fault HttpFault.ReadFault)) before old lanes_old [] false held least waiting =
+        subst (λ (l : List Arrival). Way y Works IsMoment r start lanes tape tape_now (ended (Over.Fault HttpFault.ReadFault)) before old lanes_old l false held least waiting) none (faults_there HttpFault.ReadFault less told advances unread w) in
+        over_ends y Works IsMoment r start lanes tape tape_now before old lanes_old held sunk least waiting (Over.Fault HttpFault.ReadFault) ConnEnd.ReadFault came (refl, all)
     fault_gives HttpFault.BadHead sunk left less told advances unread none all w = faults_there HttpFault.BadHead less told advances unread w
     fault_gives HttpFault.HeadTooLong sunk left less told advances unread none all w = faults_there HttpFault.HeadTooLong less told advances unread w
     fault_gives HttpFault.LengthRequired sunk left less told advances unread none all w = faults_there HttpFault.LengthRequired less told advances unread w
@@ -86,9 +84,9 @@ module _ {D L : Type 0} (faults : D → ℕ) (may_leave : D → List ℕ → Typ
     fault_gives HttpFault.Cut sunk left less told advances unread none all w = faults_there HttpFault.Cut less told advances unread w
     fault_gives HttpFault.Coding sunk left less told advances unread none all w = faults_there HttpFault.Coding less told advances unread w
 
-    module _ (new : OnDisk D) (lanes_new : List (Lane L)) (notices_now : List Arrival) (held_now : Option (List ℕ)) (least_now waiting_now : ℕ) (m : Request) where
+    module _ (new : Y) (lanes_new : List (Lane L)) (notices_now : List Arrival) (held_now : Option (List ℕ)) (least_now waiting_now : ℕ) (m : Request) where
       abbrev After : Coming → Type 0
-      After coming = Way faults may_leave moment left_since Works IsMoment r start lanes tape tape_now coming before new lanes_new notices_now false held_now least_now waiting_now
+      After coming = Way y Works IsMoment r start lanes tape tape_now coming before new lanes_new notices_now false held_now least_now waiting_now
 
       -- it was taken, and more may come
       pub next_on : is_kept m.head ≡ true → count < MESSAGE_LIMIT → BringsOne REQUEST_LIMIT ahead ahead_now tape_old tape_now m → Advances tape_old tape_now → ((coming : Coming) → Now tape_now (before_one m coming) → After coming) → Now tape_old (more ahead count)
@@ -109,22 +107,22 @@ module _ {D L : Type 0} (faults : D → ℕ) (may_leave : D → List ℕ → Typ
         by_kept false kept = step (ended Over.Closed) (closes m kept less one advances w)
 
   -- as many came as may, and nothing else changed
-  pub all_come : (start : OnDisk D) (lanes : List (Lane L)) (tape tape_now : Option Tape) (ahead : List ℕ) (count : ℕ) (before : Option (List ℕ)) (now : OnDisk D) (lanes_now : List (Lane L)) (notices : List Arrival) (held : Option (List ℕ)) (least waiting : ℕ) → count ≡ MESSAGE_LIMIT
-      → Way faults may_leave moment left_since Works IsMoment r start lanes tape tape_now (more ahead count) before now lanes_now notices false held least waiting
-      → Way faults may_leave moment left_since Works IsMoment r start lanes tape tape_now (ended Over.Spent) before now lanes_now notices false held least waiting
+  pub all_come : (start : Y) (lanes : List (Lane L)) (tape tape_now : Option Tape) (ahead : List ℕ) (count : ℕ) (before : Option (List ℕ)) (now : Y) (lanes_now : List (Lane L)) (notices : List Arrival) (held : Option (List ℕ)) (least waiting : ℕ) → count ≡ MESSAGE_LIMIT
+      → Way y Works IsMoment r start lanes tape tape_now (more ahead count) before now lanes_now notices false held least waiting
+      → Way y Works IsMoment r start lanes tape tape_now (ended Over.Spent) before now lanes_now notices false held least waiting
   all_come start lanes tape tape_now ahead count before now lanes_now notices held least waiting all w =
-      came_otherwise faults may_leave moment left_since Works IsMoment r start lanes tape tape_now tape_now (more ahead count) (ended Over.Spent) before now lanes_now notices false held least waiting
+      came_otherwise y Works IsMoment r start lanes tape tape_now tape_now (more ahead count) (ended Over.Spent) before now lanes_now notices false held least waiting
       (λ ms came. all_came tape tape_now ahead ms (subst (λ (n : ℕ). CameSo tape tape_now (more ahead n) ms) all came)) (λ ms may. may) w
 
   -- no message came yet
-  pub begins : (desk : OnDisk D) (lanes : List (Lane L)) (tape : Option Tape) (held : Option (List ℕ)) (left : List ℕ) (least waiting : ℕ) → IsLegal desk.desk.terms.day desk.desk.history
-      → ((c : List ℕ) → left_since desk.disk (moment desk.disk) c → may_leave desk.disk c) → IsSettled held left least
-      → Way faults may_leave moment left_since Works IsMoment r desk lanes tape tape (more [] 0) held desk lanes [] false held least waiting
-  begins desk lanes tape held left least waiting legal only_now settled = record {
-    told = [];
+  pub begins : (desk : Y) (lanes : List (Lane L)) (tape : Option Tape) (held : Option (List ℕ)) (left : List ℕ) (least waiting : ℕ) → y.runs desk desk []
+      → IsSettled held left least
+      → Way y Works IsMoment r desk lanes tape tape (more [] 0) held desk lanes [] false held least waiting
+  begins desk lanes tape held left least waiting ran settled = record {
+    steps = [];
     requests = [];
     late = [];
-    runs = runs_none faults may_leave moment left_since desk legal only_now;
+    ran = ran;
     came = none_came tape;
     cut = may_fail tape tape (more [] 0) [] (none_came tape);
     waits = tt;
@@ -144,9 +142,9 @@ module _ {D L : Type 0} (faults : D → ℕ) (may_leave : D → List ℕ → Typ
     };
   }
 
-  pub begins_on : (desk : OnDisk D) (lanes : List (Lane L)) (tape : Option Tape) (held : Option (List ℕ)) (left : List ℕ) (least waiting : ℕ) (ahead : List ℕ) (notices : List Arrival) → IsLegal desk.desk.terms.day desk.desk.history
-      → ((c : List ℕ) → left_since desk.disk (moment desk.disk) c → may_leave desk.disk c) → IsSettled held left least → ahead ≡ [] → notices ≡ []
-      → Way faults may_leave moment left_since Works IsMoment r desk lanes tape tape (more ahead 0) held desk lanes notices false held least waiting
-  begins_on desk lanes tape held left least waiting ahead notices legal only_now settled empty none =
-      subst (λ (l : List Arrival). Way faults may_leave moment left_since Works IsMoment r desk lanes tape tape (more ahead 0) held desk lanes l false held least waiting) (sym none)
-      (subst (λ (b : List ℕ). Way faults may_leave moment left_since Works IsMoment r desk lanes tape tape (more b 0) held desk lanes [] false held least waiting) (sym empty) (begins desk lanes tape held left least waiting legal only_now settled))
+  pub begins_on : (desk : Y) (lanes : List (Lane L)) (tape : Option Tape) (held : Option (List ℕ)) (left : List ℕ) (least waiting : ℕ) (ahead : List ℕ) (notices : List Arrival) → y.runs desk desk []
+      → IsSettled held left least → ahead ≡ [] → notices ≡ []
+      → Way y Works IsMoment r desk lanes tape tape (more ahead 0) held desk lanes notices false held least waiting
+  begins_on desk lanes tape held left least waiting ahead notices ran settled empty none =
+      subst (λ (l : List Arrival). Way y Works IsMoment r desk lanes tape tape (more ahead 0) held desk lanes l false held least waiting) (sym none)
+      (subst (λ (b : List ℕ). Way y Works IsMoment r desk lanes tape tape (more b 0) held desk lanes [] false held least waiting) (sym empty) (begins desk lanes tape held left least waiting ran settled))

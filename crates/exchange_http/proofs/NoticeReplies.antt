@@ -1,7 +1,8 @@
--- The replies to notices that were taken one after another.
+-- The replies to notices that were taken one after another, each by the history at which it was taken.
 use Rattle.std.proofs.Common.{◌≡◌, ℕ, List, [], ◌∷◌, ◌++◌, Bool, true, false, not, Option, Some, None, if◌then◌else◌, slice_get, refl, sym, ap, ◌∙◌, subst, append_assoc, append-nil}
 use Rattle.std.specs.List.{AllZip}
 use Rattle.std.proofs.lemmas.List.Elements.{All-head, All-tail}
+use Rattle.adx_http.specs.Targets.{path_of}
 use Rattle.answer_lines.specs.Answers.{ask_told}
 use Rattle.answer_lines.proofs.OfNoAsk.{notice_of_none}
 use Rattle.day_rules.specs.Laws.{Arrival}
@@ -10,6 +11,8 @@ use Rattle.day_rules.specs.Replies.{answered, is_of_auction, known_reply, notice
 use Rattle.day_rules.specs.declared.answer.Answer.{Answer}
 use Rattle.day_rules.specs.declared.entry.Entry.{Entry}
 use Rattle.deal_floor.specs.declared.roster.Roster.{Roster}
+use Rattle.desk_calls.specs.Steps.{Step, took}
+use Rattle.desk_calls.specs.Together.{AreNoticed, IsOutcome, noticed}
 use Rattle.fan_out.specs.declared.lane.Lane.{Lane}
 use Rattle.fan_out.specs.Lanes.{Outcome}
 use Rattle.http_connection.specs.Messages.{Request}
@@ -21,18 +24,13 @@ use Rattle.notice_book.specs.declared.award.Award.{Award}
 use Rattle.notice_book.specs.declared.kind.NoticeKind.{NoticeKind}
 use Rattle.notice_book.specs.declared.ruling.Ruling.{Ruling}
 use Rattle.notice_book.specs.Rules.{ruling_of}
-use Rattle.adx_http.specs.Targets.{path_of}
-use Rattle.desk_runs.specs.Meanings.{Told}
-use Rattle.desk_runs.specs.OnDisk.{history_after}
-use Rattle.desk_runs.proofs.DeskRuns.{history_append}
 use Rattle.exchange_messages.specs.Courses.{AnswersOn, Course}
 use Rattle.exchange_messages.specs.Meanings.{MeansBy, ServedMeans, notifies}
 use Rattle.exchange_messages.specs.Outcomes.{outcome_reply}
 use Rattle.exchange_messages.specs.Paths.{is_served, path_named}
-use Rattle.exchange_http.specs.Running.{AreOutcomes, IsOutcome, StayTo, Waits, outcome_bytes, outcomes_bytes}
-use Rattle.desk_runs.specs.Told.{told_all, told_by}
-use Rattle.exchange_messages.specs.Turns.{AnswerReplies, CallReplies, terms_by}
+use Rattle.exchange_messages.specs.Turns.{AnswerReplies, CallReplies}
 use Rattle.exchange_messages.specs.declared.path.Path.{Path}
+use Rattle.exchange_http.specs.Running.{StayTo, Waits, outcome_bytes, outcomes_bytes}
 
 -- the reply to a notice that was done is the one by its outcome
 abbrev IsSaid : Roster → DayReply → Type 0
@@ -56,12 +54,12 @@ notice_said : (r : Roster) (history : List Entry) (kind : NoticeKind) (auction :
 notice_said r history kind auction n = known_said r history kind auction n (slice_get (awards_of history) n)
 
 -- a notice with its outcome is replied so
-pub outcome_replies : (r : Roster) (history : List Entry) (x : Arrival) (o : Option Answer) → IsOutcome r history x o → CallReplies r history (told_by x o) (outcome_reply o)
-outcome_replies r history x None is = refl
-outcome_replies r history x (Some answer) is =
-    let a = notice_reply history x.kind x.auction x.award in
-    subst (λ (b : Answer). AnswerReplies r a.answer (ask_told (with_entry history a.entry) a.answer) (outcome_reply (Some b))) (sym is)
-    (subst (λ about. AnswerReplies r a.answer about (outcome_reply (Some a.answer))) (sym (notice_of_none history x.kind x.auction x.award)) (notice_said r history x.kind x.auction x.award))
+pub outcome_replies : (r : Roster) (at : List Entry) (x : Arrival) (o : Option Answer) → IsOutcome at x o → CallReplies r (noticed at x o) (outcome_reply o)
+outcome_replies r at x None is = refl
+outcome_replies r at x (Some answer) is =
+    let a = notice_reply at x.kind x.auction x.award in
+    subst (λ (b : Answer). AnswerReplies r a.answer (ask_told (with_entry at a.entry) a.answer) (outcome_reply (Some b))) (sym is)
+    (subst (λ about. AnswerReplies r a.answer about (outcome_reply (Some a.answer))) (sym (notice_of_none at x.kind x.auction x.award)) (notice_said r at x.kind x.auction x.award))
 
 -- a notice isn't asked by HEAD
 served_no_head : (path : Path) (v : Verb) (b : Bool) (request : Request) (kind : NoticeKind) (auction : List ℕ) (award : ℕ) → is_served path v ≡ b → ServedMeans b path request (notifies kind auction award) → is_head v ≡ false
@@ -115,59 +113,58 @@ last_stays true m (b ∷ before, last, is, kept, closes) = absurd (none before l
     none [] last is = cc is
     none (c ∷ before) last is = cc is
 
-module _ {L : Type 0} (Works : List ℕ → List ℕ → Lane L → Lane L → Outcome → Type 0) (IsMoment : ℕ → Type 0) (r : Roster) (start : List Entry) (lanes : List (Lane L)) where
-  abbrev on : List Told → Course L
-  on told = record { told = told; lanes = lanes }
+module _ {L : Type 0} (Works : List ℕ → List ℕ → Lane L → Lane L → Outcome → Type 0) (IsMoment : ℕ → Type 0) (r : Roster) (lanes : List (Lane L)) where
+  abbrev pub on : List Step → Course L
+  on steps = record { steps = steps; lanes = lanes }
 
   -- one notice
-  pub notice_answers : (told : List Told) (m : Request) (x : Arrival) (o : Option Answer) → Waits m x → IsOutcome r (history_after (terms_by r) start told) x o
-      → AnswersOn Works IsMoment r start (on told) m (outcome_reply o).answer (outcome_reply o).body (on (told ++ told_by x o ∷ []))
-  notice_answers told m x o waits is = (
-    told_by x o ∷ [],
+  notice_answers : (steps : List Step) (m : Request) (x : Arrival) (o : Option Answer) (at : List Entry) → Waits m x → IsOutcome at x o
+      → AnswersOn Works IsMoment r (on steps) m (outcome_reply o).answer (outcome_reply o).body (on (steps ++ took (noticed at x o) ∷ []))
+  notice_answers steps m x o at waits is = (
+    took (noticed at x o) ∷ [],
     lanes,
     record {
       meaning = notifies x.kind x.auction x.award;
       means = waits;
-      answered = (told_by x o, call_is o, refl, refl, outcome_replies r (history_after (terms_by r) start told) x o is);
+      answered = (noticed at x o, call_is o, refl, refl, outcome_replies r at x o is);
     },
     refl,
   )
     where
-      call_is : (p : Option Answer) → (told_by x p).call ≡ notice x.kind x.auction x.award
+      call_is : (p : Option Answer) → (noticed at x p).call ≡ notice x.kind x.auction x.award
       call_is None = refl
       call_is (Some a) = refl
 
   -- notices one after another
-  pub notices_replied : (close : Bool) (told : List Told) (late : List Request) (notices : List Arrival) (outcomes : List (Option Answer)) → AllZip Waits late notices → StayTo close late
-      → AreOutcomes r (history_after (terms_by r) start told) notices outcomes
-      → Replies (AnswersOn Works IsMoment r start) (on told) late (outcomes_bytes close outcomes) (on (told ++ told_all notices outcomes))
-  notices_replied close told [] [] [] waits stay are = (refl, ap on (append-nil told))
-  notices_replied close told [] [] (o ∷ outcomes) waits stay are = absurd are
-  notices_replied close told [] (x ∷ notices) outcomes waits stay are = absurd waits
-  notices_replied close told (m ∷ late) [] outcomes waits stay are = absurd waits
-  notices_replied close told (m ∷ late) (x ∷ notices) [] waits stay are = absurd are
-  notices_replied close told (m ∷ []) (x ∷ []) (o ∷ []) waits stay are = (
+  pub notices_replied : (close : Bool) (steps more : List Step) (late : List Request) (notices : List Arrival) (outcomes : List (Option Answer)) → AllZip Waits late notices → StayTo close late → AreNoticed notices outcomes more
+      → Replies (AnswersOn Works IsMoment r) (on steps) late (outcomes_bytes close outcomes) (on (steps ++ more))
+  notices_replied close steps more [] [] [] waits stay are = (refl, ap (λ (l : List Step). on (steps ++ l)) are ∙ ap on (append-nil steps))
+  notices_replied close steps more [] [] (o ∷ outcomes) waits stay are = absurd are
+  notices_replied close steps more [] (x ∷ notices) outcomes waits stay are = absurd waits
+  notices_replied close steps more (m ∷ late) [] outcomes waits stay are = absurd waits
+  notices_replied close steps more (m ∷ late) (x ∷ notices) [] waits stay are = absurd are
+  notices_replied close steps more (m ∷ []) (x ∷ []) (o ∷ []) waits stay (at, rest, is, outcome, are) = (
     (outcome_reply o).answer,
     (outcome_reply o).body,
-    on (told ++ told_by x o ∷ []),
+    on (steps ++ took (noticed at x o) ∷ []),
     [],
-    notice_answers told m x o waits.0 are.0,
-    (refl, refl),
+    notice_answers steps m x o at waits.0 outcome,
+    (refl, ap (λ (l : List Step). on (steps ++ l)) (is ∙ ap (λ (l : List Step). took (noticed at x o) ∷ l) are)),
     sym (notice_bytes m x o close waits.0 (last_stays close m stay)) ∙ sym (append-nil (reply_to m (outcome_reply o).answer (outcome_reply o).body)),
   )
-  notices_replied close told (m ∷ []) (x ∷ []) (o ∷ p ∷ outcomes) waits stay are = absurd are.1
-  notices_replied close told (m ∷ []) (x ∷ y ∷ notices) (o ∷ outcomes) waits stay are = absurd waits.1
-  notices_replied close told (m ∷ n ∷ late) (x ∷ []) (o ∷ outcomes) waits stay are = absurd waits.1
-  notices_replied close told (m ∷ n ∷ late) (x ∷ y ∷ notices) (o ∷ []) waits stay are = absurd are.1
-  notices_replied close told (m ∷ n ∷ late) (x ∷ y ∷ notices) (o ∷ p ∷ outcomes) waits stay are =
+  notices_replied close steps more (m ∷ []) (x ∷ []) (o ∷ p ∷ outcomes) waits stay are = absurd are.4
+  notices_replied close steps more (m ∷ []) (x ∷ y ∷ notices) (o ∷ outcomes) waits stay are = absurd waits.1
+  notices_replied close steps more (m ∷ n ∷ late) (x ∷ []) (o ∷ outcomes) waits stay are = absurd waits.1
+  notices_replied close steps more (m ∷ n ∷ late) (x ∷ y ∷ notices) (o ∷ []) waits stay are = absurd are.4
+  notices_replied close steps more (m ∷ n ∷ late) (x ∷ y ∷ notices) (o ∷ p ∷ outcomes) waits stay (at, rest, is, outcome, are) =
       let stays = first_stays close m n late stay in
-      let behind = subst (λ (h : List Entry). AreOutcomes r h (y ∷ notices) (p ∷ outcomes)) (sym (history_append (terms_by r) start told (told_by x o ∷ []))) are.1 in
-      let rest = notices_replied close (told ++ told_by x o ∷ []) (n ∷ late) (y ∷ notices) (p ∷ outcomes) waits.1 stays.1 behind in (
+      let one = took (noticed at x o) in
+      let behind = notices_replied close (steps ++ one ∷ []) rest (n ∷ late) (y ∷ notices) (p ∷ outcomes) waits.1 stays.1 are in (
         (outcome_reply o).answer,
         (outcome_reply o).body,
-        on (told ++ told_by x o ∷ []),
+        on (steps ++ one ∷ []),
         outcomes_bytes close (p ∷ outcomes),
-        notice_answers told m x o waits.0 are.0,
-        subst (λ (l : List Told). Replies (AnswersOn Works IsMoment r start) (on (told ++ told_by x o ∷ [])) (n ∷ late) (outcomes_bytes close (p ∷ outcomes)) (on l)) (append_assoc told (told_by x o ∷ []) (told_all (y ∷ notices) (p ∷ outcomes))) rest,
+        notice_answers steps m x o at waits.0 outcome,
+        subst (λ (l : List Step). Replies (AnswersOn Works IsMoment r) (on (steps ++ one ∷ [])) (n ∷ late) (outcomes_bytes close (p ∷ outcomes)) (on l)) (append_assoc steps (one ∷ []) rest ∙ ap (λ (l : List Step). steps ++ l) (sym is)) behind,
         ap (λ (b : List ℕ). b ++ outcomes_bytes close (p ∷ outcomes)) (sym (notice_bytes m x o false waits.0 stays.0)),
       )

@@ -1,65 +1,79 @@
 -- What is so of a connection, by what its steps gave.
-use Rattle.std.proofs.Common.{◌≡◌, inl, ℕ, List, [], ◌∷◌, Option, true, refl, sym, ap, ◌∙◌, subst, arith}
+use Rattle.std.proofs.Common.{◌≡◌, inl, ℕ, List, [], ◌∷◌, length, Option, true, refl, sym, ap, ◌∙◌, subst, arith}
 use Rattle.std.specs.Borrow.{GName}
 use Rattle.std.specs.Io.KnownBytes.{append_known}
-use Rattle.std.proofs.lemmas.List.Elements.{All-nil}
+use Rattle.std.proofs.lemmas.List.Elements.{All-nil, All-cons}
 use Rattle.adx_io.specs.Streams.{Tape}
+use Rattle.adx_io.specs.declared.disk.Disk.{Ghosts as DiskGhosts}
+use Rattle.adx_links.specs.declared.link.Link.{Ghosts as LinkGhosts}
 use Rattle.adx_desk.specs.Desks.{OnDisk}
+use Rattle.adx_desk.specs.Histories.{DeskTerms}
+use Rattle.day_rules.specs.declared.entry.Entry.{Entry}
 use Rattle.day_rules.specs.Legal.{IsLegal}
+use Rattle.day_rules.specs.Runs.{AreTurns, IsCall, Turn}
 use Rattle.deal_floor.specs.declared.roster.Roster.{Roster}
+use Rattle.desk_calls.specs.Calls.{turn_of}
+use Rattle.desk_calls.specs.Steps.{AreSteps, Step, alone, history_behind, looked, metered, took, turns_of}
+use Rattle.desk_calls.proofs.Chains.{owned_now}
+use Rattle.desk_runs.proofs.Books.{run_books}
 use Rattle.fan_out.specs.declared.lane.Lane.{Lane}
-use Rattle.fan_out.specs.Lanes.{Outcome}
 use Rattle.http_connection.specs.Messages.{Request}
 use Rattle.http_connection.specs.declared.conn.ConnEnd.{ConnEnd}
 use Rattle.http_grammar.specs.Requests.{is_kept}
 use Rattle.http_service.specs.Connections.{HasCauses}
+use Rattle.owned_desk.specs.Owned.{OwnRuns}
 use Rattle.exchange_messages.specs.Courses.{begun}
-use Rattle.exchange_http.specs.Running.{EndsHere}
-use Rattle.exchange_http.specs.Serving.{ServesConnection}
+use Rattle.exchange_http.specs.Serving.{EndsSo, ServesConnection, Talked, talked}
 use Rattle.exchange_http.proofs.Gathered.{known_none}
-use Rattle.desk_runs.proofs.RunsCalls.{runs_books, runs_none}
 
-module _ {D L : Type 0} (faults : D → ℕ) (may_leave : D → List ℕ → Type 0) (moment : D → ℕ) (left_since : D → ℕ → List ℕ → Type 0) (Works : List ℕ → List ℕ → Lane L → Lane L → Outcome → Type 0) (IsMoment : ℕ → Type 0) (r : Roster) where
-  abbrev Serves : Option Tape → Option Tape → Option (List ℕ) → Option (List ℕ) → List (Lane L) → List (Lane L) → OnDisk D → OnDisk D → ConnEnd → Type 0
-  Serves = ServesConnection faults may_leave moment left_since Works IsMoment r
+-- the turns of steps are such as a day takes
+taken_all : (terms : DeskTerms) (seen now : List Entry) (steps : List Step) → AreSteps alone terms seen steps now → AreTurns (length terms.day.budgets) (turns_of steps)
+taken_all terms seen now [] are = All-nil (λ (t : Turn). IsCall (length terms.day.budgets) t.call)
+taken_all terms seen now (took c ∷ steps) are =
+    All-cons (λ (t : Turn). IsCall (length terms.day.budgets) t.call) (turn_of c) (turns_of steps) are.1.taken (taken_all terms (history_behind terms.day (took c)) now steps are.2)
+taken_all terms seen now (looked h ∷ steps) are = taken_all terms h now steps are.2
+taken_all terms seen now (metered h m ∷ steps) are = taken_all terms h now steps are.2
+
+module _ {D L : Type 0} (d : DiskGhosts D) (l : LinkGhosts L) (IsMoment : ℕ → Type 0) (r : Roster) where
+  abbrev Serves : Talked → Talked → List (Lane L) → List (Lane L) → OnDisk D → OnDisk D → ConnEnd → Type 0
+  Serves = ServesConnection d l IsMoment r
 
   -- it ended so
-  pub ended_so : (start now : OnDisk D) (lanes lanes_now : List (Lane L)) (tape tape_now : Option Tape) (before sunk : Option (List ℕ)) (end : ConnEnd) → EndsHere faults may_leave moment left_since Works IsMoment r start lanes tape tape_now before now lanes_now sunk end
-      → Serves tape tape_now before sunk lanes lanes_now start now end
-  ended_so start now lanes lanes_now tape tape_now before sunk end ends = record {
-    course = record { told = ends.0; lanes = lanes_now };
+  pub ended_so : (start now : OnDisk D) (lanes lanes_now : List (Lane L)) (before behind : Talked) (end : ConnEnd) (steps : List Step) → IsLegal start.desk.terms.day start.desk.history → OwnRuns d start now steps
+      → EndsSo l IsMoment r before behind lanes (record { steps = steps; lanes = lanes_now }) end → Serves before behind lanes lanes_now start now end
+  ended_so start now lanes lanes_now before behind end steps legal ran ends = record {
+    course = record { steps = steps; lanes = lanes_now };
     lanes_are = refl;
-    on_disk = ends.1;
-    books = runs_books faults may_leave moment left_since start now ends.0 ends.1;
-    ends = ends.2;
+    steps = ran.along;
+    on_disk = ran.on_disk legal;
+    books = run_books start.desk.terms.day start.desk.history (turns_of steps) now.desk.history legal (taken_all start.desk.terms start.desk.history now.desk.history steps ran.along)
+        (owned_now start.desk.terms start.desk.history now.desk.history steps ran.along);
+    ends = ends;
   }
 
   -- the same, where the loans of desk, lanes and sink ended
   pub ended_behind : (start now desk : OnDisk D) (lanes lanes_now links : List (Lane L)) (tape tape_now : Option Tape) (before sunk held held_now : Option (List ℕ)) (end : ConnEnd) → now ≡ desk → lanes_now ≡ links → before ≡ held → sunk ≡ held_now
-      → EndsHere faults may_leave moment left_since Works IsMoment r start lanes tape tape_now before now lanes_now sunk end → Serves tape tape_now held held_now lanes links start desk end
-  ended_behind start now desk lanes lanes_now links tape tape_now before sunk held held_now end desk_is links_are held_is sunk_is ends =
-      subst (λ (d : OnDisk D). Serves tape tape_now held held_now lanes links start d end) desk_is
-      (subst (λ (l : List (Lane L)). Serves tape tape_now held held_now lanes l start now end) links_are
-      (subst (λ (h : Option (List ℕ)). Serves tape tape_now h held_now lanes lanes_now start now end) held_is
-      (subst (λ (h : Option (List ℕ)). Serves tape tape_now before h lanes lanes_now start now end) sunk_is (ended_so start now lanes lanes_now tape tape_now before sunk end ends))))
+      → IsLegal start.desk.terms.day start.desk.history
+      → ((steps : List Step) × OwnRuns d start now steps × EndsSo l IsMoment r (talked tape before) (talked tape_now sunk) lanes (record { steps = steps; lanes = lanes_now }) end)
+      → Serves (talked tape held) (talked tape_now held_now) lanes links start desk end
+  ended_behind start now desk lanes lanes_now links tape tape_now before sunk held held_now end desk_is links_are held_is sunk_is legal ends =
+      subst (λ (x : OnDisk D). Serves (talked tape held) (talked tape_now held_now) lanes links start x end) desk_is
+      (subst (λ (x : List (Lane L)). Serves (talked tape held) (talked tape_now held_now) lanes x start now end) links_are
+      (subst (λ (h : Option (List ℕ)). Serves (talked tape h) (talked tape_now held_now) lanes lanes_now start now end) held_is
+      (subst (λ (h : Option (List ℕ)). Serves (talked tape before) (talked tape_now h) lanes lanes_now start now end) sunk_is
+      (ended_so start now lanes lanes_now (talked tape before) (talked tape_now sunk) end ends.0 legal ends.1 ends.2))))
 
   -- memory was refused before any message came
-  pub never_begun : (desk : OnDisk D) (lanes : List (Lane L)) (tape : Option Tape) (held : Option (List ℕ)) → IsLegal desk.desk.terms.day desk.desk.history → ((c : List ℕ) → left_since desk.disk (moment desk.disk) c → may_leave desk.disk c)
-      → Serves tape tape held held lanes lanes desk desk ConnEnd.OutOfMemory
-  never_begun desk lanes tape held legal only_now =
-      let none = runs_none faults may_leave moment left_since desk legal only_now in record {
-        course = begun lanes;
-        lanes_are = refl;
-        on_disk = none;
-        books = runs_books faults may_leave moment left_since desk desk [] none;
-        ends = (
-          [],
-          begun lanes,
-          record { out = []; replies = (refl, refl); took = sym (known_none held) },
-          record { kept = All-nil (λ (m : Request). is_kept m.head ≡ true); few = omega arith },
-          inl (refl, refl, refl),
-        );
-      }
+  pub never_begun : (desk : OnDisk D) (lanes : List (Lane L)) (tape : Option Tape) (held : Option (List ℕ)) → IsLegal desk.desk.terms.day desk.desk.history → OwnRuns d desk desk []
+      → Serves (talked tape held) (talked tape held) lanes lanes desk desk ConnEnd.OutOfMemory
+  never_begun desk lanes tape held legal ran =
+      ended_so desk desk lanes lanes (talked tape held) (talked tape held) ConnEnd.OutOfMemory [] legal ran (
+        [],
+        begun lanes,
+        record { out = []; replies = (refl, refl); took = sym (known_none held) },
+        record { kept = All-nil (λ (m : Request). is_kept m.head ≡ true); few = omega arith },
+        inl (refl, refl, refl),
+      )
 
 -- the references that a sink stands on, one by one
 abbrev name_or : GName → List GName → GName

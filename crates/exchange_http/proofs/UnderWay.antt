@@ -5,12 +5,12 @@ use Rattle.std.specs.List.{AllZip}
 use Rattle.std.proofs.Math.Nat.{eq-or-lt_of_le}
 use Rattle.std.proofs.lemmas.List.Elements.{All-nil, All-cons, All-append}
 use Rattle.adx_io.specs.Streams.{Tape, WhereTold}
-use Rattle.adx_desk.specs.Desks.{OnDisk}
-use Rattle.adx_desk.specs.Histories.{DeskTerms}
-use Rattle.adx_desk.specs.Rosters.{desk_terms}
+use Rattle.desk_calls.specs.Steps.{Step}
+use Rattle.desk_calls.specs.Together.{TakesNotices}
+use Rattle.desk_calls.specs.declared.day_desk.DayDesk.{Ghosts as DeskGhosts}
 use Rattle.notice_batches.specs.declared.batch.TheConstants.{BATCH_LIMIT}
 use Rattle.day_rules.specs.Laws.{Arrival}
-use Rattle.day_rules.specs.declared.entry.Entry.{Entry}
+use Rattle.exchange_floor.proofs.Requested.{JoinsSteps}
 use Rattle.deal_floor.specs.declared.roster.Roster.{Roster}
 use Rattle.fan_out.specs.declared.lane.Lane.{Lane}
 use Rattle.fan_out.specs.Lanes.{Outcome}
@@ -20,20 +20,14 @@ use Rattle.http_grammar.specs.Requests.{is_kept}
 use Rattle.http_grammar.specs.declared.fault.HttpFault.{HttpFault}
 use Rattle.http_service.specs.Connections.{AreSpent, Brings, BringsLast, CloseLast, GoOn}
 use Rattle.http_service.specs.declared.limits.TheConstants.{MESSAGE_LIMIT, REQUEST_LIMIT}
-use Rattle.desk_runs.specs.Meanings.{Told}
-use Rattle.desk_runs.specs.OnDisk.{history_after}
 use Rattle.exchange_messages.specs.Courses.{AnswersOn, Course, begun}
 use Rattle.exchange_http.specs.Gathered.{FailsWithin, Replied, count_of}
 use Rattle.exchange_messages.specs.Meanings.{Means, notifies}
-use Rattle.desk_runs.specs.Records.{RunsOn}
-use Rattle.exchange_http.specs.Running.{AreOutcomes, CameSo, CameToFault, Coming, EndsHere, FlushFails, Flushes, IsUnderWay, MayFail, StayTo, TakesNotices, Waits, before_one, ended, more, outcomes_bytes}
-use Rattle.desk_runs.specs.Told.{told_all}
-use Rattle.exchange_messages.specs.Turns.{terms_by}
+use Rattle.exchange_http.specs.Running.{CameSo, CameToFault, Coming, EndsHere, FlushFails, Flushes, IsUnderWay, MayFail, StayTo, Waits, before_one, ended, more, outcomes_bytes}
 use Rattle.exchange_http.specs.Serving.{IsAny}
 use Rattle.exchange_http.specs.declared.over.Over.{Over}
 use Rattle.exchange_http.proofs.Gathered.{fails_within, known_none, replied_more}
 use Rattle.exchange_http.proofs.NoticeReplies.{notices_replied}
-use Rattle.desk_runs.proofs.RunsJoined.{runs_join}
 
 abbrev AllKept : List Request → Type 0
 AllKept ms = All (λ (m : Request). is_kept m.head ≡ true) ms
@@ -100,125 +94,120 @@ stay_more : (late : List Request) (m : Request) (close : Bool) → AllKept late 
 stay_more late m false kept is = All-append (λ (r : Request). is_kept r.head ≡ true) late (m ∷ []) kept (All-cons (λ (r : Request). is_kept r.head ≡ true) m [] is (All-nil (λ (r : Request). is_kept r.head ≡ true)))
 stay_more late m true kept is = (late, m, refl, kept, is)
 
-module _ {D L : Type 0} (faults : D → ℕ) (may_leave : D → List ℕ → Type 0) (moment : D → ℕ) (left_since : D → ℕ → List ℕ → Type 0) (Works : List ℕ → List ℕ → Lane L → Lane L → Outcome → Type 0) (IsMoment : ℕ → Type 0) (r : Roster) where
-  abbrev pub Way : (start : OnDisk D) (lanes : List (Lane L)) (tape tape_now : Option Tape) (coming : Coming) (before : Option (List ℕ)) (now : OnDisk D) (lanes_now : List (Lane L)) (notices : List Arrival) (close : Bool) (held : Option (List ℕ)) (least waiting : ℕ) → Type 0
-  Way = IsUnderWay faults may_leave moment left_since Works IsMoment r
+module _ {Y L : Type 0} (y : DeskGhosts Y) (Works : List ℕ → List ℕ → Lane L → Lane L → Outcome → Type 0) (IsMoment : ℕ → Type 0) (r : Roster) where
+  abbrev pub Way : (start : Y) (lanes : List (Lane L)) (tape tape_now : Option Tape) (coming : Coming) (before : Option (List ℕ)) (now : Y) (lanes_now : List (Lane L)) (notices : List Arrival) (close : Bool) (held : Option (List ℕ)) (least waiting : ℕ) → Type 0
+  Way = IsUnderWay y Works IsMoment r
 
-  abbrev pub Ends : OnDisk D → List (Lane L) → Option Tape → Option Tape → Option (List ℕ) → OnDisk D → List (Lane L) → Option (List ℕ) → ConnEnd → Type 0
-  Ends = EndsHere faults may_leave moment left_since Works IsMoment r
+  abbrev pub Ends : Y → List (Lane L) → Option Tape → Option Tape → Option (List ℕ) → Y → List (Lane L) → Option (List ℕ) → ConnEnd → Type 0
+  Ends = EndsHere y Works IsMoment r
 
-  -- the history now is the one behind the calls so far
-  pub history_now : (start now : OnDisk D) (told : List Told) → RunsOn faults may_leave moment left_since start now told → now.desk.terms ≡ desk_terms r → now.desk.history ≡ history_after (terms_by r) start.desk.history told
-  history_now start now told runs terms = subst (λ (t : DeskTerms). now.desk.history ≡ history_after t.day start.desk.history told) (sym runs.terms ∙ terms) runs.history
+  module _ (join : JoinsSteps y.runs) where
+    -- a connection ends where the sink failed within replies
+    pub failed_within : (start : Y) (lanes : List (Lane L)) (tape tape_now : Option Tape) (before : Option (List ℕ)) (now : Y) (lanes_now : List (Lane L)) (sunk : Option (List ℕ)) (steps : List Step) (ms : List Request)
+        → y.runs start now steps → MayFail tape tape_now ms → FailsWithin (AnswersOn Works IsMoment r) (begun lanes) (record { steps = steps; lanes = lanes_now }) ms before sunk
+        → Ends start lanes tape tape_now before now lanes_now sunk ConnEnd.WriteFault
+    failed_within start lanes tape tape_now before now lanes_now sunk steps ms ran may f = (
+      steps,
+      ran,
+      inl (record {
+        before = f.before;
+        waiting = f.last;
+        between = f.between;
+        out = f.out;
+        due = f.due;
+        few = f.few;
+        may_come = subst (λ (l : List Request). GoOn l ⊎ (CloseLast l ⊎ AreSpent l)) f.split may.0;
+        replied = f.replied;
+        to_reply = f.to_reply;
+        took = f.took;
+        brings = subst (λ (l : List Request). Brings REQUEST_LIMIT tape tape_now l IsAny) f.split may.1;
+      }),
+    )
 
-  -- a connection ends where the sink failed within replies
-  pub failed_within : (start : OnDisk D) (lanes : List (Lane L)) (tape tape_now : Option Tape) (before : Option (List ℕ)) (now : OnDisk D) (lanes_now : List (Lane L)) (sunk : Option (List ℕ)) (told : List Told) (ms : List Request)
-      → RunsOn faults may_leave moment left_since start now told → MayFail tape tape_now ms → FailsWithin (AnswersOn Works IsMoment r start.desk.history) (begun lanes) (record { told = told; lanes = lanes_now }) ms before sunk
-      → Ends start lanes tape tape_now before now lanes_now sunk ConnEnd.WriteFault
-  failed_within start lanes tape tape_now before now lanes_now sunk told ms runs may f = (
-    told,
-    runs,
-    inl (record {
-      before = f.before;
-      waiting = f.last;
-      between = f.between;
-      out = f.out;
-      due = f.due;
-      few = f.few;
-      may_come = subst (λ (l : List Request). GoOn l ⊎ (CloseLast l ⊎ AreSpent l)) f.split may.0;
-      replied = f.replied;
-      to_reply = f.to_reply;
-      took = f.took;
-      brings = subst (λ (l : List Request). Brings REQUEST_LIMIT tape tape_now l IsAny) f.split may.1;
-    }),
-  )
+    -- the notices that wait were taken, and their replies gathered
+    pub flushed : (start : Y) (lanes : List (Lane L)) (tape tape_now : Option Tape) (coming : Coming) (before : Option (List ℕ)) (old new : Y) (lanes_now : List (Lane L)) (notices : List Arrival) (close : Bool) (held held_now : Option (List ℕ)) (least waiting least_now waiting_now : ℕ)
+        → Way start lanes tape tape_now coming before old lanes_now notices close held least waiting → Flushes y.runs close notices old new held held_now least waiting least_now waiting_now
+        → Way start lanes tape tape_now coming before new lanes_now [] false held_now least_now waiting_now
+    flushed start lanes tape tape_now coming before old new lanes_now notices close held held_now least waiting least_now waiting_now w f =
+        let answers = AnswersOn Works IsMoment r in
+        let now : Course L = record { steps = w.steps; lanes = lanes_now } in
+        let next : Course L = record { steps = w.steps ++ f.takes.steps; lanes = lanes_now } in
+        let replies = notices_replied Works IsMoment r lanes_now close w.steps f.takes.steps w.late notices f.outcomes w.waits w.stay f.takes.are in
+        record {
+          steps = w.steps ++ f.takes.steps;
+          requests = w.requests ++ w.late;
+          late = [];
+          ran = join start old new w.steps f.takes.steps w.ran f.takes.ran;
+          came = subst (CameSo tape tape_now coming) (sym (append-nil (w.requests ++ w.late))) w.came;
+          cut = may_fail tape tape_now coming (w.requests ++ w.late) w.came;
+          waits = tt;
+          stay = All-nil (λ (m : Request). is_kept m.head ≡ true);
+          replied = replied_more answers (begun lanes) now next w.requests w.late before held least waiting least_now waiting_now (length notices) held_now (outcomes_bytes close f.outcomes) w.replied f.moves (zip_long Waits w.late notices w.waits) replies f.holds;
+        }
 
-  -- the notices that wait were taken, and their replies gathered
-  pub flushed : (start : OnDisk D) (lanes : List (Lane L)) (tape tape_now : Option Tape) (coming : Coming) (before : Option (List ℕ)) (old new : OnDisk D) (lanes_now : List (Lane L)) (notices : List Arrival) (close : Bool) (held held_now : Option (List ℕ)) (least waiting least_now waiting_now : ℕ)
-      → old.desk.terms ≡ desk_terms r → Way start lanes tape tape_now coming before old lanes_now notices close held least waiting → Flushes faults may_leave moment left_since close notices old new held held_now least waiting least_now waiting_now
-      → Way start lanes tape tape_now coming before new lanes_now [] false held_now least_now waiting_now
-  flushed start lanes tape tape_now coming before old new lanes_now notices close held held_now least waiting least_now waiting_now terms w f =
-      let answers = AnswersOn Works IsMoment r start.desk.history in
-      let now : Course L = record { told = w.told; lanes = lanes_now } in
-      let next : Course L = record { told = w.told ++ told_all notices f.outcomes; lanes = lanes_now } in
-      let are = subst (λ (h : List Entry). AreOutcomes r h notices f.outcomes) (history_now start old w.told w.runs terms) (f.takes.are r terms) in
-      let replies = notices_replied Works IsMoment r start.desk.history lanes_now close w.told w.late notices f.outcomes w.waits w.stay are in
-      record {
-        told = w.told ++ told_all notices f.outcomes;
-        requests = w.requests ++ w.late;
-        late = [];
-        runs = runs_join faults may_leave moment left_since start old new w.told (told_all notices f.outcomes) w.runs f.takes.runs;
-        came = subst (CameSo tape tape_now coming) (sym (append-nil (w.requests ++ w.late))) w.came;
-        cut = may_fail tape tape_now coming (w.requests ++ w.late) w.came;
-        waits = tt;
-        stay = All-nil (λ (m : Request). is_kept m.head ≡ true);
-        replied = replied_more answers (begun lanes) now next w.requests w.late before held least waiting least_now waiting_now (length notices) held_now (outcomes_bytes close f.outcomes) w.replied f.moves (zip_long Waits w.late notices w.waits) replies f.holds;
-      }
+    -- the sink failed while nothing was gathered
+    pub put_failed : (start : Y) (lanes : List (Lane L)) (tape tape_now : Option Tape) (coming : Coming) (before : Option (List ℕ)) (now : Y) (lanes_now : List (Lane L)) (notices : List Arrival) (close : Bool) (held held_now sunk : Option (List ℕ)) (left : List ℕ) (least waiting least_now waiting_now : ℕ)
+        → Way start lanes tape tape_now coming before now lanes_now notices close held least waiting → held_now ≡ held → least_now ≡ least → waiting_now ≡ waiting
+        → held_now ≡ append_known sunk left → least_now ≤ count_of sunk → waiting_now ≤ BATCH_LIMIT
+        → Ends start lanes tape tape_now before now lanes_now sunk ConnEnd.WriteFault
+    put_failed start lanes tape tape_now coming before now lanes_now notices close held held_now sunk left least waiting least_now waiting_now w same same_least same_waiting at grown most =
+        let answers = AnswersOn Works IsMoment r in
+        let c : Course L = record { steps = w.steps; lanes = lanes_now } in
+        let f = fails_within answers (begun lanes) c c w.requests [] before held least waiting least_now waiting_now 0 held_now sunk [] [] [] left w.replied (inl (omega (arith, same_waiting), same_least)) (omega arith) (refl, refl) refl (same ∙ sym (known_none held)) at grown most in
+        failed_within start lanes tape tape_now before now lanes_now sunk w.steps w.requests w.ran w.cut
+        (subst (λ (l : List Request). FailsWithin answers (begun lanes) c l before sunk) (append-nil w.requests) f)
 
-  -- the sink failed while nothing was gathered
-  pub put_failed : (start : OnDisk D) (lanes : List (Lane L)) (tape tape_now : Option Tape) (coming : Coming) (before : Option (List ℕ)) (now : OnDisk D) (lanes_now : List (Lane L)) (notices : List Arrival) (close : Bool) (held held_now sunk : Option (List ℕ)) (left : List ℕ) (least waiting least_now waiting_now : ℕ)
-      → Way start lanes tape tape_now coming before now lanes_now notices close held least waiting → held_now ≡ held → least_now ≡ least → waiting_now ≡ waiting
-      → held_now ≡ append_known sunk left → least_now ≤ count_of sunk → waiting_now ≤ BATCH_LIMIT
-      → Ends start lanes tape tape_now before now lanes_now sunk ConnEnd.WriteFault
-  put_failed start lanes tape tape_now coming before now lanes_now notices close held held_now sunk left least waiting least_now waiting_now w same same_least same_waiting at grown most =
-      let answers = AnswersOn Works IsMoment r start.desk.history in
-      let c : Course L = record { told = w.told; lanes = lanes_now } in
-      let f = fails_within answers (begun lanes) c c w.requests [] before held least waiting least_now waiting_now 0 held_now sunk [] [] [] left w.replied (inl (omega (arith, same_waiting), same_least)) (omega arith) (refl, refl) refl (same ∙ sym (known_none held)) at grown most in
-      failed_within start lanes tape tape_now before now lanes_now sunk w.told w.requests w.runs w.cut
-      (subst (λ (l : List Request). FailsWithin answers (begun lanes) c l before sunk) (append-nil w.requests) f)
+    -- the sink failed before notices were taken, or while their replies were gathered
+    pub flush_failed : (start : Y) (lanes : List (Lane L)) (tape tape_now : Option Tape) (coming : Coming) (before : Option (List ℕ)) (old new : Y) (lanes_now : List (Lane L)) (notices : List Arrival) (close : Bool) (held held_now sunk : Option (List ℕ)) (left : List ℕ) (least waiting least_now waiting_now : ℕ)
+        → Way start lanes tape tape_now coming before old lanes_now notices close held least waiting → FlushFails y.runs close notices old new held held_now least waiting least_now waiting_now
+        → held_now ≡ append_known sunk left → least_now ≤ count_of sunk → waiting_now ≤ BATCH_LIMIT
+        → Ends start lanes tape tape_now before new lanes_now sunk ConnEnd.WriteFault
+    flush_failed start lanes tape tape_now coming before old new lanes_now notices close held held_now sunk left least waiting least_now waiting_now w (inl same) at grown most =
+        subst (λ (d : Y). Ends start lanes tape tape_now before d lanes_now sunk ConnEnd.WriteFault) (sym same.0)
+        (put_failed start lanes tape tape_now coming before old lanes_now notices close held held_now sunk left least waiting least_now waiting_now w same.1 same.2 same.3 at grown most)
+    flush_failed start lanes tape tape_now coming before old new lanes_now notices close held held_now sunk left least waiting least_now waiting_now w (inr f) at grown most =
+        let answers = AnswersOn Works IsMoment r in
+        let outcomes = f.0 in
+        let now : Course L = record { steps = w.steps; lanes = lanes_now } in
+        let next : Course L = record { steps = w.steps ++ TakesNotices.steps f.1; lanes = lanes_now } in
+        let replies = notices_replied Works IsMoment r lanes_now close w.steps (TakesNotices.steps f.1) w.late notices outcomes w.waits w.stay (TakesNotices.are f.1) in
+        failed_within start lanes tape tape_now before new lanes_now sunk (w.steps ++ TakesNotices.steps f.1) (w.requests ++ w.late)
+        (join start old new w.steps (TakesNotices.steps f.1) w.ran (TakesNotices.ran f.1)) (may_fail tape tape_now coming (w.requests ++ w.late) w.came)
+        (fails_within answers (begun lanes) now next w.requests w.late before held least waiting least_now waiting_now (length notices) held_now sunk (outcomes_bytes close outcomes) f.2 f.3 left w.replied f.6 (zip_long Waits w.late notices w.waits) replies f.4 f.5 at grown most)
 
-  -- the sink failed before notices were taken, or while their replies were gathered
-  pub flush_failed : (start : OnDisk D) (lanes : List (Lane L)) (tape tape_now : Option Tape) (coming : Coming) (before : Option (List ℕ)) (old new : OnDisk D) (lanes_now : List (Lane L)) (notices : List Arrival) (close : Bool) (held held_now sunk : Option (List ℕ)) (left : List ℕ) (least waiting least_now waiting_now : ℕ)
-      → old.desk.terms ≡ desk_terms r → Way start lanes tape tape_now coming before old lanes_now notices close held least waiting → FlushFails faults may_leave moment left_since close notices old new held held_now least waiting least_now waiting_now
-      → held_now ≡ append_known sunk left → least_now ≤ count_of sunk → waiting_now ≤ BATCH_LIMIT
-      → Ends start lanes tape tape_now before new lanes_now sunk ConnEnd.WriteFault
-  flush_failed start lanes tape tape_now coming before old new lanes_now notices close held held_now sunk left least waiting least_now waiting_now terms w (inl same) at grown most =
-      subst (λ (d : OnDisk D). Ends start lanes tape tape_now before d lanes_now sunk ConnEnd.WriteFault) (sym same.0)
-      (put_failed start lanes tape tape_now coming before old lanes_now notices close held held_now sunk left least waiting least_now waiting_now w same.1 same.2 same.3 at grown most)
-  flush_failed start lanes tape tape_now coming before old new lanes_now notices close held held_now sunk left least waiting least_now waiting_now terms w (inr f) at grown most =
-      let answers = AnswersOn Works IsMoment r start.desk.history in
-      let outcomes = f.0 in
-      let now : Course L = record { told = w.told; lanes = lanes_now } in
-      let next : Course L = record { told = w.told ++ told_all notices outcomes; lanes = lanes_now } in
-      let are = subst (λ (h : List Entry). AreOutcomes r h notices outcomes) (history_now start old w.told w.runs terms) (TakesNotices.are f.1 r terms) in
-      let replies = notices_replied Works IsMoment r start.desk.history lanes_now close w.told w.late notices outcomes w.waits w.stay are in
-      failed_within start lanes tape tape_now before new lanes_now sunk (w.told ++ told_all notices outcomes) (w.requests ++ w.late)
-      (runs_join faults may_leave moment left_since start old new w.told (told_all notices outcomes) w.runs (TakesNotices.runs f.1)) (may_fail tape tape_now coming (w.requests ++ w.late) w.came)
-      (fails_within answers (begun lanes) now next w.requests w.late before held least waiting least_now waiting_now (length notices) held_now sunk (outcomes_bytes close outcomes) f.2 f.3 left w.replied f.6 (zip_long Waits w.late notices w.waits) replies f.4 f.5 at grown most)
+    -- one message more that waits
+    pub notice_joined : (start : Y) (lanes : List (Lane L)) (tape tape_now : Option Tape) (coming : Coming) (before : Option (List ℕ)) (now : Y) (lanes_now : List (Lane L)) (notices : List Arrival) (close : Bool) (held : Option (List ℕ)) (least waiting : ℕ) (m : Request) (x : Arrival)
+        → Way start lanes tape tape_now (before_one m coming) before now lanes_now notices false held least waiting → Means m (notifies x.kind x.auction x.award) → is_kept m.head ≡ not close
+        → Way start lanes tape tape_now coming before now lanes_now (notices ++ x ∷ []) close held least waiting
+    notice_joined start lanes tape tape_now coming before now lanes_now notices close held least waiting m x w means kept = record {
+      steps = w.steps;
+      requests = w.requests;
+      late = w.late ++ m ∷ [];
+      ran = w.ran;
+      came = subst (CameSo tape tape_now coming) (append_assoc w.requests w.late (m ∷ [])) w.came.3;
+      cut = w.cut;
+      waits = zip_more Waits w.late notices m x w.waits means;
+      stay = stay_more w.late m close w.stay kept;
+      replied = w.replied;
+    }
 
-  -- one message more that waits
-  pub notice_joined : (start : OnDisk D) (lanes : List (Lane L)) (tape tape_now : Option Tape) (coming : Coming) (before : Option (List ℕ)) (now : OnDisk D) (lanes_now : List (Lane L)) (notices : List Arrival) (close : Bool) (held : Option (List ℕ)) (least waiting : ℕ) (m : Request) (x : Arrival)
-      → Way start lanes tape tape_now (before_one m coming) before now lanes_now notices false held least waiting → Means m (notifies x.kind x.auction x.award) → is_kept m.head ≡ not close
-      → Way start lanes tape tape_now coming before now lanes_now (notices ++ x ∷ []) close held least waiting
-  notice_joined start lanes tape tape_now coming before now lanes_now notices close held least waiting m x w means kept = record {
-    told = w.told;
-    requests = w.requests;
-    late = w.late ++ m ∷ [];
-    runs = w.runs;
-    came = subst (CameSo tape tape_now coming) (append_assoc w.requests w.late (m ∷ [])) w.came.3;
-    cut = w.cut;
-    waits = zip_more Waits w.late notices m x w.waits means;
-    stay = stay_more w.late m close w.stay kept;
-    replied = w.replied;
-  }
-
-  -- all that was gathered was put
-  pub all_put : (start : OnDisk D) (lanes : List (Lane L)) (tape tape_now : Option Tape) (coming : Coming) (before : Option (List ℕ)) (now : OnDisk D) (lanes_now : List (Lane L)) (held held_now sunk : Option (List ℕ)) (left : List ℕ) (least waiting least_now waiting_now : ℕ)
-      → Way start lanes tape tape_now coming before now lanes_now [] false held least waiting → held_now ≡ held → held_now ≡ append_known sunk left → left ≡ [] → least_now ≡ count_of sunk → waiting_now ≡ 0
-      → Way start lanes tape tape_now coming before now lanes_now [] false held_now least_now waiting_now
-  all_put start lanes tape tape_now coming before now lanes_now held held_now sunk left least waiting least_now waiting_now w same at none all zero =
-      let answers = AnswersOn Works IsMoment r start.desk.history in
-      let c : Course L = record { told = w.told; lanes = lanes_now } in
-      let is_sunk : held ≡ sunk = sym same ∙ at ∙ ap (append_known sunk) none ∙ known_none sunk in
-      let moved = replied_more answers (begun lanes) c c w.requests [] before held least waiting least_now waiting_now 0 held_now [] w.replied (inr (zero, all ∙ ap count_of (sym is_sunk))) (omega arith) (refl, refl) (same ∙ sym (known_none held)) in
-      record {
-        told = w.told;
-        requests = w.requests;
-        late = w.late;
-        runs = w.runs;
-        came = w.came;
-        cut = w.cut;
-        waits = w.waits;
-        stay = w.stay;
-        replied = subst (λ (l : List Request). Replied answers (begun lanes) c l before held_now least_now waiting_now) (append-nil w.requests) moved;
-      }
+    -- all that was gathered was put
+    pub all_put : (start : Y) (lanes : List (Lane L)) (tape tape_now : Option Tape) (coming : Coming) (before : Option (List ℕ)) (now : Y) (lanes_now : List (Lane L)) (held held_now sunk : Option (List ℕ)) (left : List ℕ) (least waiting least_now waiting_now : ℕ)
+        → Way start lanes tape tape_now coming before now lanes_now [] false held least waiting → held_now ≡ held → held_now ≡ append_known sunk left → left ≡ [] → least_now ≡ count_of sunk → waiting_now ≡ 0
+        → Way start lanes tape tape_now coming before now lanes_now [] false held_now least_now waiting_now
+    all_put start lanes tape tape_now coming before now lanes_now held held_now sunk left least waiting least_now waiting_now w same at none all zero =
+        let answers = AnswersOn Works IsMoment r in
+        let c : Course L = record { steps = w.steps; lanes = lanes_now } in
+        let is_sunk : held ≡ sunk = sym same ∙ at ∙ ap (append_known sunk) none ∙ known_none sunk in
+        let moved = replied_more answers (begun lanes) c c w.requests [] before held least waiting least_now waiting_now 0 held_now [] w.replied (inr (zero, all ∙ ap count_of (sym is_sunk))) (omega arith) (refl, refl) (same ∙ sym (known_none held)) in
+        record {
+          steps = w.steps;
+          requests = w.requests;
+          late = w.late;
+          ran = w.ran;
+          came = w.came;
+          cut = w.cut;
+          waits = w.waits;
+          stay = w.stay;
+          replied = subst (λ (l : List Request). Replied answers (begun lanes) c l before held_now least_now waiting_now) (append-nil w.requests) moved;
+        }

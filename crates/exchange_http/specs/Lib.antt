@@ -1,5 +1,5 @@
 pub mod Serving
 pub mod Gathered
 pub mod Running
-pub mod Asking
+pub mod Going
 pub mod Laws

@@ -5,14 +5,11 @@ use Rattle.std.specs.Io.KnownBytes.{append_known}
 use Rattle.adx_io.specs.Streams.{Rises, Tape, Took, WhereTold}
 use Rattle.adx_io.specs.declared.failed.Failed.{Failed}
 use Rattle.http_service.specs.Steps.{WritesRefusal}
-use Rattle.adx_desk.specs.Desks.{OnDisk}
-use Rattle.adx_desk.specs.Rosters.{desk_terms}
-use Rattle.answer_lines.specs.declared.faults.Fault.{Fault}
+use Rattle.desk_calls.specs.Steps.{Step}
+use Rattle.desk_calls.specs.Together.{TakesNotices}
+use Rattle.desk_calls.specs.declared.day_desk.DayDesk.{Ghosts as DeskGhosts}
 use Rattle.day_rules.specs.Laws.{Arrival}
-use Rattle.day_rules.specs.Legal.{IsLegal}
 use Rattle.day_rules.specs.declared.answer.Answer.{Answer}
-use Rattle.day_rules.specs.declared.entry.Entry.{Entry}
-use Rattle.day_rules.specs.Replies.{reply}
 use Rattle.deal_floor.specs.declared.roster.Roster.{Roster}
 use Rattle.fan_out.specs.declared.lane.Lane.{Lane}
 use Rattle.fan_out.specs.Lanes.{Outcome}
@@ -24,37 +21,17 @@ use Rattle.http_grammar.specs.declared.fault.HttpFault.{HttpFault}
 use Rattle.http_service.specs.Connections.{AreSpent, Brings, BringsLast, CloseLast, Gave, GoOn, TookFront}
 use Rattle.http_service.specs.Replies.{answer_bytes}
 use Rattle.http_service.specs.declared.limits.TheConstants.{MESSAGE_LIMIT, REQUEST_LIMIT}
-use Rattle.desk_runs.specs.Meanings.{Told}
-use Rattle.desk_runs.specs.Told.{told_all, told_by}
-use Rattle.desk_runs.specs.OnDisk.{history_after}
 use Rattle.exchange_messages.specs.Courses.{AnswersOn, GivesUpOn, begun}
 use Rattle.exchange_http.specs.Gathered.{Moves, Replied, count_of}
 use Rattle.exchange_messages.specs.Meanings.{Means, notifies}
-use Rattle.desk_runs.specs.Records.{RunsOn}
-use Rattle.desk_calls.specs.Together.{call_by}
 use Rattle.exchange_messages.specs.Outcomes.{outcome_reply}
-use Rattle.exchange_messages.specs.Replies.{Reply}
-use Rattle.exchange_http.specs.Serving.{AreLanes, EndsWith, IsAny}
-use Rattle.exchange_messages.specs.Turns.{IsAnswered, LeavesUnmade, terms_by}
+use Rattle.exchange_http.specs.Serving.{EndsWith, IsAny}
 use Rattle.exchange_http.specs.declared.over.Over.{Over}
 use Rattle.exchange_http.specs.declared.stop.Stop.{Stop}
 
 -- a message is this notice
 abbrev pub Waits : Request → Arrival → Type 0
 Waits request x = Means request (notifies x.kind x.auction x.award)
-
--- the outcome is that of a notice after a history
-abbrev pub IsOutcome : Roster → List Entry → Arrival → Option Answer → Type 0
-IsOutcome r history x None = Unit {0}
-IsOutcome r history x (Some answer) = answer ≡ (reply (terms_by r) history (call_by x)).answer
-
--- the outcomes are those of notices one after another
-abbrev pub AreOutcomes : Roster → List Entry → List Arrival → List (Option Answer) → Type 0
-AreOutcomes r history [] [] = Unit {0}
-AreOutcomes r history [] (o ∷ outcomes) = ⊥
-AreOutcomes r history (x ∷ notices) [] = ⊥
-AreOutcomes r history (x ∷ notices) (o ∷ outcomes) =
-    IsOutcome r history x o × AreOutcomes r (history_after (terms_by r) history (told_by x o ∷ [])) notices outcomes
 
 -- the bytes of the reply to a notice by its outcome
 abbrev pub outcome_bytes : Bool → Option Answer → List ℕ
@@ -82,7 +59,8 @@ pub data Coming : Type 0 where
 
 -- the next message is refused, or the source failed
 abbrev pub CameToFault : Option Tape → Option Tape → List Request → HttpFault → Type 0
-CameToFault tape tape_now ms HttpFault.ReadFault = GoOn ms × Brings REQUEST_LIMIT tape tape_now ms IsAny × Gave REQUEST_LIMIT tape tape_now ms (IsUnfinishedRequest REQUEST_LIMIT)
+CameToFault tape tape_now ms HttpFault.ReadFault =
+    GoOn ms × Brings REQUEST_LIMIT tape tape_now ms IsAny × Gave REQUEST_LIMIT tape tape_now ms (IsUnfinishedRequest REQUEST_LIMIT)
 CameToFault tape tape_now ms fault = GoOn ms × Brings REQUEST_LIMIT tape tape_now ms (λ rest. RefusesRequest REQUEST_LIMIT rest fault)
 
 -- why no more messages are read
@@ -107,7 +85,9 @@ pub record CameAndStay (tape tape_now : Option Tape) (ahead : List ℕ) (count :
 abbrev pub CameSo : Option Tape → Option Tape → Coming → List Request → Type 0
 CameSo tape tape_now (more ahead count) ms = CameAndStay tape tape_now ahead count ms
 CameSo tape tape_now (ended over) ms = CameToEnd tape tape_now ms over
-CameSo tape tape_now (before_one m coming) ms = GoOn ms × Brings REQUEST_LIMIT tape tape_now ms IsAny × BringsLast REQUEST_LIMIT tape tape_now (ms ++ m ∷ []) × CameSo tape tape_now coming (ms ++ m ∷ [])
+CameSo tape tape_now (before_one m coming) ms =
+    GoOn ms × Brings REQUEST_LIMIT tape tape_now ms IsAny × BringsLast REQUEST_LIMIT tape tape_now (ms ++ m ∷ [])
+    × CameSo tape tape_now coming (ms ++ m ∷ [])
 
 -- a stop as the end of a connection
 abbrev pub end_of : Stop → ConnEnd
@@ -126,66 +106,44 @@ fault_over HttpFault.BadChunk = Ok (Some (Over.Fault HttpFault.BadChunk))
 fault_over HttpFault.Cut = Ok (Some (Over.Fault HttpFault.Cut))
 fault_over HttpFault.Coding = Ok (Some (Over.Fault HttpFault.Coding))
 
--- what a day may be taken on: the desk of a roster with a legal history, and a lane for each bidder
-pub record IsFloor {D L : Type 0} (r : Roster) (desk : OnDisk D) (lanes : List (Lane L)) : Type 0 where
-  pub terms : desk.desk.terms ≡ desk_terms r
-  pub legal : IsLegal desk.desk.terms.day desk.desk.history
-  pub lanes_are : AreLanes r lanes
-
-module _ {D : Type 0} (faults : D → ℕ) (may_leave : D → List ℕ → Type 0) (moment : D → ℕ) (left_since : D → ℕ → List ℕ → Type 0) where
-  -- notices were taken, with these outcomes
-  pub record TakesNotices (old new : OnDisk D) (notices : List Arrival) (outcomes : List (Option Answer)) : Type 0 where
-    pub runs : RunsOn faults may_leave moment left_since old new (told_all notices outcomes)
-    pub are : (r : Roster) → old.desk.terms ≡ desk_terms r → AreOutcomes r old.desk.history notices outcomes
-
+module _ {Y : Type 0} (runs : Y → Y → List Step → Type 0) where
   -- notices that waited were taken, and their replies gathered
-  pub record Flushes (close : Bool) (notices : List Arrival) (old new : OnDisk D) (held held_now : Option (List ℕ)) (least waiting least_now waiting_now : ℕ) : Type 0 where
+  pub record Flushes (close : Bool) (notices : List Arrival) (old new : Y) (held held_now : Option (List ℕ)) (least waiting least_now waiting_now : ℕ) : Type 0 where
     pub outcomes : List (Option Answer)
-    pub takes : TakesNotices old new notices outcomes
+    pub takes : TakesNotices runs old new notices outcomes
     pub holds : held_now ≡ append_known held (outcomes_bytes close outcomes)
     pub moves : Moves (length notices) held least waiting least_now waiting_now
 
   -- the sink failed before, or while the replies were gathered
-  abbrev pub FlushFails : Bool → List Arrival → OnDisk D → OnDisk D → Option (List ℕ) → Option (List ℕ) → ℕ → ℕ → ℕ → ℕ → Type 0
+  abbrev pub FlushFails : Bool → List Arrival → Y → Y → Option (List ℕ) → Option (List ℕ) → ℕ → ℕ → ℕ → ℕ → Type 0
   FlushFails close notices old new held held_now least waiting least_now waiting_now =
       ((new ≡ old) × (held_now ≡ held) × (least_now ≡ least) × (waiting_now ≡ waiting))
-      ⊎ ((outcomes : List (Option Answer)) × TakesNotices old new notices outcomes
+      ⊎ ((outcomes : List (Option Answer)) × TakesNotices runs old new notices outcomes
       × (front back : List ℕ) × (outcomes_bytes close outcomes ≡ front ++ back) × (held_now ≡ append_known held front)
       × Moves (length notices) held least waiting least_now waiting_now)
 
-module _ {D L : Type 0} (faults : D → ℕ) (may_leave : D → List ℕ → Type 0) (moment : D → ℕ) (left_since : D → ℕ → List ℕ → Type 0) (Works : List ℕ → List ℕ → Lane L → Lane L → Outcome → Type 0) (IsMoment : ℕ → Type 0) (r : Roster) where
-  -- a message was answered so on the desk and the lanes
-  pub record AnswersHere (old new : OnDisk D) (lanes lanes_now : List (Lane L)) (request : Request) (said : Reply) : Type 0 where
-    pub told : List Told
-    pub answered : IsAnswered Works IsMoment r old.desk.history lanes request told lanes_now said
-    pub runs : RunsOn faults may_leave moment left_since old new told
-
-  -- memory was refused before its reply was made
-  pub record GivesUpHere (old new : OnDisk D) (lanes lanes_now : List (Lane L)) (request : Request) : Type 0 where
-    pub told : List Told
-    pub left_unmade : LeavesUnmade Works IsMoment r old.desk.history lanes request told lanes_now
-    pub runs : RunsOn faults may_leave moment left_since old new told
-
+module _ {Y L : Type 0} (y : DeskGhosts Y) (Works : List ℕ → List ℕ → Lane L → Lane L → Outcome → Type 0) (IsMoment : ℕ → Type 0) (r : Roster) where
   -- Messages were replied or their notices wait, from a desk and lanes on, over a source and behind what a sink took before.
-  pub record IsUnderWay (start : OnDisk D) (lanes : List (Lane L)) (tape tape_now : Option Tape) (coming : Coming) (before : Option (List ℕ)) (now : OnDisk D) (lanes_now : List (Lane L)) (notices : List Arrival) (close : Bool) (held : Option (List ℕ)) (least waiting : ℕ) : Type 0 where
-    pub told : List Told
+  pub record IsUnderWay (start : Y) (lanes : List (Lane L)) (tape tape_now : Option Tape) (coming : Coming) (before : Option (List ℕ)) (now : Y) (lanes_now : List (Lane L)) (notices : List Arrival) (close : Bool) (held : Option (List ℕ)) (least waiting : ℕ) : Type 0 where
+    pub steps : List Step
     pub requests : List Request
     pub late : List Request
-    pub runs : RunsOn faults may_leave moment left_since start now told
+    pub ran : y.runs start now steps
     pub came : CameSo tape tape_now coming (requests ++ late)
     pub cut : MayFail tape tape_now requests
     pub waits : AllZip Waits late notices
     pub stay : StayTo close late
-    pub replied : Replied (AnswersOn Works IsMoment r start.desk.history) (begun lanes) (record { told = told; lanes = lanes_now }) requests before held least waiting
+    pub replied : Replied (AnswersOn Works IsMoment r) (begun lanes) (record { steps = steps; lanes = lanes_now }) requests before held least waiting
 
   -- a step ended the connection so
-  abbrev pub EndsHere : OnDisk D → List (Lane L) → Option Tape → Option Tape → Option (List ℕ) → OnDisk D → List (Lane L) → Option (List ℕ) → ConnEnd → Type 0
+  abbrev pub EndsHere : Y → List (Lane L) → Option Tape → Option Tape → Option (List ℕ) → Y → List (Lane L) → Option (List ℕ) → ConnEnd → Type 0
   EndsHere start lanes tape tape_now before now lanes_now sunk end =
-      (told : List Told) × RunsOn faults may_leave moment left_since start now told
-      × EndsWith (AnswersOn Works IsMoment r start.desk.history) (GivesUpOn Works IsMoment r start.desk.history) REQUEST_LIMIT tape tape_now before sunk (begun lanes) (record { told = told; lanes = lanes_now }) end
+      (steps : List Step) × y.runs start now steps
+      × EndsWith (AnswersOn Works IsMoment r) (GivesUpOn Works IsMoment r) REQUEST_LIMIT tape tape_now before sunk
+      (begun lanes) (record { steps = steps; lanes = lanes_now }) end
 
   -- what came of the next message: it was taken, and more may come, or none; or the connection ended
-  abbrev pub StepGives : OnDisk D → List (Lane L) → Option Tape → Option Tape → List ℕ → ℕ → Option (List ℕ) → OnDisk D → List (Lane L) → List Arrival → Option (List ℕ) → Option (List ℕ) → ℕ → ℕ → Result (Option Over) Stop → Type 0
+  abbrev pub StepGives : Y → List (Lane L) → Option Tape → Option Tape → List ℕ → ℕ → Option (List ℕ) → Y → List (Lane L) → List Arrival → Option (List ℕ) → Option (List ℕ) → ℕ → ℕ → Result (Option Over) Stop → Type 0
   StepGives start lanes tape tape_now ahead count before now lanes_now notices held sunk least waiting (Ok None) =
       IsUnderWay start lanes tape tape_now (more ahead count) before now lanes_now notices false held least waiting
   StepGives start lanes tape tape_now ahead count before now lanes_now notices held sunk least waiting (Ok (Some over)) =

@@ -1,30 +1,23 @@
 -- How an exchange serves a connection. This project's own.
-use Rattle.std.specs.Prelude.{◌≡◌, ◌⊎◌, ◌<◌, ◌≤◌, ◌^◌, ℕ, List, ◌++◌, length, map, All, Option, IfSome}
+use Rattle.std.specs.Prelude.{◌≡◌, ◌⊎◌, ◌≤◌, ℕ, List, ◌++◌, length, Option}
 use Rattle.adx_io.specs.Streams.{Tape}
+use Rattle.adx_io.specs.declared.disk.Disk.{Ghosts as DiskGhosts}
+use Rattle.adx_links.specs.declared.link.Link.{Ghosts as LinkGhosts}
 use Rattle.adx_desk.specs.Desks.{OnDisk}
+use Rattle.desk_calls.specs.Steps.{AreSteps, alone, turns_of}
 use Rattle.notice_batches.specs.declared.batch.TheConstants.{BATCH_LIMIT}
 use Rattle.deal_floor.specs.declared.roster.Roster.{Roster}
-use Rattle.fan_out.specs.declared.answer.TheConstants.{ANSWER_LIMIT}
 use Rattle.fan_out.specs.declared.lane.Lane.{Lane}
-use Rattle.fan_out.specs.Lanes.{Outcome}
 use Rattle.http_connection.specs.Messages.{Request}
 use Rattle.http_connection.specs.declared.conn.ConnEnd.{ConnEnd}
 use Rattle.http_grammar.specs.declared.fault.HttpFault.{HttpFault}
 use Rattle.http_service.specs.Connections.{Answering, GivingUp, AreSpent, Brings, CloseLast, FailsRefusing, GoOn, Replies, TookWithFront, EndsWith as EndsService}
 use Rattle.http_service.specs.declared.limits.TheConstants.{REQUEST_LIMIT}
 use Rattle.desk_runs.specs.Calls.{HasBooks}
-use Rattle.desk_runs.specs.Meanings.{turns_of}
+use Rattle.desk_runs.specs.Told.{told_of}
+use Rattle.exchange_floor.specs.Floors.{works}
 use Rattle.exchange_messages.specs.Courses.{AnswersOn, Course, GivesUpOn, begun}
 use Rattle.desk_runs.specs.Records.{RunsOn}
-
--- a moment that a clock gives: below 2^63, and the one that it tells
-abbrev pub IsMomentOf : Option ℕ → ℕ → Type 0
-IsMomentOf told now = (now < 2 ^ 63) × IfSome told (λ m. now ≡ m)
-
--- there is one lane for each bidder of the roster, in their order, and it reads answers that are as long as they may be
-pub record AreLanes {L : Type 0} (r : Roster) (lanes : List (Lane L)) : Type 0 where
-  pub places : map (λ (l : Lane L). l.place) lanes ≡ r.bidders
-  pub limits : All (λ (l : Lane L). l.conn.limit ≡ ANSWER_LIMIT) lanes
 
 -- nothing is said of the rest
 abbrev pub IsAny : List ℕ → Type 0
@@ -48,22 +41,43 @@ pub record FailsWaiting {S : Type 0} (answers : Answering S) (limit : ℕ) (tape
 -- How a connection ended, whose replies may wait together. Where the sink failed within the reply to a message that is
 -- refused, it took those to all messages before it.
 abbrev pub EndsWith : {S : Type 0} → Answering S → GivingUp S → ℕ → Option Tape → Option Tape → Option (List ℕ) → Option (List ℕ) → S → S → ConnEnd → Type 0
-EndsWith answers gives_up limit tape tape_now held held_now s now ConnEnd.Closed = EndsService answers gives_up limit tape tape_now held held_now s now ConnEnd.Closed
-EndsWith answers gives_up limit tape tape_now held held_now s now ConnEnd.Cut = EndsService answers gives_up limit tape tape_now held held_now s now ConnEnd.Cut
-EndsWith answers gives_up limit tape tape_now held held_now s now (ConnEnd.Refused fault) = EndsService answers gives_up limit tape tape_now held held_now s now (ConnEnd.Refused fault)
-EndsWith answers gives_up limit tape tape_now held held_now s now ConnEnd.ReadFault = EndsService answers gives_up limit tape tape_now held held_now s now ConnEnd.ReadFault
+EndsWith answers gives_up limit tape tape_now held held_now s now ConnEnd.Closed =
+    EndsService answers gives_up limit tape tape_now held held_now s now ConnEnd.Closed
+EndsWith answers gives_up limit tape tape_now held held_now s now ConnEnd.Cut =
+    EndsService answers gives_up limit tape tape_now held held_now s now ConnEnd.Cut
+EndsWith answers gives_up limit tape tape_now held held_now s now (ConnEnd.Refused fault) =
+    EndsService answers gives_up limit tape tape_now held held_now s now (ConnEnd.Refused fault)
+EndsWith answers gives_up limit tape tape_now held held_now s now ConnEnd.ReadFault =
+    EndsService answers gives_up limit tape tape_now held held_now s now ConnEnd.ReadFault
 EndsWith answers gives_up limit tape tape_now held held_now s now ConnEnd.WriteFault =
     FailsWaiting answers limit tape tape_now held held_now s now
     ⊎ ((fault : HttpFault) × FailsRefusing answers limit tape tape_now held held_now s now fault)
-EndsWith answers gives_up limit tape tape_now held held_now s now ConnEnd.Spent = EndsService answers gives_up limit tape tape_now held held_now s now ConnEnd.Spent
-EndsWith answers gives_up limit tape tape_now held held_now s now ConnEnd.OutOfMemory = EndsService answers gives_up limit tape tape_now held held_now s now ConnEnd.OutOfMemory
+EndsWith answers gives_up limit tape tape_now held held_now s now ConnEnd.Spent =
+    EndsService answers gives_up limit tape tape_now held held_now s now ConnEnd.Spent
+EndsWith answers gives_up limit tape tape_now held held_now s now ConnEnd.OutOfMemory =
+    EndsService answers gives_up limit tape tape_now held held_now s now ConnEnd.OutOfMemory
 
--- A connection was served on a desk, over a source, a sink and lanes, and ended so.
-pub record ServesConnection {D L : Type 0} (faults : D → ℕ) (may_leave : D → List ℕ → Type 0) (moment : D → ℕ) (left_since : D → ℕ → List ℕ → Type 0) (Works : List ℕ → List ℕ → Lane L → Lane L → Outcome → Type 0) (IsMoment : ℕ → Type 0) (r : Roster) (tape tape_now : Option Tape) (held held_now : Option (List ℕ)) (lanes lanes_now : List (Lane L)) (old new : OnDisk D) (result : ConnEnd) : Type 0 where
+-- what a connection brings and takes: the bytes of its source, and those that its sink took, where they tell them
+pub record Talked : Type 0 where
+  pub tape : Option Tape
+  pub held : Option (List ℕ)
+
+abbrev pub talked : Option Tape → Option (List ℕ) → Talked
+talked tape held = record { tape = tape; held = held }
+
+-- which messages came, what each was replied by its own steps, and why no more were read
+abbrev pub EndsSo : {L : Type 0} → LinkGhosts L → (ℕ → Type 0) → Roster → Talked → Talked → List (Lane L) → Course L → ConnEnd → Type 0
+EndsSo l IsMoment r before now lanes course end =
+    EndsWith (AnswersOn (works l) IsMoment r) (GivesUpOn (works l) IsMoment r) REQUEST_LIMIT before.tape now.tape before.held now.held (begun lanes) course end
+
+-- A connection was served on a desk that nobody else calls, over a source, a sink and lanes, and ended so.
+pub record ServesConnection {D L : Type 0} (d : DiskGhosts D) (l : LinkGhosts L) (IsMoment : ℕ → Type 0) (r : Roster) (before now : Talked) (lanes lanes_now : List (Lane L)) (old new : OnDisk D) (end : ConnEnd) : Type 0 where
   pub course : Course L
   pub lanes_are : course.lanes ≡ lanes_now
-  -- the calls of its messages were taken, one after another, and their books are those of the headline
-  pub on_disk : RunsOn faults may_leave moment left_since old new course.told
-  pub books : HasBooks old.desk.terms.day old.desk.history (turns_of course.told) new.desk.history
+  -- each step is at the history that those before it leave,
+  pub steps : AreSteps alone old.desk.terms old.desk.history course.steps new.desk.history
+  -- the disk keeps their calls as a run, and their books are those of the headline
+  pub on_disk : RunsOn d.faults d.may_leave d.moment d.left_since old new (told_of course.steps)
+  pub books : HasBooks old.desk.terms.day old.desk.history (turns_of course.steps) new.desk.history
   -- which messages came, what they were replied, and why no more were read
-  pub ends : EndsWith (AnswersOn Works IsMoment r old.desk.history) (GivesUpOn Works IsMoment r old.desk.history) REQUEST_LIMIT tape tape_now held held_now (begun lanes) course result
+  pub ends : EndsSo l IsMoment r before now lanes course end

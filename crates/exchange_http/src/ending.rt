@@ -1,22 +1,20 @@
 //! How a connection ends.
-ghost use Rattle.std.specs.Prelude.{◌≡◌, ℕ, List, false, Option, Some, IfOk, OnErr};
-ghost use Rattle.adx_desk.specs.Desks.{OnDisk};
-ghost use Rattle.adx_io.specs.Streams.{HasCause, Tape};
-ghost use Rattle.fan_out.specs.Lanes.{IsWorked};
-ghost use Rattle.fan_out.specs.declared.lane.Lane.{Lane as LaneOf};
+ghost use Rattle.std.specs.Prelude.{◌≡◌, Some, IfOk, OnErr};
+ghost use Rattle.adx_io.specs.Streams.{HasCause};
 ghost use Rattle.http_connection.specs.declared.conn.ConnEnd.{ConnEnd as End};
 ghost use Rattle.http_service.specs.Replies.{fault_status};
-ghost use Rattle.exchange_http.specs.Running.{EndsAt, EndsHere, EndsOver, IsEndOf, IsFloor, IsSettled, IsUnderWay, ended};
-ghost use Rattle.exchange_http.specs.Serving.{IsMomentOf};
+ghost use Rattle.exchange_floor.specs.Floors.{IsFloor, IsKept};
+ghost use Rattle.exchange_http.specs.Going.{EndsBehind, kept};
+ghost use Rattle.exchange_http.specs.Running.{EndsAt, EndsOver, IsEndOf, IsSettled};
 
-use crate::clock::Clock;
-use crate::floor::Floor;
 use crate::keeping::{Keeping, put_all_out};
 use crate::outlet::Outlet;
 use crate::over::Over;
 use adx_http::{ConnEnd, HttpFault};
-use adx_io::{Disk, Failed};
+use adx_io::Failed;
 use adx_links::Link;
+use desk_calls::DayDesk;
+use exchange_floor::{Clock, Floor, Given, Round};
 
 /// Ends a connection whose next message is refused, by its reply.
 fn refuse_by<O: Outlet>(outlet: &mut O, fault: HttpFault, status: u16) -> Result<ConnEnd, Failed>
@@ -70,24 +68,27 @@ fn end_so<O: Outlet>(outlet: &mut O, over: Over) -> Result<ConnEnd, Failed>
 
 /// Ends a connection whose messages are over: takes the notices that wait, puts all replies, and behind them the reply to
 /// a message that is refused.
-pub(crate) fn finish<D: Disk, L: Link, C: Clock, O: Outlet>(
-    floor: &mut Floor<'_, D, L, C>,
+pub(crate) fn finish<
+    Y: DayDesk,
+    L: Link + Drop,
+    C: Clock,
+    F: Fn(Round<'_, L>) -> Given<L>,
+    O: Outlet,
+>(
+    floor: &mut Floor<'_, Y, L, C, F>,
     keeping: &mut Keeping<O>,
     over: Over,
 ) -> Result<ConnEnd, Failed>
-    requires floor { IsFloor floor.old.roster.now floor.old.desk.now floor.old.lanes.now.items }
-    ensures ends { IfOk result (λ end. (start : OnDisk D) (lanes : List (LaneOf L)) (tape tape_now : Option Tape) (before : Option (List ℕ))
-        → IsUnderWay D.faults D.may_leave D.moment D.left_since (IsWorked L.exchanges L.course L.faults L.place) (IsMomentOf (C.moment floor.old.clock.now)) floor.old.roster.now start lanes tape tape_now (ended over) before floor.old.desk.now floor.old.lanes.now.items keeping.old.waiting.batch.calls false (O.held keeping.old.outlet) (O.least keeping.old.outlet) (O.waiting keeping.old.outlet)
-        → EndsHere D.faults D.may_leave D.moment D.left_since (IsWorked L.exchanges L.course L.faults L.place) (IsMomentOf (C.moment floor.old.clock.now)) floor.old.roster.now start lanes tape tape_now before floor.new.desk.now floor.new.lanes.now.items (O.sunk keeping.new.outlet) end) }
-    ensures fails { OnErr result ((start : OnDisk D) (lanes : List (LaneOf L)) (tape tape_now : Option Tape) (before : Option (List ℕ))
-        → IsUnderWay D.faults D.may_leave D.moment D.left_since (IsWorked L.exchanges L.course L.faults L.place) (IsMomentOf (C.moment floor.old.clock.now)) floor.old.roster.now start lanes tape tape_now (ended over) before floor.old.desk.now floor.old.lanes.now.items keeping.old.waiting.batch.calls false (O.held keeping.old.outlet) (O.least keeping.old.outlet) (O.waiting keeping.old.outlet)
-        → EndsHere D.faults D.may_leave D.moment D.left_since (IsWorked L.exchanges L.course L.faults L.place) (IsMomentOf (C.moment floor.old.clock.now)) floor.old.roster.now start lanes tape tape_now before floor.new.desk.now floor.new.lanes.now.items (O.sunk keeping.new.outlet) End.WriteFault) }
-    ensures floor { IsFloor floor.new.roster.now floor.new.desk.now floor.new.lanes.now.items }
-    ensures rest { (floor.new.roster ≡ floor.old.roster) × (floor.new.clock ≡ floor.old.clock) × (floor.new.desk.ghost_name ≡ floor.old.desk.ghost_name) × (floor.new.lanes.ghost_name ≡ floor.old.lanes.ghost_name) }
+    requires floor { IsFloor Y.DayDesk floor.old }
+    ensures ends { IfOk result (EndsBehind Y.DayDesk L.Link C.Clock O.Outlet over
+        floor.old (kept keeping.old) floor.new keeping.new.outlet) }
+    ensures fails { OnErr result (EndsBehind Y.DayDesk L.Link C.Clock O.Outlet over
+        floor.old (kept keeping.old) floor.new keeping.new.outlet End.WriteFault) }
+    ensures floor { IsFloor Y.DayDesk floor.new }
+    ensures kept { IsKept Y.DayDesk floor.old floor.new }
     ensures cause { HasCause (O.faults keeping.old.outlet) (O.faults keeping.new.outlet) result }
     ensures by { IfOk result (λ end. IsEndOf over end) }
     ensures place { O.place keeping.new.outlet ≡ O.place keeping.old.outlet }
-    ensures lasts { D.lasts floor.old.desk.now.disk floor.new.desk.now.disk }
 {
     match put_all_out(floor, keeping) {
         Ok(()) => end_so(&mut keeping.outlet, over),

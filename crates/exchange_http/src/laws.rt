@@ -1,5 +1,5 @@
 //! Laws of the definition of what messages are answered: each is a function without a body, whose contract is the law.
-ghost use Rattle.fan_out.specs.Lanes.{IsWorked};
+ghost use Rattle.exchange_floor.specs.Floors.{works};
 ghost use Rattle.exchange_http.specs.Laws.{HasMeaning, HasOneMeaning, HasOneReply};
 
 use adx_links::Link;
@@ -11,7 +11,7 @@ pub fn has_meaning()
     ensures one { HasOneMeaning }
 {}
 
-/// Messages that made the same calls from the same history have the same replies, whatever their lanes and clocks were.
+/// Messages that made the same steps have the same replies, whatever their lanes and clocks were.
 pub fn one_reply<L: Link>()
-    ensures { HasOneReply (IsWorked L.exchanges L.course L.faults L.place) }
+    ensures { HasOneReply (works L.Link) }
 {}

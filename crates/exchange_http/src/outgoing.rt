@@ -64,7 +64,8 @@ impl<K: Sink> Outgoing<K> {
 
     /// Puts all that is gathered.
     fn send(&mut self) -> Result<(), Failed>
-        ensures held { append_known (K.held self.new.sink) (drop self.new.put self.new.bytes.items) ≡ append_known (K.held self.old.sink) (drop self.old.put self.old.bytes.items) }
+        ensures held { append_known (K.held self.new.sink) (drop self.new.put self.new.bytes.items)
+            ≡ append_known (K.held self.old.sink) (drop self.old.put self.old.bytes.items) }
         ensures none { OnOk result ((self.new.bytes.items ≡ []) × (self.new.put ≡ 0)) }
         ensures cause { HasCause (K.faults self.old.sink) (K.faults self.new.sink) result }
         ensures place { K.place self.new.sink ≡ K.place self.old.sink }

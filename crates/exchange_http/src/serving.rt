@@ -1,16 +1,15 @@
 //! A connection, from its first message to its end.
 ghost use Rattle.std.specs.Prelude.{◌≡◌, ◌≤◌, [], drop, false, vec_capacity};
 ghost use Rattle.adx_desk.specs.Rosters.{desk_terms};
-ghost use Rattle.fan_out.specs.Lanes.{IsWorked};
 ghost use Rattle.http_service.specs.Connections.{HasCauses};
 ghost use Rattle.http_service.specs.declared.limits.TheConstants.{REQUEST_LIMIT as request_limit};
-ghost use Rattle.exchange_http.specs.Running.{EndsHere, IsFloor, IsSettled};
-ghost use Rattle.exchange_http.specs.Serving.{AreLanes, IsMomentOf, ServesConnection};
+ghost use Rattle.exchange_floor.specs.Floors.{AreLanes, Gave, IsFloor, IsKept, IsMomentOf};
+ghost use Rattle.exchange_http.specs.Going.{EndsOn};
+ghost use Rattle.exchange_http.specs.Running.{IsSettled};
+ghost use Rattle.exchange_http.specs.Serving.{ServesConnection, talked};
 ghost use Rattle.exchange_http.specs.declared.outgoing.TheConstants.{ROOM as room_size};
 
-use crate::clock::Clock;
 use crate::ending::finish;
-use crate::floor::Floor;
 use crate::keeping::Keeping;
 use crate::messages::serve_all;
 use crate::outgoing::{Outgoing, room};
@@ -21,10 +20,12 @@ use adx_desk::Desk;
 use adx_http::{Conn, ConnEnd};
 use adx_io::{Disk, Sink, Source};
 use adx_links::Link;
-use adx_units::OutOfMemory;
 use deal_floor::Roster;
+use desk_calls::DayDesk;
+use exchange_floor::{Clock, Floor, Given, Round, in_turn};
 use fan_out::Lane;
 use http_service::REQUEST_LIMIT;
+use owned_desk::OwnDesk;
 use std::alloc::Global;
 
 /// Nothing waits, and nothing is gathered for the sink.
@@ -56,24 +57,34 @@ fn close<K: Sink + Drop>(keeping: Keeping<Outgoing<K>>) -> K
 }
 
 /// Serves the messages of a connection, and ends it.
-fn serve_over<D: Disk, L: Link, C: Clock, S: Source, O: Outlet>(
+fn serve_over<
+    Y: DayDesk,
+    L: Link + Drop,
+    C: Clock,
+    F: Fn(Round<'_, L>) -> Given<L>,
+    S: Source,
+    O: Outlet,
+>(
     alloc: Global,
-    floor: &mut Floor<'_, D, L, C>,
+    floor: &mut Floor<'_, Y, L, C, F>,
     keeping: &mut Keeping<O>,
     conn: &mut Conn,
     source: &mut S,
 ) -> ConnEnd
-    requires floor { IsFloor floor.old.roster.now floor.old.desk.now floor.old.lanes.now.items }
+    requires floor { IsFloor Y.DayDesk floor.old }
+    requires always { F.IsAlwaysCallable floor.old.gatherer }
+    requires gives { (x y : _) → F.post floor.old.gatherer x y → Gave L.Link x y }
     requires conn { conn.old ≡ record { held = []; failed = false; limit = request_limit } }
     requires none { keeping.old.waiting.batch.calls ≡ [] }
     requires settled { IsSettled (O.held keeping.old.outlet) (O.left keeping.old.outlet) (O.least keeping.old.outlet) }
-    ensures ends { EndsHere D.faults D.may_leave D.moment D.left_since (IsWorked L.exchanges L.course L.faults L.place) (IsMomentOf (C.moment floor.old.clock.now)) floor.old.roster.now floor.old.desk.now floor.old.lanes.now.items (S.tape source.old) (S.tape source.new) (O.held keeping.old.outlet) floor.new.desk.now floor.new.lanes.now.items (O.sunk keeping.new.outlet) result }
-    ensures floor { IsFloor floor.new.roster.now floor.new.desk.now floor.new.lanes.now.items }
-    ensures rest { (floor.new.roster ≡ floor.old.roster) × (floor.new.clock ≡ floor.old.clock) × (floor.new.desk.ghost_name ≡ floor.old.desk.ghost_name) × (floor.new.lanes.ghost_name ≡ floor.old.lanes.ghost_name) }
+    ensures ends { EndsOn Y.DayDesk L.Link C.Clock O.Outlet
+        floor.old floor.old.desk floor.old.lanes.now.items (S.tape source.old) (S.tape source.new) (O.held keeping.old.outlet)
+        floor.new keeping.new.outlet result }
+    ensures floor { IsFloor Y.DayDesk floor.new }
+    ensures kept { IsKept Y.DayDesk floor.old floor.new }
     ensures causes { HasCauses (S.faults source.old) (S.faults source.new) (O.faults keeping.old.outlet) (O.faults keeping.new.outlet) result }
     ensures source { S.place source.new ≡ S.place source.old }
     ensures place { O.place keeping.new.outlet ≡ O.place keeping.old.outlet }
-    ensures lasts { D.lasts floor.old.desk.now.disk floor.new.desk.now.disk }
 {
     match serve_all(alloc, floor, keeping, conn, source) {
         Ok(over) => match finish(floor, keeping, over) {
@@ -97,7 +108,7 @@ fn serve_over<D: Disk, L: Link, C: Clock, S: Source, O: Outlet>(
 /// a message that is refused, its reply written (`Refused`); at a fault of the source or of the sink, whose count rose
 /// (`ReadFault`, `WriteFault`); after `MESSAGE_LIMIT` messages (`Spent`); or where memory is refused (`OutOfMemory`), the
 /// replies to all messages before put. A fault of the disk is answered by a reply, and the connection goes on.
-pub fn serve_connection<'a, S: Source, K: Sink, D: Disk, L: Link, C: Clock>(
+pub fn serve_connection<'a, S: Source, K: Sink, D: Disk, L: Link + Drop, C: Clock>(
     alloc: Global,
     roster: &'a Roster,
     desk: &'a mut Desk<D>,
@@ -108,7 +119,8 @@ pub fn serve_connection<'a, S: Source, K: Sink, D: Disk, L: Link, C: Clock>(
 ) -> ConnEnd
     requires terms { desk.old.desk.terms ≡ desk_terms roster.now }
     requires lanes { AreLanes roster.now links.old.items }
-    ensures serves { ServesConnection D.faults D.may_leave D.moment D.left_since (IsWorked L.exchanges L.course L.faults L.place) (IsMomentOf (C.moment clock.entry.now)) roster.entry.now (S.tape source.old) (S.tape source.new) (K.held sink.old) (K.held sink.new) links.old.items links.new.items desk.old desk.new result }
+    ensures serves { ServesConnection D.Disk L.Link (IsMomentOf (C.moment clock.entry.now)) roster.entry.now
+        (talked (S.tape source.old) (K.held sink.old)) (talked (S.tape source.new) (K.held sink.new)) links.old.items links.new.items desk.old desk.new result }
     ensures causes { HasCauses (S.faults source.old) (S.faults source.new) (K.faults sink.old) (K.faults sink.new) result }
     ensures lanes { AreLanes roster.entry.now links.new.items }
     ensures lasts { D.lasts desk.old.disk desk.new.disk }
@@ -129,9 +141,12 @@ pub fn serve_connection<'a, S: Source, K: Sink, D: Disk, L: Link, C: Clock>(
     let mut keeping = keeping_over(alloc, waiting, bytes, &mut *sink);
     let mut floor = Floor {
         roster,
-        desk,
+        desk: OwnDesk { desk },
         lanes: links,
         clock,
+        gatherer: |round: Round<'_, L>| -> Given<L>
+            ensures { Gave L.Link round.entry result }
+        { in_turn(alloc, round) },
     };
     let end = serve_over(alloc, &mut floor, &mut keeping, &mut conn, source);
     let _ = close(keeping);

@@ -13,10 +13,8 @@ use Rattle.day_rules.specs.declared.answer.Answer.{Answer}
 use Rattle.day_rules.specs.declared.answer.Seen.{Seen}
 use Rattle.day_rules.specs.declared.ask.Ask.{Ask}
 use Rattle.day_rules.specs.declared.entry.Entry.{Entry}
-use Rattle.day_meters.specs.DayMeters.{meters_after}
 use Rattle.day_rules.specs.Entries.{change_of}
-use Rattle.day_rules.specs.Replies.{Call, ask, notice, set_budget, tick, is_awarded, reply, seen_in}
-use Rattle.day_rules.specs.Runs.{after_turn}
+use Rattle.day_rules.specs.Replies.{Call, ask, notice, set_budget, tick, is_awarded, reply, seen_in, with_entry}
 use Rattle.day_rules.specs.Terms.{Terms}
 use Rattle.deal_floor.specs.declared.roster.Roster.{Roster}
 use Rattle.fan_out.specs.declared.answer.BidderAnswer.{BidderAnswer}
@@ -27,7 +25,9 @@ use Rattle.http_connection.specs.Messages.{Request}
 use Rattle.rtb_request.specs.ForBidders.{request_for_bidders}
 use Rattle.rtb_request.specs.declared.bid_request.BidRequest.{BidRequest}
 use Rattle.rtb_response.specs.declared.bid_answer.BidAnswer.{BidAnswer}
-use Rattle.desk_runs.specs.Meanings.{Told, turn_of}
+use Rattle.desk_calls.specs.Calls.{Called, Ended, wanted_memory, was_done, was_given_up}
+use Rattle.desk_calls.specs.Steps.{Step, looked, metered, took}
+use Rattle.meter_steps.specs.declared.meters.Meters.{Meters}
 use Rattle.script_lines.specs.Changes.{pair_place}
 use Rattle.http_service.specs.declared.answer.Methods.{Methods}
 use Rattle.exchange_messages.specs.Meanings.{Meaning, asks, notifies, sets_budget, wants_books, wants_meters, refused, Means}
@@ -81,15 +81,16 @@ AnswerReplies r (Answer.Late last) about said = said ≡ with_status 409 (late_l
 AnswerReplies r (Answer.BelowCommitted committed) about said = said ≡ with_status 409 (below_line committed.0)
 AnswerReplies r Answer.NoCampaign about said = said ≡ with_status 404 (answer_line r.campaigns Answer.NoCampaign None)
 
--- the reply to a call after a history: by the answer that the history gives it, or by its fault
-abbrev pub RepliesBy : Roster → List Entry → Told → Option Fault → Reply → Type 0
-RepliesBy r history t None said =
-    AnswerReplies r (reply (terms_by r) history t.call).answer
-    (ask_told (after_turn (terms_by r) history (turn_of t)) (reply (terms_by r) history t.call).answer) said
-RepliesBy r history t (Some fault) said = said ≡ fault_reply fault
+-- the reply to a call by how it ended: by the answer that the history at which it was taken gives it, or by its fault
+abbrev pub RepliesBy : Roster → List Entry → Call → Ended → Reply → Type 0
+RepliesBy r at call was_done said =
+    AnswerReplies r (reply (terms_by r) at call).answer
+    (ask_told (with_entry at (reply (terms_by r) at call).entry) (reply (terms_by r) at call).answer) said
+RepliesBy r at call (was_given_up fault) said = said ≡ fault_reply fault
+RepliesBy r at call wanted_memory said = ⊥
 
-abbrev pub CallReplies : Roster → List Entry → Told → Reply → Type 0
-CallReplies r history t said = RepliesBy r history t t.fault said
+abbrev pub CallReplies : Roster → Called → Reply → Type 0
+CallReplies r c said = RepliesBy r c.at c.call c.ended said
 
 -- the call of a change of a budget: of the campaign that the roster has with the seat and the id, or of none
 abbrev pub change_call : Roster → List ℕ → List ℕ → ℕ → Units → Call
@@ -97,12 +98,12 @@ change_call r seat cid change budget = set_budget (change_of (pair_place r.campa
 
 -- Behind the tick of a request: where that was done, the request is asked at the same moment; where the disk's fault gave
 -- it up, it isn't.
-abbrev pub AsksBehind : Roster → List Entry → BidRequest → List BidderAnswer → ℕ → Told → Option Fault → List Told → Reply → Type 0
-AsksBehind r history asked answers now ticked None told said =
-    (t : Told) × (t.call ≡ ask (ask_by r asked answers now)) × (told ≡ ticked ∷ t ∷ [])
-    × CallReplies r (after_turn (terms_by r) history (turn_of ticked)) t said
-AsksBehind r history asked answers now ticked (Some Fault.Disk) told said = (told ≡ ticked ∷ []) × (said ≡ tick_fault_reply)
-AsksBehind r history asked answers now ticked (Some (Fault.JournalFull size)) told said = ⊥
+abbrev pub AsksBehind : Roster → BidRequest → List BidderAnswer → ℕ → Called → Ended → List Step → Reply → Type 0
+AsksBehind r asked answers now ticked was_done steps said =
+    (c : Called) × (c.call ≡ ask (ask_by r asked answers now)) × (steps ≡ took ticked ∷ took c ∷ []) × CallReplies r c said
+AsksBehind r asked answers now ticked (was_given_up Fault.Disk) steps said = (steps ≡ took ticked ∷ []) × (said ≡ tick_fault_reply)
+AsksBehind r asked answers now ticked (was_given_up (Fault.JournalFull size)) steps said = ⊥
+AsksBehind r asked answers now ticked wanted_memory steps said = ⊥
 
 module _ {L : Type 0} (Works : List ℕ → List ℕ → Lane L → Lane L → Outcome → Type 0) where
   -- The bidders are asked where the request is new, with the body that their lanes are worked with, and each gives its
@@ -113,53 +114,66 @@ module _ {L : Type 0} (Works : List ℕ → List ℕ → Lane L → Lane L → O
   Gathers (Seen.Other kept) t asked old new answers = (new ≡ old) × (answers ≡ [])
 
 module _ {L : Type 0} (Works : List ℕ → List ℕ → Lane L → Lane L → Outcome → Type 0) (IsMoment : ℕ → Type 0) (r : Roster) where
-  -- a request for bids: what its bidders answered, and its tick and its ask at a moment of the clock
-  pub record IsAsked (history : List Entry) (old : List (Lane L)) (t : Tree) (asked : BidRequest) (told : List Told) (new : List (Lane L)) (said : Reply) : Type 0 where
+  -- a request for bids: a look at the history, what its bidders answered by it, and its tick and its ask at a moment of the
+  -- clock
+  pub record IsAsked (old : List (Lane L)) (t : Tree) (asked : BidRequest) (steps : List Step) (new : List (Lane L)) (said : Reply) : Type 0 where
+    pub looked_at : List Entry
     pub answers : List BidderAnswer
-    pub gathered : Gathers Works (seen_in history asked.id asked.digest) t asked old new answers
+    pub gathered : Gathers Works (seen_in looked_at asked.id asked.digest) t asked old new answers
     pub now : ℕ
     pub moment : IsMoment now
-    pub ticked : Told
+    pub ticked : Called
     pub ticks : ticked.call ≡ tick now
-    pub behind : AsksBehind r history asked answers now ticked ticked.fault told said
+    pub later : List Step
+    pub behind : AsksBehind r asked answers now ticked ticked.ended later said
+    pub are : steps ≡ looked looked_at ∷ later
 
-  -- what a message is answered, by what it means: the calls that it makes, what becomes of the lanes, and the reply
-  abbrev pub IsAnsweredAs : List Entry → List (Lane L) → Meaning → List Told → List (Lane L) → Reply → Type 0
-  IsAnsweredAs history old (asks t asked) told new said = IsAsked history old t asked told new said
-  IsAnsweredAs history old (notifies kind auction award) told new said =
-      (t : Told) × (t.call ≡ notice kind auction award) × (told ≡ t ∷ []) × (new ≡ old) × CallReplies r history t said
-  IsAnsweredAs history old (sets_budget seat cid change budget) told new said =
-      (t : Told) × (t.call ≡ change_call r seat cid change budget) × (told ≡ t ∷ []) × (new ≡ old) × CallReplies r history t said
-  IsAnsweredAs history old wants_books told new said =
-      (told ≡ []) × (new ≡ old) × (said ≡ with_status 200 (closing_table r.campaigns (terms_by r) history))
-  IsAnsweredAs history old wants_meters told new said =
-      (told ≡ []) × (new ≡ old) × (said ≡ with_status 200 (meters_text (meters_after history)))
-  IsAnsweredAs history old (refused why) told new said = (told ≡ []) × (new ≡ old) × (said ≡ refusal_reply why)
+  -- what a message is answered, by what it means: the steps that it makes, what becomes of the lanes, and the reply, which is
+  -- by the history of its own step
+  abbrev pub IsAnsweredAs : List (Lane L) → Meaning → List Step → List (Lane L) → Reply → Type 0
+  IsAnsweredAs old (asks t asked) steps new said = IsAsked old t asked steps new said
+  IsAnsweredAs old (notifies kind auction award) steps new said =
+      (c : Called) × (c.call ≡ notice kind auction award) × (steps ≡ took c ∷ []) × (new ≡ old) × CallReplies r c said
+  IsAnsweredAs old (sets_budget seat cid change budget) steps new said =
+      (c : Called) × (c.call ≡ change_call r seat cid change budget) × (steps ≡ took c ∷ []) × (new ≡ old) × CallReplies r c said
+  IsAnsweredAs old wants_books steps new said =
+      (at : List Entry) × (steps ≡ looked at ∷ []) × (new ≡ old) × (said ≡ with_status 200 (closing_table r.campaigns (terms_by r) at))
+  IsAnsweredAs old wants_meters steps new said =
+      (at : List Entry) × (m : Meters) × (steps ≡ metered at m ∷ []) × (new ≡ old) × (said ≡ with_status 200 (meters_text m))
+  IsAnsweredAs old (refused why) steps new said = (steps ≡ []) × (new ≡ old) × (said ≡ refusal_reply why)
 
   -- what a message is answered, by its meaning
-  pub record IsAnswered (history : List Entry) (old : List (Lane L)) (request : Request) (told : List Told) (new : List (Lane L)) (said : Reply) : Type 0 where
+  pub record IsAnswered (old : List (Lane L)) (request : Request) (steps : List Step) (new : List (Lane L)) (said : Reply) : Type 0 where
     pub meaning : Meaning
     pub means : Means request meaning
-    pub answered : IsAnsweredAs history old meaning told new said
+    pub answered : IsAnsweredAs old meaning steps new said
 
-  -- The calls of a request for bids whose reply wasn't made, for want of memory: none, its tick, or its tick and its ask. Its
-  -- lanes are as their work left them.
-  abbrev pub LeavesAsked : List Entry → List (Lane L) → Tree → BidRequest → List Told → List (Lane L) → Type 0
-  LeavesAsked history old t asked told new =
-      ((told ≡ []) × ((new ≡ old) ⊎ WereWorked (Works (spelling (request_for_bidders t)) asked.id) old new))
-      ⊎ ((answers : List BidderAnswer) × Gathers Works (seen_in history asked.id asked.digest) t asked old new answers
-      × (now : ℕ) × IsMoment now × (ticked : Told) × (ticked.call ≡ tick now)
-      × ((told ≡ ticked ∷ []) ⊎ ((ticked.fault ≡ None) × (t : Told) × (t.call ≡ ask (ask_by r asked answers now)) × (told ≡ ticked ∷ t ∷ []))))
+  -- The steps of a request for bids whose reply wasn't made, for want of memory: a look, or with its tick, or with its tick and
+  -- its ask. Its lanes are as their work left them.
+  abbrev pub LeavesAsked : List (Lane L) → Tree → BidRequest → List Step → List (Lane L) → Type 0
+  LeavesAsked old t asked steps new =
+      (looked_at : List Entry) × (later : List Step) × (steps ≡ looked looked_at ∷ later)
+      × (((later ≡ []) × ((new ≡ old) ⊎ WereWorked (Works (spelling (request_for_bidders t)) asked.id) old new))
+      ⊎ ((answers : List BidderAnswer) × Gathers Works (seen_in looked_at asked.id asked.digest) t asked old new answers
+      × (now : ℕ) × IsMoment now × (ticked : Called) × (ticked.call ≡ tick now)
+      × ((later ≡ took ticked ∷ []) ⊎ ((ticked.ended ≡ was_done) × (c : Called) × (c.call ≡ ask (ask_by r asked answers now)) × (later ≡ took ticked ∷ took c ∷ [])))))
 
   -- the call of a change of a budget whose reply wasn't made, for want of memory
-  abbrev pub LeavesChange : List (Lane L) → Request → List Told → List (Lane L) → Type 0
-  LeavesChange old request told new =
+  abbrev pub LeavesChange : List (Lane L) → Request → List Step → List (Lane L) → Type 0
+  LeavesChange old request steps new =
       (seat cid : List ℕ) × (change : ℕ) × (budget : Units) × Means request (sets_budget seat cid change budget)
-      × (t : Told) × (t.call ≡ change_call r seat cid change budget) × (told ≡ t ∷ []) × (new ≡ old)
+      × (c : Called) × (c.call ≡ change_call r seat cid change budget) × (steps ≡ took c ∷ []) × (new ≡ old)
 
-  -- a message whose reply wasn't made: none of its calls was taken, or it is a request for bids or a change of a budget
-  abbrev pub LeavesUnmade : List Entry → List (Lane L) → Request → List Told → List (Lane L) → Type 0
-  LeavesUnmade history old request told new =
-      ((told ≡ []) × (new ≡ old))
-      ⊎ (((t : Tree) × (asked : BidRequest) × Means request (asks t asked) × LeavesAsked history old t asked told new)
-      ⊎ LeavesChange old request told new)
+  -- a look at the books, or at the meters, whose reply wasn't made
+  abbrev pub LeavesLook : List (Lane L) → Request → List Step → List (Lane L) → Type 0
+  LeavesLook old request steps new =
+      (at : List Entry) × (new ≡ old)
+      × ((Means request wants_books × (steps ≡ looked at ∷ [])) ⊎ (Means request wants_meters × (m : Meters) × (steps ≡ metered at m ∷ [])))
+
+  -- a message whose reply wasn't made: it made no step, or a look; or it is a request for bids, or a change of a budget
+  abbrev pub LeavesUnmade : List (Lane L) → Request → List Step → List (Lane L) → Type 0
+  LeavesUnmade old request steps new =
+      ((steps ≡ []) × (new ≡ old))
+      ⊎ (LeavesLook old request steps new
+      ⊎ (((t : Tree) × (asked : BidRequest) × Means request (asks t asked) × LeavesAsked old t asked steps new)
+      ⊎ LeavesChange old request steps new))

@@ -2,7 +2,7 @@
 ghost use Rattle.std.specs.Prelude.{◌≡◌, IfOk};
 ghost use Rattle.adx_desk.specs.Rosters.{desk_terms};
 ghost use Rattle.fan_out.specs.declared.answer.TheConstants.{ANSWER_LIMIT as answer_limit};
-ghost use Rattle.exchange_http.specs.Serving.{AreLanes};
+ghost use Rattle.exchange_floor.specs.Floors.{AreLanes};
 
 use adx_desk::Desk;
 use adx_http::{Conn, ConnEnd, HttpFault};
@@ -11,7 +11,8 @@ use adx_json::read;
 use adx_links::{MemoryLink, Planned};
 use adx_units::{OutOfMemory, Text};
 use deal_floor::{Place, Roster};
-use exchange_http::{FixedClock, serve_connection};
+use exchange_floor::FixedClock;
+use exchange_http::serve_connection;
 use fan_out::{ANSWER_LIMIT, Lane};
 use std::alloc::Global;
 

@@ -18,10 +18,11 @@ returns-in-Ok-clause-ends g c =
     let roster = c.args.roster.now in
     let desk = c.in-Ok.desk in
     let last = c.serve_behind-ended.new.talk in
+    let s = c.serve_behind-ended.ensures.ends in
     inl (connection_lent (λ (e : MutBor _). e.now) g.D.Disk.faults g.D.Disk.reads g.D.Disk.may_leave g.D.Disk.moment g.D.Disk.left_since roster _ desk c.serve_behind-ended.new.desk c.args.disk.now _
     refl (search rules) c.in-Ok.ensures.opens c.in-Ok.ensures.same_count
-    (state_of c.args.talk.now).tape (g.S.Source.tape last.source.now) (g.K.Sink.held c.args.talk.now.sink.now) (g.K.Sink.held last.sink.now) c.in_ok-lanes.lanes.items c.serve_behind-ended.new.lanes.items c.serve_behind-ended.result
-    c.in_ok-lanes.ensures c.serve_behind-ended.ensures.ends)
+    (state_of c.args.talk.now).tape (g.S.Source.tape last.source.now) s.behind_now (g.K.Sink.held c.args.talk.now.sink.now) (g.K.Sink.held last.sink.now) c.in_ok-lanes.lanes.items s.serves.course s.end c.serve_behind-ended.result
+    c.in_ok-lanes.ensures s.serves.ends s.left s.serves.on_disk s.serves.steps s.ends)
 
 pub returns-in-Ok-clause-lasts : goal.returns-in-Ok-clause-lasts
 returns-in-Ok-clause-lasts g c =

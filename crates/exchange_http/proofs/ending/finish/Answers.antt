@@ -1,7 +1,6 @@
 -- All replies are put, and then the connection ends.
-use Rattle.fan_out.specs.Lanes.{IsWorked}
 use Rattle.exchange_http.specs.Running.{EndsOver, ended}
-use Rattle.exchange_http.specs.Serving.{IsMomentOf}
+use Rattle.exchange_floor.specs.Floors.{IsMomentOf, works}
 use Rattle.exchange_http.proofs.Along.{if_ok_by, on_err_by}
 use Rattle.exchange_http.proofs.Causes.{cause_after, ends_so}
 use Rattle.exchange_http.proofs.Ended.{over_ends, over_fails}
@@ -11,7 +10,7 @@ pub returns-in-Ok-clause-ends : goal.returns-in-Ok-clause-ends
 returns-in-Ok-clause-ends g c =
     if_ok_by (EndsOver (g.O.Outlet.held c.put_all_out.new.keeping.outlet) (g.O.Outlet.sunk c.end_so.new.outlet) c.args.over) c.end_so.result c.end_so.ensures.ends
     (λ end is start lanes tape tape_now before w.
-    over_ends g.D.Disk.faults g.D.Disk.may_leave g.D.Disk.moment g.D.Disk.left_since (IsWorked g.L.Link.exchanges g.L.Link.course g.L.Link.faults g.L.Link.place) (IsMomentOf (g.C.Clock.moment c.args.floor.now.clock.now)) c.args.floor.now.roster.now start lanes tape tape_now before c.put_all_out.new.floor.desk.now
+    over_ends g.Y.DayDesk (works g.L.Link) (IsMomentOf (g.C.Clock.moment c.args.floor.now.clock.now)) c.args.floor.now.roster.now start lanes tape tape_now before c.put_all_out.new.floor.desk
     c.put_all_out.new.floor.lanes.now.items (g.O.Outlet.held c.put_all_out.new.keeping.outlet) (g.O.Outlet.sunk c.end_so.new.outlet) (g.O.Outlet.least c.put_all_out.new.keeping.outlet) (g.O.Outlet.waiting c.put_all_out.new.keeping.outlet) c.args.over end
     (c.in-Ok.ensures.goes_on start lanes tape tape_now (ended c.args.over) before w) is)
 
@@ -26,7 +25,7 @@ pub returns-in-Ok-clause-fails : goal.returns-in-Ok-clause-fails
 returns-in-Ok-clause-fails g c =
     on_err_by (EndsOver (g.O.Outlet.held c.put_all_out.new.keeping.outlet) (g.O.Outlet.sunk c.end_so.new.outlet) c.args.over) c.end_so.result c.end_so.ensures.ends
     (λ failed is start lanes tape tape_now before w.
-    over_fails g.D.Disk.faults g.D.Disk.may_leave g.D.Disk.moment g.D.Disk.left_since (IsWorked g.L.Link.exchanges g.L.Link.course g.L.Link.faults g.L.Link.place) (IsMomentOf (g.C.Clock.moment c.args.floor.now.clock.now)) c.args.floor.now.roster.now start lanes tape tape_now before c.put_all_out.new.floor.desk.now
+    over_fails g.Y.DayDesk (works g.L.Link) (IsMomentOf (g.C.Clock.moment c.args.floor.now.clock.now)) c.args.floor.now.roster.now start lanes tape tape_now before c.put_all_out.new.floor.desk
     c.put_all_out.new.floor.lanes.now.items (g.O.Outlet.held c.put_all_out.new.keeping.outlet) (g.O.Outlet.sunk c.end_so.new.outlet) (g.O.Outlet.least c.put_all_out.new.keeping.outlet) (g.O.Outlet.waiting c.put_all_out.new.keeping.outlet) c.args.over failed
     (c.in-Ok.ensures.goes_on start lanes tape tape_now (ended c.args.over) before w) is)
 

@@ -1,7 +1,7 @@
 -- The law stands in `OneReply`.
-use Rattle.fan_out.specs.Lanes.{IsWorked}
+use Rattle.exchange_floor.specs.Floors.{works}
 use Rattle.exchange_http.proofs.OneReply.{one_reply}
 use Rattle.exchange_http.proofs.laws.one_reply.Goals as goal
 
 pub returns : goal.returns
-returns g c = one_reply (IsWorked g.L.Link.exchanges g.L.Link.course g.L.Link.faults g.L.Link.place)
+returns g c = one_reply (works g.L.Link)

@@ -1,14 +1,13 @@
 -- What the connection answered is the next message, the end, or a fault.
 use Rattle.std.proofs.Common.{◌≡◌, ℕ, suc, List, ◌++◌, Option, Result, None, Ok, Err, IfOk, IsNone, false, sym, ap, ◌∙◌, subst}
 use Rattle.adx_io.specs.Streams.{Tape, WhereTold}
-use Rattle.fan_out.specs.Lanes.{IsWorked}
 use Rattle.http_connection.specs.Answers.{AnswersMessage, GivesMessage}
 use Rattle.http_connection.specs.Messages.{IsUnfinishedRequest}
 use Rattle.http_connection.specs.declared.conn.Message.{Message}
 use Rattle.http_grammar.specs.declared.fault.HttpFault.{HttpFault}
 use Rattle.http_service.specs.Steps.{BringsOne}
 use Rattle.exchange_http.specs.Running.{StepCauses, StepGives}
-use Rattle.exchange_http.specs.Serving.{IsMomentOf}
+use Rattle.exchange_floor.specs.Floors.{IsMomentOf, works}
 use Rattle.exchange_http.specs.declared.over.Over.{Over}
 use Rattle.exchange_http.specs.declared.stop.Stop.{Stop}
 use Rattle.exchange_http.proofs.Causes.{fault_causes, faults_over, settled_sunk, sound_any, step_causes}
@@ -32,15 +31,15 @@ returns-in-Ok-None-clause-gives g c =
     let answers = (subst (λ (r : Result (Option Message) HttpFault). AnswersMessage c.args.conn.now c.next_message.follows.lender-at-none (g.S.Source.tape c.args.source.now) (g.S.Source.tape c.next_message.new.source) r) (c.in-Ok-None.is ∙ ap Ok c.in-Ok-None.field-0-is) c.next_message.follows.holds-at-none) in
     let told = subst (λ (n : ℕ). WhereTold (g.S.Source.tape c.args.source.now) (g.S.Source.tape c.next_message.new.source) (λ (o new : Tape). GivesMessage n (c.args.conn.now.held ++ o.left) (Ok None) (c.next_message.follows.lender-at-none.held ++ new.left))) c.requires.limit (AnswersMessage.told answers c.requires.sound) in
     λ start lanes tape count before less w.
-    ends_there g.D.Disk.faults g.D.Disk.may_leave g.D.Disk.moment g.D.Disk.left_since (IsWorked g.L.Link.exchanges g.L.Link.course g.L.Link.faults g.L.Link.place) (IsMomentOf (g.C.Clock.moment c.args.floor.now.clock.now)) c.args.floor.now.roster.now start lanes tape (g.S.Source.tape c.args.source.now) (g.S.Source.tape c.next_message.new.source) c.args.conn.now.held c.next_message.follows.lender-at-none.held count before c.args.floor.now.desk.now c.args.floor.now.lanes.now.items c.args.keeping.now.waiting.batch.calls (g.O.Outlet.held c.args.keeping.now.outlet) (g.O.Outlet.least c.args.keeping.now.outlet) (g.O.Outlet.waiting c.args.keeping.now.outlet) c.next_message.follows.lender-at-none less told (AnswersMessage.advances answers) w
+    ends_there g.Y.DayDesk (works g.L.Link) (IsMomentOf (g.C.Clock.moment c.args.floor.now.clock.now)) c.args.floor.now.roster.now start lanes tape (g.S.Source.tape c.args.source.now) (g.S.Source.tape c.next_message.new.source) c.args.conn.now.held c.next_message.follows.lender-at-none.held count before c.args.floor.now.desk c.args.floor.now.lanes.now.items c.args.keeping.now.waiting.batch.calls (g.O.Outlet.held c.args.keeping.now.outlet) (g.O.Outlet.least c.args.keeping.now.outlet) (g.O.Outlet.waiting c.args.keeping.now.outlet) c.next_message.follows.lender-at-none less told (AnswersMessage.advances answers) w
 
 pub returns-in-Err-clause-gives : goal.returns-in-Err-clause-gives
 returns-in-Err-clause-gives g c =
     let answers = (subst (λ (r : Result (Option Message) HttpFault). AnswersMessage c.args.conn.now c.next_message.follows.lender-at-none (g.S.Source.tape c.args.source.now) (g.S.Source.tape c.next_message.new.source) r) c.in-Err.is c.next_message.follows.holds-at-none) in
     let told = subst (λ (n : ℕ). WhereTold (g.S.Source.tape c.args.source.now) (g.S.Source.tape c.next_message.new.source) (λ (o new : Tape). GivesMessage n (c.args.conn.now.held ++ o.left) (Err c.in-Err.fault) (c.next_message.follows.lender-at-none.held ++ new.left))) c.requires.limit (AnswersMessage.told answers c.requires.sound) in
     λ start lanes tape count before less w.
-    subst (λ (r : Result (Option Over) Stop). StepGives g.D.Disk.faults g.D.Disk.may_leave g.D.Disk.moment g.D.Disk.left_since (IsWorked g.L.Link.exchanges g.L.Link.course g.L.Link.faults g.L.Link.place) (IsMomentOf (g.C.Clock.moment c.args.floor.now.clock.now)) c.args.floor.now.roster.now start lanes tape (g.S.Source.tape c.next_message.new.source) c.next_message.follows.lender-at-none.held (suc count) before c.args.floor.now.desk.now c.args.floor.now.lanes.now.items c.args.keeping.now.waiting.batch.calls (g.O.Outlet.held c.args.keeping.now.outlet) (g.O.Outlet.sunk c.args.keeping.now.outlet) (g.O.Outlet.least c.args.keeping.now.outlet) (g.O.Outlet.waiting c.args.keeping.now.outlet) r) (sym c.over_by.ensures)
-    (fault_gives g.D.Disk.faults g.D.Disk.may_leave g.D.Disk.moment g.D.Disk.left_since (IsWorked g.L.Link.exchanges g.L.Link.course g.L.Link.faults g.L.Link.place) (IsMomentOf (g.C.Clock.moment c.args.floor.now.clock.now)) c.args.floor.now.roster.now start lanes tape (g.S.Source.tape c.args.source.now) (g.S.Source.tape c.next_message.new.source) c.args.conn.now.held c.next_message.follows.lender-at-none.held count before c.args.floor.now.desk.now c.args.floor.now.lanes.now.items c.args.keeping.now.waiting.batch.calls (g.O.Outlet.held c.args.keeping.now.outlet) (g.O.Outlet.least c.args.keeping.now.outlet) (g.O.Outlet.waiting c.args.keeping.now.outlet) c.in-Err.fault (g.O.Outlet.sunk c.args.keeping.now.outlet) (g.O.Outlet.left c.args.keeping.now.outlet) less told (AnswersMessage.advances answers)
+    subst (λ (r : Result (Option Over) Stop). StepGives g.Y.DayDesk (works g.L.Link) (IsMomentOf (g.C.Clock.moment c.args.floor.now.clock.now)) c.args.floor.now.roster.now start lanes tape (g.S.Source.tape c.next_message.new.source) c.next_message.follows.lender-at-none.held (suc count) before c.args.floor.now.desk c.args.floor.now.lanes.now.items c.args.keeping.now.waiting.batch.calls (g.O.Outlet.held c.args.keeping.now.outlet) (g.O.Outlet.sunk c.args.keeping.now.outlet) (g.O.Outlet.least c.args.keeping.now.outlet) (g.O.Outlet.waiting c.args.keeping.now.outlet) r) (sym c.over_by.ensures)
+    (fault_gives g.Y.DayDesk (works g.L.Link) (IsMomentOf (g.C.Clock.moment c.args.floor.now.clock.now)) c.args.floor.now.roster.now start lanes tape (g.S.Source.tape c.args.source.now) (g.S.Source.tape c.next_message.new.source) c.args.conn.now.held c.next_message.follows.lender-at-none.held count before c.args.floor.now.desk c.args.floor.now.lanes.now.items c.args.keeping.now.waiting.batch.calls (g.O.Outlet.held c.args.keeping.now.outlet) (g.O.Outlet.least c.args.keeping.now.outlet) (g.O.Outlet.waiting c.args.keeping.now.outlet) c.in-Err.fault (g.O.Outlet.sunk c.args.keeping.now.outlet) (g.O.Outlet.left c.args.keeping.now.outlet) less told (AnswersMessage.advances answers)
     (λ is. subst (λ (n : ℕ). WhereTold (g.S.Source.tape c.args.source.now) (g.S.Source.tape c.next_message.new.source) (λ (o new : Tape). (given : List ℕ) × (o.left ≡ given ++ new.left) × IsUnfinishedRequest n (c.args.conn.now.held ++ given))) c.requires.limit (AnswersMessage.unread answers (ap Err is)))
     c.requires.none
     (settled_sunk (g.O.Outlet.held c.args.keeping.now.outlet) (g.O.Outlet.sunk c.args.keeping.now.outlet) (g.O.Outlet.left c.args.keeping.now.outlet) (g.O.Outlet.least c.args.keeping.now.outlet) c.requires.settled (g.met.O.Outlet.is_held c.args.keeping.now.outlet) (g.met.O.Outlet.is_least c.args.keeping.now.outlet)) w)

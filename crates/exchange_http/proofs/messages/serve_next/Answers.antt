@@ -1,6 +1,7 @@
 -- The next message, from what was taken, or behind all replies.
+use Rattle.exchange_floor.proofs.Requested.{kept_on}
+use Rattle.exchange_floor.specs.Floors.{works}
 use Rattle.std.proofs.Common.{◌≡◌, ◌≤◌, ℕ, suc, [], length, Option, refl, sym, ap, ◌∙◌, subst}
-use Rattle.fan_out.specs.Lanes.{IsWorked}
 use Rattle.http_connection.specs.Answers.{AnswersHeld}
 use Rattle.http_connection.specs.Messages.{IsRequestThen}
 use Rattle.http_connection.specs.State.{ConnState, room_of}
@@ -15,10 +16,10 @@ use Rattle.exchange_http.proofs.messages.serve_next.Goals as goal
 pub returns-in-Ok-clause-gives : goal.returns-in-Ok-clause-gives
 returns-in-Ok-clause-gives g c =
     let kept = subst (λ (r : Option Message). AnswersHeld c.args.conn.now c.held_message.follows.lender-at-none r) c.in-None.is c.held_message.follows.holds-at-none in
-    let same_roster : c.put_all_out.new.floor.roster.now ≡ c.args.floor.now.roster.now = cc c.put_all_out.ensures.rest.1 in
-    let same_clock : (g.C.Clock.moment c.put_all_out.new.floor.clock.now) ≡ (g.C.Clock.moment c.args.floor.now.clock.now) = cc c.put_all_out.ensures.rest.2 in
+    let same_roster : c.put_all_out.new.floor.roster.now ≡ c.args.floor.now.roster.now = cc c.put_all_out.ensures.kept.roster in
+    let same_clock : (g.C.Clock.moment c.put_all_out.new.floor.clock.now) ≡ (g.C.Clock.moment c.args.floor.now.clock.now) = cc c.put_all_out.ensures.kept.clock in
     λ start lanes tape count before less w.
-    along (GivesBy g.D.Disk.faults g.D.Disk.may_leave g.D.Disk.moment g.D.Disk.left_since (IsWorked g.L.Link.exchanges g.L.Link.course g.L.Link.faults g.L.Link.place) start lanes tape (g.S.Source.tape c.read_next.new.source) c.read_next.new.conn.held (suc count) before c.read_next.new.floor.desk.now c.read_next.new.floor.lanes.now.items c.read_next.new.keeping.waiting.batch.calls (g.O.Outlet.held c.read_next.new.keeping.outlet) (g.O.Outlet.sunk c.read_next.new.keeping.outlet) (g.O.Outlet.least c.read_next.new.keeping.outlet) (g.O.Outlet.waiting c.read_next.new.keeping.outlet) c.read_next.result)
+    along (GivesBy g.Y.DayDesk (works g.L.Link) start lanes tape (g.S.Source.tape c.read_next.new.source) c.read_next.new.conn.held (suc count) before c.read_next.new.floor.desk c.read_next.new.floor.lanes.now.items c.read_next.new.keeping.waiting.batch.calls (g.O.Outlet.held c.read_next.new.keeping.outlet) (g.O.Outlet.sunk c.read_next.new.keeping.outlet) (g.O.Outlet.least c.read_next.new.keeping.outlet) (g.O.Outlet.waiting c.read_next.new.keeping.outlet) c.read_next.result)
     c.args.floor.now.roster.now c.put_all_out.new.floor.roster.now (g.C.Clock.moment c.args.floor.now.clock.now) (g.C.Clock.moment c.put_all_out.new.floor.clock.now) same_roster same_clock
     (c.read_next.ensures.gives start lanes tape count before less
     (way_with [] c.put_all_out.new.keeping.waiting.batch.calls (sym c.in-Ok.ensures.empty) (way_along c.put_all_out.new.floor.roster.now c.args.floor.now.roster.now (g.C.Clock.moment c.put_all_out.new.floor.clock.now) (g.C.Clock.moment c.args.floor.now.clock.now) (sym same_roster) (sym same_clock) (c.in-Ok.ensures.goes_on start lanes tape (g.S.Source.tape c.args.source.now) (more c.held_message.follows.lender-at-none.held count) before
@@ -27,9 +28,6 @@ returns-in-Ok-clause-gives g c =
 pub returns-in-Ok-clause-causes : goal.returns-in-Ok-clause-causes
 returns-in-Ok-clause-causes g c =
     causes_after (g.S.Source.faults c.args.source.now) (g.S.Source.faults c.read_next.new.source) (g.O.Outlet.faults c.args.keeping.now.outlet) (g.O.Outlet.faults c.put_all_out.new.keeping.outlet) (g.O.Outlet.faults c.read_next.new.keeping.outlet) c.read_next.result c.in-Ok.ensures.cause.passed c.read_next.ensures.causes
-
-pub returns-in-Ok-clause-lasts : goal.returns-in-Ok-clause-lasts
-returns-in-Ok-clause-lasts g c = g.met.D.Disk.lasts_on _ _ _ c.put_all_out.ensures.lasts c.read_next.ensures.lasts
 
 pub returns-in-Err-clause-gives : goal.returns-in-Err-clause-gives
 returns-in-Err-clause-gives g c = λ start lanes tape count before less w. c.in-Err.ensures.fails start lanes tape (g.S.Source.tape c.args.source.now) (more c.args.conn.now.held count) before w
@@ -56,3 +54,12 @@ pub returns-in-Some-clause-goes_on : goal.returns-in-Some-clause-goes_on
 returns-in-Some-clause-goes_on g c =
     let answers = subst (λ (r : Option Message). AnswersHeld c.args.conn.now c.held_message.follows.lender-at-none r) c.in-Some.is c.held_message.follows.holds-at-none in
     sound_any c.take_read.result (ap (λ (s : ConnState). s.failed) answers.1 ∙ answers.0)
+
+pub read_next-requires-clause-always : goal.read_next-requires-clause-always
+read_next-requires-clause-always g c = rw (sym c.put_all_out.ensures.kept.gatherer) at c.requires.always
+
+pub read_next-requires-clause-gives : goal.read_next-requires-clause-gives
+read_next-requires-clause-gives g c = rw (sym c.put_all_out.ensures.kept.gatherer) at c.requires.gives
+
+pub returns-in-Ok-clause-kept : goal.returns-in-Ok-clause-kept
+returns-in-Ok-clause-kept g c = kept_on g.Y.DayDesk c.args.floor.now c.put_all_out.new.floor c.read_next.new.floor c.put_all_out.ensures.kept c.read_next.ensures.kept
