@@ -14,7 +14,7 @@ use Rattle.turnstile.specs.declared.view.SeatView.{SeatView}
 use Rattle.turnstile.specs.Rule.{has_ticket, is_pass, Whole, IsTicket, slot_of, Tickets, IsHolder, IsPlain, Passes, Knows, Kept}
 use Rattle.turnstile.specs.Steps.{looked, ticket_of, holding}
 use Rattle.atomic_table.specs.Table.{Step}
-use Rattle.turnstile.specs.declared.words.TheConstants.{SERVED, FAULTS}
+use Rattle.turnstile.specs.declared.words.TheConstants.{SERVED}
 use Rattle.turnstile.specs.Rule.{Shows}
 use Rattle.turnstile.specs.Steps.{stayed}
 use Rattle.turnstile.proofs.WordLemmas.{set_read, shows_still}
@@ -48,7 +48,7 @@ module _ {T I F N : Type 0} (items : T → List I) (count_faults : T → ℕ) (f
   unmoved s i id v r at = subst Rule (λ k. record { words = sym (set_read s.words i) k; homes = s.homes; views = sym (set_again s.views id v at) k }) r
 
   -- a word of those who sleep may become anything
-  pub stirs : (slots id : ℕ) (me : Me (Option T) (SeatView I F N)) (i : ℕ) (f : ℕ → ℕ) (st : Step (Option T)) → FAULTS < i → Allows Rule slots id me i f (stayed st me)
+  pub stirs : (slots id : ℕ) (me : Me (Option T) (SeatView I F N)) (i : ℕ) (f : ℕ → ℕ) (st : Step (Option T)) → SERVED < i → Allows Rule slots id me i f (stayed st me)
   stirs slots id me i f st past s r deep at fits = (
     me.0,
     keeps,

@@ -1,13 +1,13 @@
 -- What the seat has in hand over a turn, and what it knows at the end of it.
-use Rattle.std.proofs.Common.{◌≡◌, ◌⊎◌, ℕ, ◌+◌, ◌^◌, ◌<◌, ◌≤◌, List, [], ◌∷◌, ◌++◌, length, sym, refl, ap, ◌∙◌, subst, ⊎_elim, inl, inr, arith, Option, Some, None}
+use Rattle.std.proofs.Common.{◌≡◌, ◌⊎◌, ℕ, ◌+◌, ◌^◌, ◌<◌, ◌≤◌, List, [], ◌∷◌, ◌++◌, length, sym, refl, ap, ◌∙◌, subst, ⊎_elim, inl, inr, arith, Option, Some, None, Bool}
 use Rattle.turnstile.specs.declared.view.Stage.TheVariants.{Idle}
 use Rattle.turnstile.specs.declared.view.SeatView.{SeatView}
 use Rattle.std.proofs.Common.{◌-◌, append-nil, length-append}
 use Rattle.turnstile.specs.Rule.{is_pass}
 use Rattle.turnstile.specs.declared.limits.TheConstants.{LAST_COUNT}
-use Rattle.turnstile.specs.Turns.{added_by, placed, HasRisen}
+use Rattle.turnstile.specs.Turns.{added_by, placed, HasRisen, AreRight}
 use Rattle.turnstile.specs.Steps.{Sat, places}
-use Rattle.turnstile.specs.Hand.{InHand, Begun, Took, with_new, with_rise, turned}
+use Rattle.turnstile.specs.Hand.{InHand, Begun, Took, with_new, with_rise, turned, HasRun}
 
 abbrev in_slot : {A : Type 0} → A → Option A → A
 in_slot d None = d
@@ -20,9 +20,9 @@ value_or d (c ∷ cs) = in_slot d c.1
 pub value_same : {A : Type 0} (c : List (ℕ × Option A)) (x y : A) → c ≡ (0, Some x) ∷ [] → c ≡ (0, Some y) ∷ [] → x ≡ y
 value_same c x y a b = ap (value_or x) (sym a ∙ b)
 
--- by how much a count rose, from what its value said before and after
-pub rise_of : (n x y before after known : ℕ) → before ≡ x → after ≡ y → x ≡ known → x ≤ y → HasRisen n x y → (n ≤ after - before) ⊎ (known + (after - before) ≡ LAST_COUNT)
-rise_of n x y before after known b a k le h = ⊎_elim (λ (e : x + n ≤ y). inl (omega arith)) (λ (e : y ≡ LAST_COUNT). inr (omega arith)) h
+-- by how much a count rose that rose by at least n, from what is known of it before
+pub rise_of : (n x y rise known : ℕ) → x + rise ≡ y → x ≡ known → HasRisen n x y → (n ≤ rise) ⊎ (known + rise ≡ LAST_COUNT)
+rise_of n x y rise known is k h = ⊎_elim (λ (e : x + n ≤ y). inl (omega arith)) (λ (e : y ≡ LAST_COUNT). inr (omega arith)) h
 
 module _ {T I F N : Type 0} (items : T → List I) (count_faults : T → ℕ) (fixed_of : T → F) where
   abbrev Hand : Sat T I F N → T → List I → ℕ → Type 0
@@ -57,23 +57,21 @@ module _ {T I F N : Type 0} (items : T → List I) (count_faults : T → ℕ) (f
     pub same : m'.0 ≡ m.0
     pub value : m.0.faults + rise ≡ count_faults y
 
-  pub after_run : {m m₀ m' : Sat T I F N} {x₀ x y z : T} {new : List I} {before after faults faults' : ℕ} → Begun items count_faults fixed_of m x₀ → m.1 ≡ (0, Some x) ∷ [] → m₀ ≡ (m.0, (0, None) ∷ [])
-      → m' ≡ (m₀.0, (0, Some z) ∷ []) → y ≡ z → items z ≡ items x ++ new → fixed_of z ≡ fixed_of x → count_faults x ≤ count_faults z
-      → before ≡ length (items x) → after ≡ length (items z) → faults ≡ count_faults x → faults' ≡ count_faults z → after < 2 ^ 64 → faults' < 2 ^ 64
-      → AfterRun m m' x y new (after - before) (faults' - faults)
-  after_run {m} {m₀} {m'} {x₀} {x} {y} {z} {new} {before} {after} {faults} {faults'} h here out at is grown fixed more n₀ n₁ f₀ f₁ fits faults_fit =
-      let begun : Begun items count_faults fixed_of m x = subst (λ (w : T). Begun items count_faults fixed_of m w) (value_same m.1 x₀ x h.carried here) h in
-      let at' : m' ≡ (m.0, (0, Some y) ∷ []) = at ∙ (λ i. ((ap (λ (w : Sat T I F N). w.0) out) i, (0, Some (sym is i)) ∷ [])) in
-      let long = ap length grown in let sum = length-append (items x) new in let iy = ap (λ (w : T). length (items w)) is in let fy = ap count_faults is in let q = begun.faults in
-      let rise : count_faults y - count_faults x ≡ faults' - faults = omega arith in record {
-        begun = begun;
-        hand = subst (λ (n : ℕ). Hand m' y new n) rise
-            (ran_in_hand m m' x y new begun at' (ap items is ∙ grown) (ap fixed_of is ∙ fixed) (omega arith) (omega arith) (omega arith));
-        count = omega arith;
-        known = ap (λ (w : Sat T I F N). w.0.known) at' ∙ (begun.known ∙ sym (ap (λ (w : Sat T I F N). length w.0.seen) at'));
-        same = ap (λ (w : Sat T I F N). w.0) at';
-        value = omega arith;
-      }
+  module _ {J : Type 0} (adds : N → Option I) (is_fault : N → Bool) (legal : F → List I → Type 0) (right : F → List I → N → Type 0) (ran : J → F → List I → J → Type 0) (notes : J → List N) (risen : J → ℕ) where
+    pub after_run : {m m' : Sat T I F N} {x₀ x y : T} {j k : J} {before added rise : ℕ} → Begun items count_faults fixed_of m x₀ → m.1 ≡ (0, Some x) ∷ []
+        → HasRun adds is_fault items count_faults fixed_of legal right ran notes risen j k x y before added rise → m' ≡ (m.0, (0, Some y) ∷ []) → AfterRun m m' x y (added_by adds (notes k)) added rise
+    after_run {m} {m'} {x₀} {x} {y} {j} {k} {before} {added} {rise} h here r at =
+        let begun : Begun items count_faults fixed_of m x = subst (λ (w : T). Begun items count_faults fixed_of m w) (value_same m.1 x₀ x h.carried here) h in
+        let new : List I = added_by adds (notes k) in
+        let long = ap length r.grown in let sum = length-append (items x) new in let more = r.more in let risen_by = r.faults_more in let q = begun.faults in
+        let is : count_faults y - count_faults x ≡ rise = omega arith in record {
+          begun = begun;
+          hand = subst (λ (n : ℕ). Hand m' y new n) is (ran_in_hand m m' x y new begun at r.grown r.fixed_is (omega arith) r.fits r.faults_fit);
+          count = omega arith;
+          known = ap (λ (w : Sat T I F N). w.0.known) at ∙ (begun.known ∙ sym (ap (λ (w : Sat T I F N). length w.0.seen) at));
+          same = ap (λ (w : Sat T I F N). w.0) at;
+          value = omega arith;
+        }
 
   pub raised_in_hand : (m m' : Sat T I F N) (x : T) (new : List I) (n : ℕ) → Hand m x new n → m' ≡ (with_new m.0 new, m.1) → Hand m' x [] n
   raised_in_hand m m' x new n h at = subst (λ (z : Sat T I F N). Hand z x [] n) (sym at) record {

@@ -45,7 +45,7 @@ shows_faults ws d s f q q' x h is = let many = h.many in record {
 }
 
 -- a word of those who sleep says nothing
-pub shows_still : (ws : List ℕ) (d s f q i x : ℕ) → FAULTS < i → Shows ws d s f q → Shows (set ws i x) d s f q
+pub shows_still : (ws : List ℕ) (d s f q i x : ℕ) → SERVED < i → Shows ws d s f q → Shows (set ws i x) d s f q
 shows_still ws d s f q i x past h = record {
   many = length-set ws i x ∙ h.many;
   next = get_or-set_other ws i TICKETS x 0 (λ e. omega arith) ∙ h.next;

@@ -1,6 +1,6 @@
 //! A job's run, from the value in hand to the next ticket served.
-ghost use Rattle.std.specs.Prelude.{◌≡◌, ◌+◌, ◌++◌, ℕ, List, [], ◌∷◌, length, Some, None};
-ghost use Rattle.turnstile.specs.Hand.{Begun, InHand, with_new, with_rise, RanOnce};
+ghost use Rattle.std.specs.Prelude.{◌≡◌, ◌+◌, ◌++◌, ℕ, List, [], ◌∷◌, length, Some};
+ghost use Rattle.turnstile.specs.Hand.{Begun, HasRun, InHand, with_new, with_rise, RanOnce};
 
 use crate::job::Job;
 use crate::pass::TableSeat;
@@ -9,56 +9,82 @@ use adx_units::Counted;
 use std::marker::Brand;
 use std::snapshot::Snapshot;
 
+/// What a run leaves: the value behind it, how many items there were before, how many were added, and by how much the
+/// faults rose.
+#[derive(Drop)]
+struct Run<T> {
+    left: Snapshot<T>,
+    before: u64,
+    added: u64,
+    risen: u64,
+}
+
+/// Runs the job on a value, and finds what it added.
+fn run_on<T: Counted, J: Job<T>>(value: &mut T, job: &mut J, lent: &mut J::Lent) -> Run<T>
+    requires needs { J.needs job.old lent.old (T.fixed value.old) }
+    ensures ran { HasRun T.adds T.is_fault T.items T.fault_count T.fixed T.legal T.right J.ran J.notes J.risen
+        (job.old, lent.old) (job.new, lent.new) value.old value.new result.before result.added result.risen }
+    ensures left { result.left.value ≡ value.new }
+{
+    let before = value.count();
+    let faults = value.faults();
+    job.run(lent, value);
+    value.is_legal();
+    let added = value.count() - before;
+    let risen = value.faults() - faults;
+    Run {
+        left: Snapshot::of(value),
+        before,
+        added,
+        risen,
+    }
+}
+
 impl<T: Counted + Drop> Turnstile<T> {
     /// Runs the job on the value in hand, raises the front and the faults, gives the value back and serves the next.
     pub(crate) fn run_in<J: Job<T>>(&self, seat: &mut TableSeat<T>, job: &mut J, lent: &mut J::Lent)
         requires seat { seat.old.table_id ≡ self.now.id }
         requires hand { (x : T) × Begun T.items T.fault_count T.fixed seat.old.me x × J.needs job.old lent.old (T.fixed x) }
         ensures id { (seat.new.table_id ≡ seat.old.table_id) × (seat.new.id ≡ seat.old.id) }
-        ensures ran { RanOnce T.adds T.is_fault T.legal T.right J.ran J.notes J.risen (job.old, lent.old) (job.new, lent.new) seat.old.me seat.new.me }
+        ensures ran { RanOnce T.adds T.is_fault T.legal T.right J.ran J.notes J.risen (job.old, lent.old)
+            (job.new, lent.new) seat.old.me seat.new.me }
     {
-        let mut value = self.take_out(seat);
-        let before = value.count();
-        let faults = value.faults();
-        job.run(lent, &mut value);
-        value.is_legal();
-        let added = value.count() - before;
-        let risen = value.faults() - faults;
-        let shown = Snapshot::of(&value);
-        self.put_in(seat, value);
-        self.raise_all(seat, &shown, added);
-        self.count_all(seat, risen);
-        self.serve::<J, Brand>(seat, job, lent, before);
+        let run = self.run_there(seat, job, lent);
+        self.raise_all(seat, &run.left, run.added);
+        self.count_all(seat, run.risen);
+        self.serve::<J, Brand>(seat, job, lent, run.before);
         self.wake_next(seat);
     }
 
-    /// Takes the value out of the slot in hand.
-    pub(crate) fn take_out(&self, seat: &mut TableSeat<T>) -> T
+    /// Runs the job on the value where it lies, in the slot in hand.
+    fn run_there<J: Job<T>>(
+        &self,
+        seat: &mut TableSeat<T>,
+        job: &mut J,
+        lent: &mut J::Lent,
+    ) -> Run<T>
         requires seat { seat.old.table_id ≡ self.now.id }
-        requires hand { (x : T) × (seat.old.me.1 ≡ (0, Some x) ∷ []) }
+        requires hand { (x : T) × (seat.old.me.1 ≡ (0, Some x) ∷ []) × J.needs job.old lent.old (T.fixed x) }
         ensures id { (seat.new.table_id ≡ seat.old.table_id) × (seat.new.id ≡ seat.old.id) }
-        ensures value { seat.old.me.1 ≡ (0, Some result) ∷ [] }
-        ensures left { seat.new.me ≡ (seat.old.me.0, (0, None) ∷ []) }
+        ensures ran { (x : T) × (seat.old.me.1 ≡ (0, Some x) ∷ []) × HasRun T.adds T.is_fault T.items T.fault_count T.fixed
+            T.legal T.right J.ran J.notes J.risen (job.old, lent.old) (job.new, lent.new) x result.left.value
+            result.before result.added result.risen }
+        ensures view { seat.new.me ≡ (seat.old.me.0, (0, Some result.left.value) ∷ []) }
     {
-        self.table.shared.exchange(seat, 0, None).unwrap()
-    }
-
-    /// Puts the value back into the slot in hand.
-    pub(crate) fn put_in(&self, seat: &mut TableSeat<T>, value: T)
-        requires seat { seat.old.table_id ≡ self.now.id }
-        requires hand { seat.old.me.1 ≡ (0, None) ∷ [] }
-        ensures id { (seat.new.table_id ≡ seat.old.table_id) × (seat.new.id ≡ seat.old.id) }
-        ensures value { seat.new.me ≡ (seat.old.me.0, (0, Some value) ∷ []) }
-    {
-        self.table.shared.exchange(seat, 0, Some(value));
+        match seat.slot_mut(&self.table.shared, 0) {
+            Some(value) => run_on(value, job, lent),
+            None => unreachable!(),
+        }
     }
 
     /// Raises the front where items were added.
     pub(crate) fn raise_all(&self, seat: &mut TableSeat<T>, _value: &Snapshot<T>, n: u64)
         requires seat { seat.old.table_id ≡ self.now.id }
-        requires hand { (new : List T.Item) × (m : ℕ) × InHand T.items T.fault_count T.fixed seat.old.me _value.now.value new m × (length new ≡ n) }
+        requires hand { (new : List T.Item) × (m : ℕ)
+            × InHand T.items T.fault_count T.fixed seat.old.me _value.now.value new m × (length new ≡ n) }
         ensures id { (seat.new.table_id ≡ seat.old.table_id) × (seat.new.id ≡ seat.old.id) }
-        ensures raised { (new : List T.Item) → length new ≡ n → T.items _value.now.value ≡ seat.old.me.0.seen ++ new → seat.old.me.0.known ≡ length seat.old.me.0.seen → seat.new.me ≡ (with_new seat.old.me.0 new, seat.old.me.1) }
+        ensures raised { (new : List T.Item) → length new ≡ n → T.items _value.now.value ≡ seat.old.me.0.seen ++ new
+            → seat.old.me.0.known ≡ length seat.old.me.0.seen → seat.new.me ≡ (with_new seat.old.me.0 new, seat.old.me.1) }
     {
         if n > 0 {
             self.raise(seat, n);

@@ -13,9 +13,9 @@ ghost use Rattle.turnstile.specs.Hand.{InHand, with_new, with_rise};
 use crate::job::Job;
 use crate::order::Order;
 use crate::pass::TableSeat;
-use crate::plays::{Count, Learn, Look, Notes, Raise, ReadFront, Serve, Stir, Try};
+use crate::plays::{Count, Learn, Look, Mark, Notes, Raise, ReadFront, Serve, Try};
 use crate::view::SeatView;
-use crate::words::{FAULTS, FRONT, SERVED, TICKETS, WORDS};
+use crate::words::{FAULTS, FRONT, SERVED, SLEEPERS, TICKETS, WORDS};
 use adx_units::Counted;
 use atomic_table::Table;
 use std::alloc::Global;
@@ -54,7 +54,8 @@ impl<T: Counted + Drop> Turnstile<T> {
         requires idle { seat.old.me.0.stage ≡ Idle }
         requires pass { is_pass seat.old.me.0.role ≡ 1 }
         ensures id { (seat.new.table_id ≡ seat.old.table_id) × (seat.new.id ≡ seat.old.id) }
-        ensures drawn { result ≡ true → (t : ℕ) × (ticket ≡ t % 2 ^ 64) × (seat.new.me ≡ (record seat.old.me.0 { stage = Waits t }, seat.old.me.1)) }
+        ensures drawn { result ≡ true → (t : ℕ) × (ticket ≡ t % 2 ^ 64)
+            × (seat.new.me ≡ (record seat.old.me.0 { stage = Waits t }, seat.old.me.1)) }
         ensures same { result ≡ false → seat.new.me ≡ seat.old.me }
     {
         let found = self
@@ -78,9 +79,11 @@ impl<T: Counted + Drop> Turnstile<T> {
     /// Raises the front by the n items that the value in hand has more.
     pub(crate) fn raise(&self, seat: &mut TableSeat<T>, n: u64)
         requires seat { seat.old.table_id ≡ self.now.id }
-        requires hand { (x : T) × (new : List T.Item) × (m : ℕ) × InHand T.items T.fault_count T.fixed seat.old.me x new m × (length new ≡ n) }
+        requires hand { (x : T) × (new : List T.Item) × (m : ℕ)
+            × InHand T.items T.fault_count T.fixed seat.old.me x new m × (length new ≡ n) }
         ensures id { (seat.new.table_id ≡ seat.old.table_id) × (seat.new.id ≡ seat.old.id) }
-        ensures raised { (new : List T.Item) → length new ≡ n → (x : T) → seat.old.me.1 ≡ (0, Some x) ∷ [] → T.items x ≡ seat.old.me.0.seen ++ new → seat.new.me ≡ (with_new seat.old.me.0 new, seat.old.me.1) }
+        ensures raised { (new : List T.Item) → length new ≡ n → (x : T) → seat.old.me.1 ≡ (0, Some x) ∷ []
+            → T.items x ≡ seat.old.me.0.seen ++ new → seat.new.me ≡ (with_new seat.old.me.0 new, seat.old.me.1) }
     {
         self.table.shared.fetch_add::<Raise<T>>(seat, FRONT, n);
     }
@@ -107,7 +110,14 @@ impl<T: Counted + Drop> Turnstile<T> {
         requires seat { seat.old.table_id ≡ self.now.id }
         requires hand { (x : T) × InHand T.items T.fault_count T.fixed seat.old.me x [] 0 }
         ensures id { (seat.new.table_id ≡ seat.old.table_id) × (seat.new.id ≡ seat.old.id) }
-        ensures noted { seat.new.me ≡ (record seat.old.me.0 { stage = Idle; turns = seat.old.me.0.turns ++ placed T.adds _at (J.notes (_job.now, _lent.now)) }, []) }
+        ensures noted { seat.new.me ≡ (
+          record seat.old.me.0 {
+            stage = Idle;
+            turns = seat.old.me.0.turns
+                ++ placed T.adds _at (J.notes (_job.now, _lent.now));
+          },
+          [],
+        ) }
     {
         self.table.shared.fetch_add::<Serve<K>>(seat, SERVED, 1);
     }
@@ -136,13 +146,12 @@ impl<T: Counted + Drop> Turnstile<T> {
         self.table.shared.load::<Learn>(seat, FRONT);
     }
 
-    /// Adds n to a word that says nothing of the list, modulo 2^64.
-    pub(crate) fn stir(&self, seat: &mut TableSeat<T>, word: usize, n: u64)
+    /// Says whether somebody may sleep.
+    pub(crate) fn mark(&self, seat: &mut TableSeat<T>, asleep: u64)
         requires seat { seat.old.table_id ≡ self.now.id }
-        requires word { (FAULTS < word) × (word < WORDS) }
         ensures id { (seat.new.table_id ≡ seat.old.table_id) × (seat.new.id ≡ seat.old.id) }
         ensures same { seat.new.me ≡ seat.old.me }
     {
-        self.table.shared.fetch_add::<Stir>(seat, word, n);
+        self.table.shared.store::<Mark>(seat, SLEEPERS, asleep);
     }
 }

@@ -6,7 +6,7 @@ ghost use Rattle.turnstile.specs.Hand.{Took};
 
 use crate::pass::TableSeat;
 use crate::turnstile::Turnstile;
-use crate::words::{BELL, SERVED, SLEEPERS, TICKETS};
+use crate::words::{SERVED, SLEEPERS, TICKETS};
 use adx_units::Counted;
 use std::hint::spin_loop;
 use std::sync::Wait;
@@ -14,8 +14,11 @@ use std::sync::Wait;
 /// How often a thread looks before it sleeps.
 const SPINS: u32 = 100;
 
-/// The low bits of a bell, which a sleep compares.
-const LOW_BITS: u64 = 1 << 32;
+/// Nobody sleeps, or all who do were woken.
+const AWAKE: u64 = 0;
+
+/// Somebody may sleep.
+const ASLEEP: u64 = 1;
 
 impl<T: Counted + Drop> Turnstile<T> {
     /// Draws a ticket once none is out, and takes the value. The seat then has the value, and has seen all of it.
@@ -85,30 +88,30 @@ impl<T: Counted + Drop> Turnstile<T> {
         tries
     }
 
-    /// Sleeps until the bell is rung, unless no ticket is out by then. It may wake for no reason.
+    /// Sleeps until it is woken, unless no ticket is out by then. It may wake for no reason.
     fn sleep<R: Wait>(&self, rt: &R, seat: &mut TableSeat<T>)
         requires seat { seat.old.table_id ≡ self.now.id }
         ensures id { (seat.new.table_id ≡ seat.old.table_id) × (seat.new.id ≡ seat.old.id) }
         ensures same { seat.new.me ≡ seat.old.me }
     {
-        // A server that finds no sleeper has served before this: then the look below finds no ticket out.
-        self.stir(seat, SLEEPERS, 1);
-        let rung = self.table.shared.peek(BELL);
+        // A server that finds nobody asleep has served before this: then the look below finds no ticket out.
+        self.mark(seat, ASLEEP);
         if self.table.shared.peek(SERVED) != self.table.shared.peek(TICKETS) {
-            self.table.shared.park(rt, BELL, (rung % LOW_BITS) as u32);
+            self.table.shared.park(rt, SLEEPERS, ASLEEP as u32);
+            // Others may sleep, and only this thread was woken.
+            self.mark(seat, ASLEEP);
         }
-        self.stir(seat, SLEEPERS, u64::MAX);
     }
 
-    /// Rings the bell for one who sleeps, where somebody does.
+    /// Wakes one who sleeps, unless all who do were woken.
     pub(crate) fn wake_next(&self, seat: &mut TableSeat<T>)
         requires seat { seat.old.table_id ≡ self.now.id }
         ensures id { (seat.new.table_id ≡ seat.old.table_id) × (seat.new.id ≡ seat.old.id) }
         ensures same { seat.new.me ≡ seat.old.me }
     {
-        if self.table.shared.peek(SLEEPERS) > 0 {
-            self.stir(seat, BELL, 1);
-            self.table.shared.wake_one(BELL);
+        if self.table.shared.peek(SLEEPERS) == ASLEEP {
+            self.mark(seat, AWAKE);
+            self.table.shared.wake_one(SLEEPERS);
         }
     }
 }
