@@ -73,7 +73,9 @@ EndsGenerated seed asks (served r start told None) held held_now result =
     IsRosterLine generated_line r × EndsTaken r seed asks start told held held_now result × TellsTable r seed asks start held held_now result
 
 -- A generated day ended so on a sink and a disk.
-pub record ServesGenerated {D : Type 0} (faults : D → ℕ) (reads : D → Option (List ℕ)) (may_leave : D → List ℕ → Type 0) (moment : D → ℕ) (left_since : D → ℕ → List ℕ → Type 0) (seed asks : ℕ) (held held_now : Option (List ℕ)) (old new : D) (result : Result (Unit {0}) Ending) : Type 0 where
+pub record ServesGenerated {D : Type 0} (faults : D → ℕ) (reads : D → Option (List ℕ)) (may_leave : D → List ℕ → Type 0)
+    (moment : D → ℕ) (left_since : D → ℕ → List ℕ → Type 0) (seed asks : ℕ) (held held_now : Option (List ℕ)) (old new : D)
+    (result : Result (Unit {0}) Ending) : Type 0 where
   pub course : Course
   -- what was written, and how it ended, by how the day went
   pub ends : EndsGenerated seed asks course held held_now result

@@ -1,3 +1,4 @@
 pub mod Generated
 pub mod GeneratedEnds
 pub mod Taking
+pub mod Disks

@@ -45,7 +45,9 @@ PutsOutput held held_now out result =
     ((result ≡ Ok tt) × Took held held_now out) ⊎ ((result ≡ Err (Ending.Stopped Stop.WriteFault)) × TookFront held held_now out)
 
 -- the calls were answered so on the desk, one after another
-abbrev pub ServesCalls : {D : Type 0} → (faults : D → ℕ) (may_leave : D → List ℕ → Type 0) (moment : D → ℕ) (left_since : D → ℕ → List ℕ → Type 0) → OnDisk D → OnDisk D → List Told → Type 0
+abbrev pub ServesCalls : {D : Type 0}
+    → (faults : D → ℕ) (may_leave : D → List ℕ → Type 0) (moment : D → ℕ) (left_since : D → ℕ → List ℕ → Type 0) → OnDisk D
+    → OnDisk D → List Told → Type 0
 ServesCalls faults may_leave moment left_since old new [] = new ≡ old
 ServesCalls faults may_leave moment left_since old new (t ∷ told) =
     (mid : OnDisk _) × ServesCall faults may_leave moment left_since old mid t × ServesCalls faults may_leave moment left_since mid new told
@@ -72,7 +74,8 @@ BeginCalls calls told = (rest : List Call) × (calls ≡ calls_of told ++ rest)
 abbrev pub BeginAsk : Terms → ℕ → ℕ → List Entry → List Told → Type 0
 BeginAsk terms seed number history told = (rest : List Told) × AreOfAsk terms seed number history (told ++ rest)
 
-module _ {D : Type 0} (faults : D → ℕ) (may_leave : D → List ℕ → Type 0) (moment : D → ℕ) (left_since : D → ℕ → List ℕ → Type 0) (old new : OnDisk D) where
+module _ {D : Type 0} (faults : D → ℕ) (may_leave : D → List ℕ → Type 0) (moment : D → ℕ)
+    (left_since : D → ℕ → List ℕ → Type 0) (old new : OnDisk D) where
   -- calls were taken on the desk, and it ended so
   pub record Takes (Whole Begin : List Told → Type 0) (result : Result (Unit {0}) Ending) : Type 0 where
     pub told : List Told

@@ -1,15 +1,16 @@
 //! The calls of a generated day, taken on a desk.
-ghost use Rattle.std.specs.Prelude.{◌≡◌, ◌+◌, ◌*◌, ◌%◌, ◌<◌, ◌≤◌, ℕ, [], ◌∷◌, length, decimal, OnOk};
+ghost use Rattle.std.specs.Prelude.{◌≡◌, ◌+◌, ◌*◌, ◌%◌, ◌<◌, ◌≤◌, ℕ, [], ◌∷◌, length, decimal, option_map, OnOk};
 ghost use Rattle.day_rules.specs.Asks.{IsUndecided, IsWellFormed};
 ghost use Rattle.day_rules.specs.Replies.{notice as notice_call};
 ghost use Rattle.desk_runs.specs.Answering.{IsOfCall};
 ghost use Rattle.adx_books.specs.Generated.{calls_behind, notices_by, state_before, ticks_behind, word_at};
-ghost use Rattle.adx_books.specs.Taking.{PassedBy, TakesAsk, TakesCalls, TakesDay, TakesNumber, award_in};
+ghost use Rattle.adx_books.specs.Taking.{PassedBy, TakesAsk, TakesCalls, TakesDay, award_in};
 ghost use Rattle.adx_books.specs.declared.generator.TheConstants.{MOST_ASKS as most_asks};
+ghost use Rattle.adx_books.specs.Disks.{DeskTakesNumber};
 
 use crate::asks::{ask_of, next_word};
 use crate::generator::Generator;
-use adx_desk::{Desk, DeskFault, Done};
+use adx_desk::{Desk, DeskFault};
 use adx_io::{Disk, Stop};
 use day_rules::{Answer, Ask};
 use itoa::Buffer;
@@ -39,11 +40,11 @@ fn passed_over(fault: DeskFault) -> Result<(), Ending>
 }
 
 /// The number of an answered ask's award, if it was awarded.
-fn award_of(done: Done) -> Option<u32>
-    ensures { result ≡ award_in done.answer done.ask }
+fn award_of(answer: Answer, ask: Option<&Ask>) -> Option<u32>
+    ensures { result ≡ award_in answer (option_map (λ a. a.now) ask.entry) }
 {
-    match done.answer {
-        Answer::Awarded { .. } => Some(done.ask?.first),
+    match answer {
+        Answer::Awarded { .. } => Some(ask?.first),
         _ => None,
     }
 }
@@ -55,8 +56,8 @@ fn take_ask<D: Disk>(desk: &mut Desk<D>, ask: Ask) -> Result<Option<u32>, Ending
     ensures takes { TakesAsk D.faults D.may_leave D.moment D.left_since desk.old desk.new ask result }
     ensures lasts { D.lasts desk.old.disk desk.new.disk }
 {
-    match desk.ask(ask) {
-        Ok(done) => Ok(award_of(done)),
+    match desk.take_ask(ask) {
+        Ok(answer) => Ok(award_of(answer, desk.ask_for(answer))),
         Err(fault) => {
             passed_over(fault)?;
             Ok(None)
@@ -149,7 +150,8 @@ fn take_calls<D: Disk>(
     requires few { number < most_asks }
     requires campaigns { length desk.old.desk.terms.day.budgets ≡ 16 }
     requires state { (seed : ℕ) × (words.old ≡ state_before seed (9 * number)) }
-    ensures takes { (seed : ℕ) → words.old ≡ state_before seed (9 * number) → TakesNumber D.faults D.may_leave D.moment D.left_since desk.old desk.new seed number result }
+    ensures takes { (seed : ℕ) → words.old ≡ state_before seed (9 * number)
+        → DeskTakesNumber D.Disk desk.old desk.new seed number result }
     ensures state { OnOk result ((seed : ℕ) → words.old ≡ state_before seed (9 * number) → words.new ≡ state_before seed (9 * (number + 1))) }
     ensures lasts { D.lasts desk.old.disk desk.new.disk }
 {

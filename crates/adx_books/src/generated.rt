@@ -6,9 +6,10 @@ ghost use Rattle.adx_desk.specs.Rosters.{desk_terms};
 ghost use Rattle.script_day.specs.declared.ending.Ending.TheVariants.{DiskFault as FaultOfDisk, Stopped};
 ghost use Rattle.script_lines.specs.Rosters.{IsRosterLine};
 ghost use Rattle.adx_books.specs.Generated.{generated_line};
-ghost use Rattle.adx_books.specs.GeneratedEnds.{EndsUntaken, ServesGenerated};
-ghost use Rattle.adx_books.specs.Taking.{PutsOutput, RunsCalls};
+ghost use Rattle.adx_books.specs.GeneratedEnds.{EndsUntaken};
+ghost use Rattle.adx_books.specs.Taking.{PutsOutput};
 ghost use Rattle.adx_books.specs.declared.generator.TheConstants.{MOST_ASKS as most_asks};
+ghost use Rattle.adx_books.specs.Disks.{DeskRunsCalls, DiskServesGenerated};
 
 use crate::calls::take_day;
 use crate::generator::Generator;
@@ -45,7 +46,7 @@ fn run_generated<K: Sink, D: Disk>(
     requires few { generator.asks ≤ most_asks }
     requires terms { desk.old.desk.terms ≡ desk_terms roster.now }
     requires campaigns { length desk.old.desk.terms.day.budgets ≡ 16 }
-    ensures runs { RunsCalls D.faults D.may_leave D.moment D.left_since desk.old desk.new roster.entry.now generator.seed generator.asks (K.held sink.old) (K.held sink.new) result }
+    ensures runs { DeskRunsCalls D.Disk desk.old desk.new roster.entry.now generator.seed generator.asks (K.held sink.old) (K.held sink.new) result }
     ensures lasts { D.lasts desk.old.disk desk.new.disk }
     ensures write_fault { result ≡ Err (Stopped WriteFault) → Rises (K.faults sink.old) (K.faults sink.new) }
     ensures write_passed { result ≢ Err (Stopped WriteFault) → K.faults sink.new ≡ K.faults sink.old }
@@ -87,7 +88,7 @@ fn serve_roster<K: Sink, D: Disk>(
 ) -> Result<(), Ending>
     requires few { generator.asks ≤ most_asks }
     requires line { IsRosterLine generated_line roster.now }
-    ensures ends { ServesGenerated D.faults D.reads D.may_leave D.moment D.left_since generator.seed generator.asks (K.held sink.old) (K.held sink.new) disk.old disk.new result }
+    ensures ends { DiskServesGenerated D.Disk generator.seed generator.asks (K.held sink.old) (K.held sink.new) disk.old disk.new result }
     ensures lasts { D.lasts disk.old disk.new }
     ensures write_fault { result ≡ Err (Stopped WriteFault) → Rises (K.faults sink.old) (K.faults sink.new) }
     ensures write_passed { result ≢ Err (Stopped WriteFault) → K.faults sink.new ≡ K.faults sink.old }
@@ -126,7 +127,7 @@ pub fn serve_generated<K: Sink, D: Disk>(
     disk: &mut D,
 ) -> Result<(), Ending>
     requires few { generator.asks ≤ most_asks }
-    ensures ends { ServesGenerated D.faults D.reads D.may_leave D.moment D.left_since generator.seed generator.asks (K.held sink.old) (K.held sink.new) disk.old disk.new result }
+    ensures ends { DiskServesGenerated D.Disk generator.seed generator.asks (K.held sink.old) (K.held sink.new) disk.old disk.new result }
     ensures lasts { D.lasts disk.old disk.new }
     ensures disk_fault { result ≡ Err FaultOfDisk → Rises (D.faults disk.old) (D.faults disk.new) }
     ensures disk_passed { result ≢ Err FaultOfDisk → D.faults disk.new ≡ D.faults disk.old }

@@ -8,7 +8,8 @@ use Rattle.adx_desk.specs.Histories.{DeskTerms, IsHistoryOf}
 use Rattle.adx_desk.specs.Openings.{IsRefusal, RefusesDesk, StandsAsRead}
 
 -- A desk that was opened. Where the disk tells what it reads:
-pub record Opens {D : Type 0} (reads : D → Option (List ℕ)) (may_leave : D → List ℕ → Type 0) (moment : D → ℕ) (left_since : D → ℕ → List ℕ → Type 0) (terms : DeskTerms) (old new : D) (desk : DeskState) : Type 0 where
+pub record Opens {D : Type 0} (reads : D → Option (List ℕ)) (may_leave : D → List ℕ → Type 0) (moment : D → ℕ)
+    (left_since : D → ℕ → List ℕ → Type 0) (terms : DeskTerms) (old new : D) (desk : DeskState) : Type 0 where
   pub same_terms : desk.terms ≡ terms
   pub no_fault : desk.faults ≡ 0
   -- its history is the one that the file stood for,
@@ -20,7 +21,8 @@ pub record Opens {D : Type 0} (reads : D → Option (List ℕ)) (may_leave : D �
   pub any_moment : (file : List ℕ) → reads old ≡ Some file → LeavesOnly moment left_since old new (StandsAsRead terms (may_leave old) (reads old))
 
 -- An opening that gave up. Where the disk tells what it reads:
-pub record GivesUp {D : Type 0} (reads : D → Option (List ℕ)) (may_leave : D → List ℕ → Type 0) (moment : D → ℕ) (left_since : D → ℕ → List ℕ → Type 0) (terms : DeskTerms) (old new : D) (why : DeskFault) : Type 0 where
+pub record GivesUp {D : Type 0} (reads : D → Option (List ℕ)) (may_leave : D → List ℕ → Type 0) (moment : D → ℕ)
+    (left_since : D → ℕ → List ℕ → Type 0) (terms : DeskTerms) (old new : D) (why : DeskFault) : Type 0 where
   -- a refusal says what the file has in place of a history,
   pub refused : (file : List ℕ) → reads old ≡ Some file → RefusesDesk terms file why
   -- and leaves the file as it reads;

@@ -9,7 +9,9 @@ use Rattle.notice_batches.specs.Batches.{added_by}
 use Rattle.adx_desk.specs.Histories.{WithAtMostOne}
 
 -- A call whose reply has that entry, if any. The tail is whatever record was in doubt before it.
-pub record Serves {D T : Type 0} (may_leave : D → List ℕ → Type 0) (moment : D → ℕ) (left_since : D → ℕ → List ℕ → Type 0) (old new : OnDisk D) (entry : Option Entry) (result : Result T DeskFault) : Type 0 where
+pub record Serves {D T : Type 0} (may_leave : D → List ℕ → Type 0) (moment : D → ℕ)
+    (left_since : D → ℕ → List ℕ → Type 0) (old new : OnDisk D) (entry : Option Entry)
+    (result : Result T DeskFault) : Type 0 where
   -- what the desk was opened with stays
   pub terms : new.desk.terms ≡ old.desk.terms
   pub since : new.since ≡ old.since
@@ -21,13 +23,17 @@ pub record Serves {D T : Type 0} (may_leave : D → List ℕ → Type 0) (moment
       → LeavesOnly moment left_since old.disk new.disk (WithAtMostOne old.desk.terms old.desk.history tail (added_by entry))
   -- after a call that was done the same tail may be in doubt; where an entry was added, none is, and each image has it
   pub done : OnOk result ((tail : List Entry) → DeskKeeps (may_leave old.disk) old.desk tail → DeskKeeps (may_leave new.disk) new.desk tail)
-  pub acknowledged : OnOk result (IfSome entry (λ e. (tail any : List Entry) → DeskKeeps (may_leave old.disk) old.desk tail → DeskKeeps (may_leave new.disk) new.desk any))
+  pub acknowledged : OnOk result
+      (IfSome entry (λ e. (tail any : List Entry) → DeskKeeps (may_leave old.disk) old.desk tail
+      → DeskKeeps (may_leave new.disk) new.desk any))
   -- after a fault the tail may be in doubt still, or the call's record is in its place
   pub doubted : OnErr result ((tail : List Entry) → DeskKeeps (may_leave old.disk) old.desk tail
       → DeskKeeps (may_leave new.disk) new.desk tail ⊎ DeskKeeps (may_leave new.disk) new.desk (added_by entry))
 
 -- A call that adds these entries, in one record where there are any. The tail is whatever record was in doubt before it.
-pub record ServesAll {D T : Type 0} (may_leave : D → List ℕ → Type 0) (moment : D → ℕ) (left_since : D → ℕ → List ℕ → Type 0) (old new : OnDisk D) (entries : List Entry) (result : Result T DeskFault) : Type 0 where
+pub record ServesAll {D T : Type 0} (may_leave : D → List ℕ → Type 0) (moment : D → ℕ)
+    (left_since : D → ℕ → List ℕ → Type 0) (old new : OnDisk D) (entries : List Entry)
+    (result : Result T DeskFault) : Type 0 where
   -- what the desk was opened with stays
   pub terms : new.desk.terms ≡ old.desk.terms
   pub since : new.since ≡ old.since
@@ -39,7 +45,9 @@ pub record ServesAll {D T : Type 0} (may_leave : D → List ℕ → Type 0) (mom
       → LeavesOnly moment left_since old.disk new.disk (WithAtMostOne old.desk.terms old.desk.history tail entries)
   -- after a call that was done the same tail may be in doubt; where entries were added, none is, and each image has them
   pub done : OnOk result ((tail : List Entry) → DeskKeeps (may_leave old.disk) old.desk tail → DeskKeeps (may_leave new.disk) new.desk tail)
-  pub acknowledged : OnOk result (0 < length entries → (tail any : List Entry) → DeskKeeps (may_leave old.disk) old.desk tail → DeskKeeps (may_leave new.disk) new.desk any)
+  pub acknowledged : OnOk result
+      (0 < length entries → (tail any : List Entry) → DeskKeeps (may_leave old.disk) old.desk tail
+      → DeskKeeps (may_leave new.disk) new.desk any)
   -- after a fault the tail may be in doubt still, or the call's record is in its place
   pub doubted : OnErr result ((tail : List Entry) → DeskKeeps (may_leave old.disk) old.desk tail
       → DeskKeeps (may_leave new.disk) new.desk tail ⊎ DeskKeeps (may_leave new.disk) new.desk entries)

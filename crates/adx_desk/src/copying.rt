@@ -1,10 +1,10 @@
 //! Copies of the asks that a history keeps.
-ghost use Rattle.std.specs.Prelude.{◌≡◌, IfOk};
+ghost use Rattle.std.specs.Prelude.{◌≡◌, option_map, IfOk};
 ghost use Rattle.day_rules.specs.Entries.{asked};
 ghost use Rattle.day_rules.specs.Books.{ask_at};
 ghost use Rattle.adx_desk.specs.Asked.{ask_for};
 
-use adx_units::OutOfMemory;
+use adx_units::{OutOfMemory, Sequence};
 use day_entries::copy_of;
 use day_rules::{Answer, Ask, Entry};
 use std::alloc::Global;
@@ -46,6 +46,53 @@ pub(crate) fn swapped(entry: Entry, copy: Option<Ask>) -> (Entry, Option<Ask>)
     }
 }
 
+/// The list in no more memory than its items need, where that is to be had.
+fn fitted_list<T>(list: Sequence<T>) -> Sequence<T>
+    ensures { result ≡ list }
+{
+    let mut items = list.into_vec();
+    items.shrink_to_fit();
+    Sequence::from(items)
+}
+
+/// The ask without the room that its lists were read with.
+fn fitted_ask(ask: Ask) -> Ask
+    ensures { result ≡ ask }
+{
+    let Ask {
+        auction,
+        digest,
+        now,
+        first,
+        imps,
+        offers,
+        kept,
+    } = ask;
+    Ask {
+        auction,
+        digest,
+        now,
+        first,
+        imps: fitted_list(imps),
+        offers: fitted_list(offers),
+        kept: fitted_list(kept),
+    }
+}
+
+/// The entry as it is kept for long: an ask without the room that its lists were read with.
+pub(crate) fn fitted(entry: Entry) -> Entry
+    ensures { result ≡ entry }
+{
+    match entry {
+        Entry::Ask(ask) => Entry::Ask(fitted_ask(ask)),
+        Entry::Win { .. } => entry,
+        Entry::Bill { .. } => entry,
+        Entry::Loss { .. } => entry,
+        Entry::Expire { .. } => entry,
+        Entry::Budget { .. } => entry,
+    }
+}
+
 /// A copy of the ask at a place of the history; none where no ask stands there.
 fn copy_at(alloc: Global, entries: &[Entry], place: u64) -> Result<Option<Ask>, OutOfMemory>
     ensures { IfOk result (λ copy. copy ≡ ask_at entries.now place) }
@@ -53,6 +100,45 @@ fn copy_at(alloc: Global, entries: &[Entry], place: u64) -> Result<Option<Ask>, 
     match entries.get(place as usize) {
         Some(entry) => copy_in(alloc, entry),
         None => Ok(None),
+    }
+}
+
+/// The ask at a place of the history; none where no ask stands there.
+fn lent_at(entries: &[Entry], place: u64) -> Option<&Ask>
+    ensures { option_map (λ a. a.now) result ≡ ask_at entries.now place }
+{
+    match entries.get(place as usize) {
+        Some(Entry::Ask(ask)) => Some(ask),
+        Some(
+            Entry::Win { .. }
+            | Entry::Bill { .. }
+            | Entry::Loss { .. }
+            | Entry::Expire { .. }
+            | Entry::Budget { .. },
+        )
+        | None => None,
+    }
+}
+
+/// The ask that an answer speaks of.
+pub(crate) fn lent_for(entries: &[Entry], answer: Answer) -> Option<&Ask>
+    ensures { option_map (λ a. a.now) result ≡ ask_for entries.now answer }
+{
+    match answer {
+        Answer::Awarded { entry } | Answer::NoSale { entry } | Answer::Repeat { entry } => {
+            lent_at(entries, entry)
+        }
+        Answer::Counted
+        | Answer::Conflict { .. }
+        | Answer::Unknown
+        | Answer::Ticked { .. }
+        | Answer::Reused { .. }
+        | Answer::DayFull { .. }
+        | Answer::Budgeted
+        | Answer::BudgetReused { .. }
+        | Answer::Late { .. }
+        | Answer::BelowCommitted { .. }
+        | Answer::NoCampaign => None,
     }
 }
 

@@ -1,5 +1,5 @@
 //! The desk: a serving day whose history a journal keeps on a disk.
-ghost use Rattle.std.specs.Prelude.{◌≡◌, ◌+◌, ◌*◌, ◌≤◌, ◌<◌, ◌^◌, true, is_some, [], length, drop, IfOk, IfErr, OnOk, OnErr, Some, None};
+ghost use Rattle.std.specs.Prelude.{◌≡◌, ◌+◌, ◌*◌, ◌≤◌, ◌<◌, ◌^◌, true, is_some, [], length, drop, option_map, IfOk, IfErr, OnOk, OnErr, Some, None};
 ghost use Rattle.day_journal.specs.Faults.{greatest_size};
 ghost use Rattle.day_journal.specs.Tails.{size_of};
 ghost use Rattle.day_rules.specs.Asks.{IsUndecided, IsWellFormed};
@@ -20,6 +20,7 @@ ghost use Rattle.adx_desk.specs.Openings.{HasDiskCause};
 ghost use Rattle.adx_desk.specs.Rosters.{desk_terms};
 ghost use Rattle.adx_desk.specs.declared.fault.DeskFault.{DeskFault as Fault};
 
+use crate::copying::lent_for;
 use crate::done::Done;
 use crate::fault::DeskFault;
 use crate::journaled_day::JournaledDay;
@@ -125,6 +126,28 @@ impl<D: Disk> Desk<D> {
     {
         self.kept
             .ask(self.alloc, &mut self.disk, &mut self.asks, ask)
+    }
+
+    /// Answers an ask as `ask` does, without a copy of it: `ask_for` lends the one that the history keeps.
+    pub fn take_ask(&mut self, ask: Ask) -> Result<Answer, DeskFault>
+        requires formed { IsWellFormed (length self.old.desk.terms.day.budgets) ask }
+        requires undecided { IsUndecided ask }
+        ensures answer { IfOk result (λ a. a ≡ (reply_to_ask self.old.desk ask).answer) }
+        ensures serves { DeskServes D.Disk self.old self.new (reply_to_ask self.old.desk ask).entry result }
+        ensures ends { DeskEndsAsk D.Disk self.old self.new (reply_to_ask self.old.desk ask).entry result }
+        ensures unmoved { (reply_to_ask self.old.desk ask).entry ≡ None → self.new ≡ self.old }
+        ensures refused { IfErr result (λ e. (e ≡ Fault.DiskFault → ⊥) → self.new ≡ self.old) }
+        ensures size { size_of self.old.desk.journal ≤ longest_size self.old.desk.terms self.old.desk.history }
+        ensures lasts { D.lasts self.old.disk self.new.disk }
+    {
+        self.kept.take_ask(&mut self.disk, &mut self.asks, ask)
+    }
+
+    /// The ask that an answer to an ask speaks of: that of the entry that it names; none where it names none.
+    pub fn ask_for(&self, answer: Answer) -> Option<&Ask>
+        ensures { option_map (λ a. a.now) result ≡ ask_for self.now.desk.history answer }
+    {
+        lent_for(self.kept.day().entries(), answer)
     }
 
     /// Answers a change of a campaign's budget, in units: its number is at least 1. Where the reply has an entry, it is in
@@ -272,6 +295,7 @@ impl<D: Disk> Desk<D> {
     pub fn faults(&self) -> u64
         ensures faults { result ≡ self.now.desk.faults }
         ensures within { IsWithinRise self.now.since.count result (D.faults self.now.disk) }
+        ensures none { result ≡ 0 → D.faults self.now.disk ≡ self.now.since.count }
     {
         self.kept.faults()
     }

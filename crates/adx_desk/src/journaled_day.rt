@@ -21,7 +21,7 @@ ghost use Rattle.adx_desk.specs.Journaled.{EndsRecord, beside, day_in};
 ghost use Rattle.adx_desk.specs.declared.fault.DeskFault.{DeskFault as Fault};
 ghost use Rattle.notice_batches.specs.declared.held.TheConstants.{NOTICE_ROOM};
 
-use crate::copying::{copy_for, copy_in, swapped};
+use crate::copying::{copy_for, copy_in, fitted, swapped};
 use crate::done::Done;
 use crate::fault::DeskFault;
 use crate::framing::{put_notice, put_planned};
@@ -373,8 +373,35 @@ impl JournaledDay {
         }
     }
 
-    /// Adds the planned change of a budget of a reply: all memory first, then the journal, then the history.
-    fn add_budget<D: Disk>(
+    /// Answers an ask that nobody wants back: the history keeps it, without a copy.
+    pub(crate) fn take_ask<D: Disk>(
+        &mut self,
+        disk: &mut D,
+        frame: &mut Frame,
+        ask: Ask,
+    ) -> Result<Answer, DeskFault>
+        requires formed { IsWellFormed (length self.old.desk.terms.day.budgets) ask }
+        requires undecided { IsUndecided ask }
+        ensures answer { IfOk result (λ a. a ≡ (reply_to_ask self.old.desk ask).answer) }
+        ensures serves { DayServes D.Disk self.old self.new disk.old disk.new (reply_to_ask self.old.desk ask).entry result }
+        ensures ends { DayEndsAsk D.Disk self.old self.new disk.old disk.new (reply_to_ask self.old.desk ask).entry result }
+        ensures unmoved { (reply_to_ask self.old.desk ask).entry ≡ None → IsUnmoved self.old self.new disk.old disk.new }
+        ensures refused { IfErr result (λ e. (e ≡ Fault.DiskFault → ⊥) → IsUnmoved self.old self.new disk.old disk.new) }
+        ensures size { size_of self.old.desk.journal ≤ longest_size self.old.desk.terms self.old.desk.history }
+        ensures lasts { D.lasts disk.old disk.new }
+    {
+        let (answer, entry) = self.day.day().plan_ask(ask);
+        match entry {
+            None => Ok(answer),
+            Some(entry) => {
+                let exact = fitted(entry);
+                self.add_planned(disk, frame, answer, exact)
+            }
+        }
+    }
+
+    /// Adds the planned entry of a reply: all memory first, then the journal, then the history.
+    fn add_planned<D: Disk>(
         &mut self,
         disk: &mut D,
         frame: &mut Frame,
@@ -440,7 +467,7 @@ impl JournaledDay {
         let (answer, entry) = self.day.day().plan_budget(campaign, change, budget);
         match entry {
             None => Ok(answer),
-            Some(entry) => self.add_budget(disk, frame, answer, entry),
+            Some(entry) => self.add_planned(disk, frame, answer, entry),
         }
     }
 

@@ -11,14 +11,18 @@ use Rattle.script_day.specs.Script.{Means, terms_by}
 use Rattle.desk_runs.specs.Answering.{ServesCall, ServesLine}
 
 -- a call of the desk was answered, and its line written behind what was there
-pub record AnswersCall {D : Type 0} (faults : D → ℕ) (may_leave : D → List ℕ → Type 0) (moment : D → ℕ) (left_since : D → ℕ → List ℕ → Type 0) (campaigns : List Campaign) (old new : OnDisk D) (call : Call) (out_old out_new : List ℕ) : Type 0 where
+pub record AnswersCall {D : Type 0} (faults : D → ℕ) (may_leave : D → List ℕ → Type 0) (moment : D → ℕ)
+    (left_since : D → ℕ → List ℕ → Type 0) (campaigns : List Campaign) (old new : OnDisk D) (call : Call)
+    (out_old out_new : List ℕ) : Type 0 where
   pub told : Told
   pub same : told.call ≡ call
   pub serves : ServesCall faults may_leave moment left_since old new told
   pub written : out_new ≡ out_old ++ call_answer (writing campaigns) old.desk.terms.day old.desk.history told
 
 -- a line was answered: these bytes were written behind the old ones
-pub record AnswersTo {D : Type 0} (faults : D → ℕ) (may_leave : D → List ℕ → Type 0) (moment : D → ℕ) (left_since : D → ℕ → List ℕ → Type 0) (r : Roster) (old new : OnDisk D) (number : ℕ) (IsKept : List ℕ → Type 0) (out_old out_new : List ℕ) : Type 0 where
+pub record AnswersTo {D : Type 0} (faults : D → ℕ) (may_leave : D → List ℕ → Type 0) (moment : D → ℕ)
+    (left_since : D → ℕ → List ℕ → Type 0) (r : Roster) (old new : OnDisk D) (number : ℕ) (IsKept : List ℕ → Type 0)
+    (out_old out_new : List ℕ) : Type 0 where
   pub told : List Told
   pub out : List ℕ
   pub serves : ServesLine faults may_leave moment left_since old new told
@@ -26,7 +30,8 @@ pub record AnswersTo {D : Type 0} (faults : D → ℕ) (may_leave : D → List �
   pub written : out_new ≡ out_old ++ out
 
 -- memory was refused: nothing was done; or the line's call was taken, and its answer not written
-pub record LeavesUnwritten {D : Type 0} (faults : D → ℕ) (may_leave : D → List ℕ → Type 0) (moment : D → ℕ) (left_since : D → ℕ → List ℕ → Type 0) (r : Roster) (old new : OnDisk D) (IsKept : List ℕ → Type 0) : Type 0 where
+pub record LeavesUnwritten {D : Type 0} (faults : D → ℕ) (may_leave : D → List ℕ → Type 0) (moment : D → ℕ)
+    (left_since : D → ℕ → List ℕ → Type 0) (r : Roster) (old new : OnDisk D) (IsKept : List ℕ → Type 0) : Type 0 where
   pub told : List Told
   pub serves : ServesLine faults may_leave moment left_since old new told
   pub means : (t : Told) → told ≡ t ∷ [] → (line : List ℕ) → IsKept line → Means r line (calls t.call)

@@ -73,20 +73,25 @@ module _ {S K D : Type 0} {s : sources.Ghosts S} {k : sinks.Ghosts K} (d : disks
   abbrev pub ScriptEnded : Roster → OnDisk D → D → (old new : Talk S K s k) → Result (Unit {0}) Ending → Type 0
   ScriptEnded r desk disk_now old new result =
       (disk : D) (start : List Entry) → DeskRuns d.faults d.reads d.may_leave d.moment d.left_since (desk_terms r) disk start [] desk
-      → EndsScript d.faults d.reads d.may_leave d.moment d.left_since r start (state_of old) (s.tape new.source.now) (k.held new.sink.now) disk disk_now result
+      → EndsScript d.faults d.reads d.may_leave d.moment d.left_since r start (state_of old) (s.tape new.source.now)
+      (k.held new.sink.now) disk disk_now result
 
   -- the day of a roster ended so
   abbrev pub DayOpened : Roster → (disk disk_now : D) → (old new : Talk S K s k) → Result (Unit {0}) Ending → Type 0
   DayOpened r disk disk_now old new result =
-      EndsOpened d.faults d.reads d.may_leave d.moment d.left_since r (state_of old) (s.tape new.source.now) (k.held new.sink.now) disk disk_now result
+      EndsOpened d.faults d.reads d.may_leave d.moment d.left_since r (state_of old) (s.tape new.source.now)
+      (k.held new.sink.now) disk disk_now result
 
   -- and one whose roster's line was to be read
   abbrev pub DayEnded : ℕ → (disk disk_now : D) → (old new : Talk S K s k) → Result (Unit {0}) Ending → Type 0
   DayEnded limit disk disk_now old new result =
-      EndsDay d.faults d.reads d.may_leave d.moment d.left_since limit (state_of old) (s.tape new.source.now) (k.held new.sink.now) disk disk_now result
+      EndsDay d.faults d.reads d.may_leave d.moment d.left_since limit (state_of old) (s.tape new.source.now)
+      (k.held new.sink.now) disk disk_now result
 
 -- a day of script lines was served from a source to a sink on a disk
-abbrev pub DayServed : {S K D : Type 0} → sources.Ghosts S → sinks.Ghosts K → disks.Ghosts D → (old new : S) (sink_old sink_new : K) (disk_old disk_new : D)
+abbrev pub DayServed : {S K D : Type 0} → sources.Ghosts S → sinks.Ghosts K → disks.Ghosts D
+    → (old new : S) (sink_old sink_new : K) (disk_old disk_new : D)
     → Result (Unit {0}) Ending → Type 0
 DayServed s k d old new sink_old sink_new disk_old disk_new result =
-    ServesDay d.faults d.reads d.may_leave d.moment d.left_since (s.tape old) (s.tape new) (k.held sink_old) (k.held sink_new) disk_old disk_new result
+    ServesDay d.faults d.reads d.may_leave d.moment d.left_since (s.tape old) (s.tape new) (k.held sink_old)
+    (k.held sink_new) disk_old disk_new result

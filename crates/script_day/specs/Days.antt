@@ -15,7 +15,9 @@ use Rattle.desk_runs.specs.OnDisk.{CourseOn}
 use Rattle.script_day.specs.Script.{HasRosterLine, day, terms_by}
 
 -- A day ended so over a source, a sink and a disk.
-pub record ServesDay {D : Type 0} (faults : D → ℕ) (reads : D → Option (List ℕ)) (may_leave : D → List ℕ → Type 0) (moment : D → ℕ) (left_since : D → ℕ → List ℕ → Type 0) (tape tape_now : Option Tape) (held held_now : Option (List ℕ)) (old new : D) (result : Result (Unit {0}) Ending) : Type 0 where
+pub record ServesDay {D : Type 0} (faults : D → ℕ) (reads : D → Option (List ℕ)) (may_leave : D → List ℕ → Type 0)
+    (moment : D → ℕ) (left_since : D → ℕ → List ℕ → Type 0) (tape tape_now : Option Tape) (held held_now : Option (List ℕ))
+    (old new : D) (result : Result (Unit {0}) Ending) : Type 0 where
   pub course : Course
   -- how it ended by how the day went, and what became of the disk
   pub by_course : EndsBy course result
@@ -25,7 +27,8 @@ pub record ServesDay {D : Type 0} (faults : D → ℕ) (reads : D → Option (Li
   -- where the run was cut short, the answers to all lines but at most one stand in the sink whole
   pub further : IsCutShort result → WhereTold tape tape_now (λ before now. IsOneAhead course before.left now.left held held_now)
   -- whatever the sink took is a front of each whole output that goes on from there
-  pub of_whole : WhereTold tape tape_now (λ before now. (more : Course) → GoesOn course more → TookOfWhole INPUT_LIMIT (day more) before.left held held_now)
+  pub of_whole : WhereTold tape tape_now
+      (λ before now. (more : Course) → GoesOn course more → TookOfWhole INPUT_LIMIT (day more) before.left held held_now)
 
 -- an input whose roster's day may begin with this history
 abbrev pub MayBegin : List Entry → List ℕ → Type 0

@@ -71,7 +71,8 @@ module _ (limit : ℕ) (c : Command) where
   EndsWith held held_now (Ok done) input left = TookWhole (Ok done) input left held held_now
   EndsWith held held_now (Err Ending.Refused) input left =
       TookRefusal Ending.Refused input left held held_now
-      ⊎ ((part : List ℕ) × (more : ℕ) × (out : List ℕ) × (input ≡ part ++ more ∷ left) × (length part ≡ limit) × c.past part out × Took held held_now out)
+      ⊎ ((part : List ℕ) × (more : ℕ) × (out : List ℕ) × (input ≡ part ++ more ∷ left) × (length part ≡ limit)
+      × c.past part out × Took held held_now out)
   EndsWith held held_now (Err Ending.DiskFault) input left =
       TookRefusal Ending.DiskFault input left held held_now ⊎ TookWhole (Err Ending.DiskFault) input left held held_now
   EndsWith held held_now (Err Ending.NoHistory) input left = TookRefusal Ending.NoHistory input left held held_now

@@ -47,15 +47,18 @@ StopsAt Stop.OutOfMemory rest left = IsUnanswered rest left
 
 -- The run stopped so in the first line, of which this much came; the roster's is read once its newline came.
 abbrev pub StopsInLine : (Stop → List ℕ → List ℕ → Type 0) → ℕ → Stop → List ℕ → List ℕ → Type 0
-StopsInLine Leaves limit stop input left = (read rest : List ℕ) × HasNoNewline read × (input ≡ read ++ rest) × (length read ≤ limit) × Leaves stop rest left
+StopsInLine Leaves limit stop input left =
+    (read rest : List ℕ) × HasNoNewline read × (input ≡ read ++ rest) × (length read ≤ limit) × Leaves stop rest left
 
 -- How a run ended before more than the first line was read of its input: refused, and the line was put that says why; or
 -- it stopped, and nothing was put.
-abbrev pub EndsFirst : (RosterRefusal → List ℕ → List ℕ → Type 0) → (Stop → List ℕ → List ℕ → Type 0) → TalkState → Option Tape → Option (List ℕ) → Ending → Type 0
+abbrev pub EndsFirst : (RosterRefusal → List ℕ → List ℕ → Type 0) → (Stop → List ℕ → List ℕ → Type 0) → TalkState
+    → Option Tape → Option (List ℕ) → Ending → Type 0
 EndsFirst Refuses Stops before tape held_now ending =
     ((why : RosterRefusal) × WhereTold before.tape tape (λ old now. Refuses why old.left now.left)
     × PutsEnd before.held held_now (roster_refused_line why) (Err Ending.Refused) (Err ending))
-    ⊎ ((stop : Stop) × WhereTold before.tape tape (λ old now. Stops stop old.left now.left) × (held_now ≡ before.held) × (ending ≡ Ending.Stopped stop))
+    ⊎ ((stop : Stop) × WhereTold before.tape tape (λ old now. Stops stop old.left now.left) × (held_now ≡ before.held)
+    × (ending ≡ Ending.Stopped stop))
 
 -- the same of a search for the first line, and of the reading of its roster
 abbrev pub EndsLineless : TalkState → Option Tape → Option (List ℕ) → Ending → Type 0

@@ -22,11 +22,18 @@ PutsEnd held held_now bytes wanted result =
 -- an opening that gave up: its line is put, or nothing where it has none
 abbrev pub PutsUnopened : TalkState → Option (List ℕ) → DeskFault → Result (Unit {0}) Ending → Type 0
 PutsUnopened before held_now DeskFault.DiskFault result = (held_now ≡ before.held) × (result ≡ Err Ending.DiskFault)
-PutsUnopened before held_now (DeskFault.JournalFull size) result = PutsEnd before.held held_now (before.out ++ unopened_line (DeskFault.JournalFull size)) (Err Ending.NoHistory) result
-PutsUnopened before held_now (DeskFault.BadEntry at) result = PutsEnd before.held held_now (before.out ++ unopened_line (DeskFault.BadEntry at)) (Err Ending.NoHistory) result
-PutsUnopened before held_now (DeskFault.OtherRoster kept) result = PutsEnd before.held held_now (before.out ++ unopened_line (DeskFault.OtherRoster kept)) (Err Ending.NoHistory) result
-PutsUnopened before held_now (DeskFault.NotAJournal at) result = PutsEnd before.held held_now (before.out ++ unopened_line (DeskFault.NotAJournal at)) (Err Ending.NoHistory) result
-PutsUnopened before held_now (DeskFault.BadLength at) result = PutsEnd before.held held_now (before.out ++ unopened_line (DeskFault.BadLength at)) (Err Ending.NoHistory) result
+PutsUnopened before held_now (DeskFault.JournalFull size) result =
+    PutsEnd before.held held_now (before.out ++ unopened_line (DeskFault.JournalFull size))
+    (Err Ending.NoHistory) result
+PutsUnopened before held_now (DeskFault.BadEntry at) result =
+    PutsEnd before.held held_now (before.out ++ unopened_line (DeskFault.BadEntry at)) (Err Ending.NoHistory) result
+PutsUnopened before held_now (DeskFault.OtherRoster kept) result =
+    PutsEnd before.held held_now (before.out ++ unopened_line (DeskFault.OtherRoster kept))
+    (Err Ending.NoHistory) result
+PutsUnopened before held_now (DeskFault.NotAJournal at) result =
+    PutsEnd before.held held_now (before.out ++ unopened_line (DeskFault.NotAJournal at)) (Err Ending.NoHistory) result
+PutsUnopened before held_now (DeskFault.BadLength at) result =
+    PutsEnd before.held held_now (before.out ++ unopened_line (DeskFault.BadLength at)) (Err Ending.NoHistory) result
 PutsUnopened before held_now DeskFault.OutOfMemory result = (held_now ≡ before.held) × (result ≡ Err (Ending.Stopped Stop.OutOfMemory))
 
 -- the line is this roster's, and within the limit of a line

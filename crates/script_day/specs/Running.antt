@@ -49,19 +49,25 @@ abbrev pub Running : Roster → List Entry → List Told → TalkState → TalkS
 Running roster start told before now number = WhereTold before.tape now.tape (RunsOn roster start told before now number)
 
 -- lines of a day were read and answered on its desk, which was opened with some history
-pub record RunsDesk {D : Type 0} (faults : D → ℕ) (reads : D → Option (List ℕ)) (may_leave : D → List ℕ → Type 0) (moment : D → ℕ) (left_since : D → ℕ → List ℕ → Type 0) (roster : Roster) (start : List Entry) (before now : TalkState) (number : ℕ) (disk : D) (desk : OnDisk D) : Type 0 where
+pub record RunsDesk {D : Type 0} (faults : D → ℕ) (reads : D → Option (List ℕ)) (may_leave : D → List ℕ → Type 0)
+    (moment : D → ℕ) (left_since : D → ℕ → List ℕ → Type 0) (roster : Roster) (start : List Entry) (before now : TalkState)
+    (number : ℕ) (disk : D) (desk : OnDisk D) : Type 0 where
   pub told : List Told
   pub on_disk : DeskRuns faults reads may_leave moment left_since (desk_terms roster) disk start told desk
   pub on_talk : Running roster start told before now number
 
 -- a script was run on a desk, from a history, and ended so
-pub record EndsScript {D : Type 0} (faults : D → ℕ) (reads : D → Option (List ℕ)) (may_leave : D → List ℕ → Type 0) (moment : D → ℕ) (left_since : D → ℕ → List ℕ → Type 0) (roster : Roster) (start : List Entry) (before : TalkState) (tape : Option Tape) (held_now : Option (List ℕ)) (old new : D) (result : Result (Unit {0}) Ending) : Type 0 where
+pub record EndsScript {D : Type 0} (faults : D → ℕ) (reads : D → Option (List ℕ)) (may_leave : D → List ℕ → Type 0)
+    (moment : D → ℕ) (left_since : D → ℕ → List ℕ → Type 0) (roster : Roster) (start : List Entry) (before : TalkState)
+    (tape : Option Tape) (held_now : Option (List ℕ)) (old new : D) (result : Result (Unit {0}) Ending) : Type 0 where
   pub told : List Told
   pub unwritten : Option Told
   pub ends_so : EndsServed told unwritten result
   pub on_disk : ServesRun faults reads may_leave moment left_since (desk_terms roster) start (taken_calls told unwritten) old new
   pub ends : EndsTalk before.allowed (script_of roster start told unwritten) before tape held_now result
-  pub further : IsCutShort result → WhereTold before.tape tape (λ x y. RunsOneAhead roster start (taken_calls told unwritten) x.left y.left before.held held_now)
+  pub further : IsCutShort result
+      → WhereTold before.tape tape (λ x y. RunsOneAhead roster start
+      (taken_calls told unwritten) x.left y.left before.held held_now)
 
 -- what was found of a whole first line
 abbrev pub FindsFirst : List ℕ → FirstLine → Type 0
@@ -73,13 +79,19 @@ abbrev pub Unasked : Option Tape → Option Tape → Type 0
 Unasked told tape = (pending : List ℕ) × (length pending ≤ CHUNK) × (told ≡ tape_behind pending tape)
 
 -- what came of a roster's line: opening its day gave up, and where it has a line that is put; or its script was run
-abbrev pub EndsOpened : {D : Type 0} → (faults : D → ℕ) (reads : D → Option (List ℕ)) (may_leave : D → List ℕ → Type 0) (moment : D → ℕ) (left_since : D → ℕ → List ℕ → Type 0) → Roster → TalkState → Option Tape → Option (List ℕ) → D → D → Result (Unit {0}) Ending → Type 0
+abbrev pub EndsOpened : {D : Type 0}
+    → (faults : D → ℕ) (reads : D → Option (List ℕ)) (may_leave : D → List ℕ → Type 0) (moment : D → ℕ)
+    (left_since : D → ℕ → List ℕ → Type 0) → Roster → TalkState → Option Tape → Option (List ℕ) → D → D
+    → Result (Unit {0}) Ending → Type 0
 EndsOpened faults reads may_leave moment left_since r before tape held_now old new result =
     ((start : List Entry) × EndsScript faults reads may_leave moment left_since r start before tape held_now old new result)
-    ⊎ ((why : DeskFault) × CourseOn faults reads may_leave moment left_since (given_up r why) old new × Unasked before.tape tape × PutsUnopened before held_now why result)
+    ⊎ ((why : DeskFault) × CourseOn faults reads may_leave moment left_since (given_up r why) old new
+    × Unasked before.tape tape × PutsUnopened before held_now why result)
 
 -- a day ended so, whose roster's line was to be read
-pub record EndsDay {D : Type 0} (faults : D → ℕ) (reads : D → Option (List ℕ)) (may_leave : D → List ℕ → Type 0) (moment : D → ℕ) (left_since : D → ℕ → List ℕ → Type 0) (limit : ℕ) (before : TalkState) (tape : Option Tape) (held_now : Option (List ℕ)) (old new : D) (result : Result (Unit {0}) Ending) : Type 0 where
+pub record EndsDay {D : Type 0} (faults : D → ℕ) (reads : D → Option (List ℕ)) (may_leave : D → List ℕ → Type 0)
+    (moment : D → ℕ) (left_since : D → ℕ → List ℕ → Type 0) (limit : ℕ) (before : TalkState) (tape : Option Tape)
+    (held_now : Option (List ℕ)) (old new : D) (result : Result (Unit {0}) Ending) : Type 0 where
   pub course : Course
   pub by_course : EndsBy course result
   pub on_disk : CourseOn faults reads may_leave moment left_since course old new

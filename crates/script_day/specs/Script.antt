@@ -43,13 +43,15 @@ cut_line number (b ∷ bs) = refusal_line number (cut_why (b ∷ bs))
 
 -- a run over the lines of a script behind its roster line, from the history at the start: its last piece, what the
 -- lines are answered, with the calls that they make, and the history and the books that those leave
-pub record RunsOver (r : Roster) (start : List Entry) (told : List Told) (script : List ℕ) (lines : List (List ℕ)) (last answers : List ℕ) (history : List Entry) : Type 0 where
+pub record RunsOver (r : Roster) (start : List Entry) (told : List Told) (script : List ℕ) (lines : List (List ℕ))
+    (last answers : List ℕ) (history : List Entry) : Type 0 where
   pub cut : IsCut script lines last
   pub answered : Answers (Means r) (writing r.campaigns) (terms_by r) 2 start lines told answers
   pub books : HasBooks (terms_by r) start (turns_of told) history
 
 -- the same with what is written behind the answers
-pub record WritesRun (r : Roster) (start : List Entry) (told : List Told) (behind : ℕ → List ℕ → List Entry → List ℕ) (script out : List ℕ) : Type 0 where
+pub record WritesRun (r : Roster) (start : List Entry) (told : List Told) (behind : ℕ → List ℕ → List Entry → List ℕ)
+    (script out : List ℕ) : Type 0 where
   pub lines : List (List ℕ)
   pub last : List ℕ
   pub answers : List ℕ

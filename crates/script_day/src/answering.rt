@@ -29,7 +29,8 @@ fn push_told(
     answer: &Answer,
     ask: Option<&Ask>,
 ) -> Result<(), OutOfMemory>
-    ensures { OnOk result (string_bytes out.new ≡ string_bytes out.old ++ ended (line_of_answer campaigns.now answer.now (option_map (λ a. a.now) ask.entry))) }
+    ensures { OnOk result (string_bytes out.new ≡ string_bytes out.old
+        ++ ended (line_of_answer campaigns.now answer.now (option_map (λ a. a.now) ask.entry))) }
 {
     push_answer(out, campaigns, answer, ask)?;
     push(out, "\n")?;
@@ -50,7 +51,8 @@ fn fault_told(fault: DeskFault) -> Result<Fault, OutOfMemory>
 /// Writes why a call was given up.
 fn push_given_up(out: &mut String, fault: DeskFault) -> Result<(), OutOfMemory>
     requires { IsOfCall fault }
-    ensures { OnOk result ((told : Fault) × (told_as fault ≡ Some told) × (string_bytes out.new ≡ string_bytes out.old ++ ended (fault_line told))) }
+    ensures { OnOk result ((told : Fault) × (told_as fault ≡ Some told)
+        × (string_bytes out.new ≡ string_bytes out.old ++ ended (fault_line told))) }
 {
     let told = fault_told(fault)?;
     push_fault(out, told)?;
@@ -67,13 +69,14 @@ fn answer_ask<D: Disk>(
 ) -> Result<(), OutOfMemory>
     requires well_formed { IsWellFormed (length desk.old.desk.terms.day.budgets) ask }
     requires undecided { IsUndecided ask }
-    ensures answered { OnOk result (CallAnswered D.Disk campaigns.now desk.old desk.new (ask_call ask) (string_bytes out.old) (string_bytes out.new)) }
+    ensures answered { OnOk result (CallAnswered D.Disk campaigns.now desk.old desk.new (ask_call ask)
+        (string_bytes out.old) (string_bytes out.new)) }
     ensures unwritten { OnErr result (CallLeft D.Disk desk.old desk.new (ask_call ask)) }
     ensures lasts { D.lasts desk.old.disk desk.new.disk }
 {
-    match desk.ask(ask) {
-        Ok(done) => {
-            push_told(out, campaigns, &done.answer, done.ask.as_ref())?;
+    match desk.take_ask(ask) {
+        Ok(answer) => {
+            push_told(out, campaigns, &answer, desk.ask_for(answer))?;
             Ok(())
         }
         Err(fault) => {
@@ -90,7 +93,8 @@ fn answer_notice<D: Disk>(
     notice: &Notice,
     out: &mut String,
 ) -> Result<(), OutOfMemory>
-    ensures answered { OnOk result (CallAnswered D.Disk campaigns.now desk.old desk.new (notice_of notice.now) (string_bytes out.old) (string_bytes out.new)) }
+    ensures answered { OnOk result (CallAnswered D.Disk campaigns.now desk.old desk.new (notice_of notice.now)
+        (string_bytes out.old) (string_bytes out.new)) }
     ensures unwritten { OnErr result (CallLeft D.Disk desk.old desk.new (notice_of notice.now)) }
     ensures lasts { D.lasts desk.old.disk desk.new.disk }
 {
@@ -114,7 +118,8 @@ fn answer_tick<D: Disk>(
     out: &mut String,
 ) -> Result<(), OutOfMemory>
     requires { now < 2 ^ 63 }
-    ensures answered { OnOk result (CallAnswered D.Disk campaigns.now desk.old desk.new (tick_call now) (string_bytes out.old) (string_bytes out.new)) }
+    ensures answered { OnOk result (CallAnswered D.Disk campaigns.now desk.old desk.new (tick_call now)
+        (string_bytes out.old) (string_bytes out.new)) }
     ensures unwritten { OnErr result (CallLeft D.Disk desk.old desk.new (tick_call now)) }
     ensures lasts { D.lasts desk.old.disk desk.new.disk }
 {
@@ -138,7 +143,8 @@ fn answer_change<D: Disk>(
     out: &mut String,
 ) -> Result<(), OutOfMemory>
     requires { IsCall (length desk.old.desk.terms.day.budgets) (budget_call (change_told change)) }
-    ensures answered { OnOk result (CallAnswered D.Disk campaigns.now desk.old desk.new (budget_call (change_told change)) (string_bytes out.old) (string_bytes out.new)) }
+    ensures answered { OnOk result (CallAnswered D.Disk campaigns.now desk.old desk.new
+        (budget_call (change_told change)) (string_bytes out.old) (string_bytes out.new)) }
     ensures unwritten { OnErr result (CallLeft D.Disk desk.old desk.new (budget_call (change_told change))) }
     ensures lasts { D.lasts desk.old.disk desk.new.disk }
 {
@@ -162,7 +168,8 @@ fn answer_call<D: Disk>(
     out: &mut String,
 ) -> Result<(), OutOfMemory>
     requires { IsCall (length desk.old.desk.terms.day.budgets) (call_of call) }
-    ensures answered { OnOk result (CallAnswered D.Disk campaigns.now desk.old desk.new (call_of call) (string_bytes out.old) (string_bytes out.new)) }
+    ensures answered { OnOk result (CallAnswered D.Disk campaigns.now desk.old desk.new (call_of call)
+        (string_bytes out.old) (string_bytes out.new)) }
     ensures unwritten { OnErr result (CallLeft D.Disk desk.old desk.new (call_of call)) }
     ensures lasts { D.lasts desk.old.disk desk.new.disk }
 {
@@ -184,7 +191,8 @@ fn answer_text<D: Disk>(
     out: &mut String,
 ) -> Result<(), OutOfMemory>
     requires terms { desk.old.desk.terms.day ≡ terms_by roster.now }
-    ensures answered { OnOk result (LineAnswered D.Disk roster.entry.now desk.old desk.new number (IsShort line.now) (string_bytes out.old) (string_bytes out.new)) }
+    ensures answered { OnOk result (LineAnswered D.Disk roster.entry.now desk.old desk.new number (IsShort line.now)
+        (string_bytes out.old) (string_bytes out.new)) }
     ensures unwritten { OnErr result (LineLeft D.Disk roster.entry.now desk.old desk.new (IsShort line.now)) }
     ensures lasts { D.lasts desk.old.disk desk.new.disk }
 {
@@ -211,7 +219,8 @@ pub(crate) fn answer_line<D: Disk>(
     out: &mut String,
 ) -> Result<(), OutOfMemory>
     requires terms { desk.old.desk.terms.day ≡ terms_by roster.now }
-    ensures answered { OnOk result (LineAnswered D.Disk roster.entry.now desk.old desk.new number (IsKept buffer.now) (string_bytes out.old) (string_bytes out.new)) }
+    ensures answered { OnOk result (LineAnswered D.Disk roster.entry.now desk.old desk.new number (IsKept buffer.now)
+        (string_bytes out.old) (string_bytes out.new)) }
     ensures unwritten { OnErr result (LineLeft D.Disk roster.entry.now desk.old desk.new (IsKept buffer.now)) }
     ensures lasts { D.lasts desk.old.disk desk.new.disk }
 {

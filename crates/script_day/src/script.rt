@@ -58,7 +58,8 @@ fn push_close<D: Disk>(
     buffer: &LineBuffer,
 ) -> Result<(), OutOfMemory>
     requires { desk.now.desk.terms.day ≡ terms_by roster.now }
-    ensures { OnOk result (OfLine buffer.now (λ line. string_bytes out.new ≡ string_bytes out.old ++ closing roster.entry.now number line desk.now.desk.history)) }
+    ensures { OnOk result (OfLine buffer.now (λ line. string_bytes out.new
+        ≡ string_bytes out.old ++ closing roster.entry.now number line desk.now.desk.history)) }
 {
     push_cut(alloc, out, number, buffer)?;
     push_books(out, desk, roster)?;
@@ -115,7 +116,8 @@ fn close<S: Source, K: Sink, D: Disk>(
 
 /// Ends a script that passes the limit of an input.
 fn refuse_rest<S: Source, K: Sink>(number: u64, talk: &mut Talk<'_, S, K>) -> Result<(), Ending>
-    ensures ends { PutsEnd (state_of talk.old).held (state_of talk.new).held ((state_of talk.old).out ++ toolong_line number) (Err Refused) result }
+    ensures ends { PutsEnd (state_of talk.old).held (state_of talk.new).held
+        ((state_of talk.old).out ++ toolong_line number) (Err Refused) result }
     ensures rest { (talk.new.source ≡ talk.old.source) × (talk.new.buffer ≡ talk.old.buffer) × (talk.new.room ≡ talk.old.room) }
     ensures causes { HasCauses (state_of talk.old) (state_of talk.new) result }
     ensures same { place_of talk.new ≡ place_of talk.old }
@@ -133,7 +135,8 @@ fn answer_next<S: Source, K: Sink, D: Disk>(
     talk: &mut Talk<'_, S, K>,
 ) -> Result<(), Ending>
     requires terms { desk.old.desk.terms.day ≡ terms_by roster.now }
-    ensures answered { OnOk result (LineAnswered D.Disk roster.entry.now desk.old desk.new number (IsKept talk.old.buffer.now) (state_of talk.old).out (state_of talk.new).out) }
+    ensures answered { OnOk result (LineAnswered D.Disk roster.entry.now desk.old desk.new number
+        (IsKept talk.old.buffer.now) (state_of talk.old).out (state_of talk.new).out) }
     ensures unwritten { OnErr result (LineLeft D.Disk roster.entry.now desk.old desk.new (IsKept talk.old.buffer.now)) }
     ensures failed { IfErr result (λ e. e ≡ Stopped NoMemory) }
     ensures state { state_of talk.new ≡ record (state_of talk.old) { out = (state_of talk.new).out } }

@@ -15,8 +15,8 @@ use Rattle.adx_desk.proofs.Asked.{for_some}
 use Rattle.adx_desk.proofs.Serving.{untouched}
 use Rattle.adx_desk.proofs.journaled_day.JournaledDay.set_budget.Goals as goal
 
-pub add_budget-requires : goal.add_budget-requires
-add_budget-requires g c =
+pub add_planned-requires : goal.add_planned-requires
+add_planned-requires g c =
     follows_in c.day.result.now c.self.inside.day c.args.self.now.desk c.day.ensures.terms c.day.ensures.history (ap (λ (t : JournaledState). t.desk.terms.day) c.self.view_is) (ap (λ (t : JournaledState). t.desk.history) c.self.view_is) c.in-Some.entry
     (for_some (MayFollow c.day.result.now.terms c.day.result.now.history) c.plan_budget-answer.result.1 c.plan_budget-answer.ensures.legal c.in-Some.entry c.in-Some.is)
 
@@ -24,16 +24,16 @@ pub returns-in-Some-clause-serves : goal.returns-in-Some-clause-serves
 returns-in-Some-clause-serves g c =
     let D = g.D.Disk in
     let planned = sym c.in-Some.is ∙ (c.plan_budget-answer.ensures.entry ∙ replies c.day.result.now c.self.inside.day c.args.self.now.desk c.day.ensures.terms c.day.ensures.history (ap (λ (t : JournaledState). t.desk.terms.day) c.self.view_is) (ap (λ (t : JournaledState). t.desk.history) c.self.view_is) (λ t h. (budget_reply t h (change_of c.args.campaign c.args.change c.args.budget)).entry)) in
-    subst (λ (o : Option Entry). Serves D.may_leave D.moment D.left_since (on_disk c.args.self.now c.args.disk.now) (on_disk c.add_budget.new.self c.add_budget.new.disk) o c.add_budget.result) planned c.add_budget.ensures.serves
+    subst (λ (o : Option Entry). Serves D.may_leave D.moment D.left_since (on_disk c.args.self.now c.args.disk.now) (on_disk c.add_planned.new.self c.add_planned.new.disk) o c.add_planned.result) planned c.add_planned.ensures.serves
 
 pub returns-in-Some-clause-ends : goal.returns-in-Some-clause-ends
 returns-in-Some-clause-ends g c =
     let D = g.D.Disk in
     let planned = sym c.in-Some.is ∙ (c.plan_budget-answer.ensures.entry ∙ replies c.day.result.now c.self.inside.day c.args.self.now.desk c.day.ensures.terms c.day.ensures.history (ap (λ (t : JournaledState). t.desk.terms.day) c.self.view_is) (ap (λ (t : JournaledState). t.desk.history) c.self.view_is) (λ t h. (budget_reply t h (change_of c.args.campaign c.args.change c.args.budget)).entry)) in
-    subst (λ (o : Option Entry). EndsAsk (D.faults c.args.disk.now) (D.faults c.add_budget.new.disk) c.args.self.now.desk c.add_budget.new.self.desk o c.add_budget.result) planned c.add_budget.ensures.ends
+    subst (λ (o : Option Entry). EndsAsk (D.faults c.args.disk.now) (D.faults c.add_planned.new.disk) c.args.self.now.desk c.add_planned.new.self.desk o c.add_planned.result) planned c.add_planned.ensures.ends
 
 pub returns-in-Some-clause-answer : goal.returns-in-Some-clause-answer
-returns-in-Some-clause-answer g c = subst (λ (x : Answer). IfOk c.add_budget.result (λ a. a ≡ x)) (c.plan_budget-answer.ensures.answer ∙ replies c.day.result.now c.self.inside.day c.args.self.now.desk c.day.ensures.terms c.day.ensures.history (ap (λ (t : JournaledState). t.desk.terms.day) c.self.view_is) (ap (λ (t : JournaledState). t.desk.history) c.self.view_is) (λ t h. (budget_reply t h (change_of c.args.campaign c.args.change c.args.budget)).answer)) c.add_budget.ensures.answer
+returns-in-Some-clause-answer g c = subst (λ (x : Answer). IfOk c.add_planned.result (λ a. a ≡ x)) (c.plan_budget-answer.ensures.answer ∙ replies c.day.result.now c.self.inside.day c.args.self.now.desk c.day.ensures.terms c.day.ensures.history (ap (λ (t : JournaledState). t.desk.terms.day) c.self.view_is) (ap (λ (t : JournaledState). t.desk.history) c.self.view_is) (λ t h. (budget_reply t h (change_of c.args.campaign c.args.change c.args.budget)).answer)) c.add_planned.ensures.answer
 
 pub returns-in-Some-clause-unmoved : goal.returns-in-Some-clause-unmoved
 returns-in-Some-clause-unmoved g c = λ none. absurd (none-some c.in-Some.entry (sym none ∙ (sym (c.plan_budget-answer.ensures.entry ∙ replies c.day.result.now c.self.inside.day c.args.self.now.desk c.day.ensures.terms c.day.ensures.history (ap (λ (t : JournaledState). t.desk.terms.day) c.self.view_is) (ap (λ (t : JournaledState). t.desk.history) c.self.view_is) (λ t h. (budget_reply t h (change_of c.args.campaign c.args.change c.args.budget)).entry)) ∙ c.in-Some.is)))

@@ -8,7 +8,7 @@ use Rattle.adx_desk.specs.Endings.{EndsAsk}
 use Rattle.adx_desk.specs.Journaled.{on_disk, unopened}
 use Rattle.adx_desk.specs.Serving.{Serves}
 use Rattle.adx_desk.proofs.Serving.{refused}
-use Rattle.adx_desk.proofs.journaled_day.JournaledDay.add_budget.Goals as goal
+use Rattle.adx_desk.proofs.journaled_day.JournaledDay.add_planned.Goals as goal
 
 pub append_answer-requires-clause-follows : goal.append_answer-requires-clause-follows
 append_answer-requires-clause-follows g c = subst (λ (d : DeskState). MayFollow d.terms.day d.history c.args.entry) (sym c.take_room.ensures.desk) c.requires
