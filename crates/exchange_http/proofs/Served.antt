@@ -14,6 +14,7 @@ use Rattle.day_rules.specs.Runs.{AreTurns, IsCall, Turn}
 use Rattle.deal_floor.specs.declared.roster.Roster.{Roster}
 use Rattle.desk_calls.specs.Calls.{turn_of}
 use Rattle.desk_calls.specs.Steps.{AreSteps, Step, alone, history_behind, looked, metered, took, turns_of}
+use Rattle.desk_calls.specs.declared.day_desk.DayDesk.{Ghosts as DeskGhosts}
 use Rattle.desk_calls.proofs.Chains.{owned_now}
 use Rattle.desk_runs.proofs.Books.{run_books}
 use Rattle.fan_out.specs.declared.lane.Lane.{Lane}
@@ -22,8 +23,11 @@ use Rattle.http_connection.specs.declared.conn.ConnEnd.{ConnEnd}
 use Rattle.http_grammar.specs.Requests.{is_kept}
 use Rattle.http_service.specs.Connections.{HasCauses}
 use Rattle.owned_desk.specs.Owned.{OwnRuns}
+use Rattle.exchange_floor.specs.Floors.{IsMomentOf}
+use Rattle.exchange_floor.specs.declared.clock.Clock.{Ghosts as ClockGhosts}
+use Rattle.exchange_floor.specs.declared.floor.Floor.{Floor}
 use Rattle.exchange_messages.specs.Courses.{begun}
-use Rattle.exchange_http.specs.Serving.{EndsSo, ServesConnection, Talked, talked}
+use Rattle.exchange_http.specs.Serving.{EndsSo, ServesConnection, ServesFloor, Talked, talked}
 use Rattle.exchange_http.proofs.Gathered.{known_none}
 
 -- the turns of steps are such as a day takes
@@ -51,29 +55,44 @@ module _ {D L : Type 0} (d : DiskGhosts D) (l : LinkGhosts L) (IsMoment : ℕ �
     ends = ends;
   }
 
-  -- the same, where the loans of desk, lanes and sink ended
-  pub ended_behind : (start now desk : OnDisk D) (lanes lanes_now links : List (Lane L)) (tape tape_now : Option Tape) (before sunk held held_now : Option (List ℕ)) (end : ConnEnd) → now ≡ desk → lanes_now ≡ links → before ≡ held → sunk ≡ held_now
+  -- the same, where the loans of desk and lanes ended
+  pub ended_behind : (start now desk : OnDisk D) (lanes lanes_now links : List (Lane L)) (before behind : Talked) (end : ConnEnd) → now ≡ desk → lanes_now ≡ links
       → IsLegal start.desk.terms.day start.desk.history
-      → ((steps : List Step) × OwnRuns d start now steps × EndsSo l IsMoment r (talked tape before) (talked tape_now sunk) lanes (record { steps = steps; lanes = lanes_now }) end)
-      → Serves (talked tape held) (talked tape_now held_now) lanes links start desk end
-  ended_behind start now desk lanes lanes_now links tape tape_now before sunk held held_now end desk_is links_are held_is sunk_is legal ends =
-      subst (λ (x : OnDisk D). Serves (talked tape held) (talked tape_now held_now) lanes links start x end) desk_is
-      (subst (λ (x : List (Lane L)). Serves (talked tape held) (talked tape_now held_now) lanes x start now end) links_are
-      (subst (λ (h : Option (List ℕ)). Serves (talked tape h) (talked tape_now held_now) lanes lanes_now start now end) held_is
-      (subst (λ (h : Option (List ℕ)). Serves (talked tape before) (talked tape_now h) lanes lanes_now start now end) sunk_is
-      (ended_so start now lanes lanes_now (talked tape before) (talked tape_now sunk) end ends.0 legal ends.1 ends.2))))
+      → (steps : List Step) → OwnRuns d start now steps → EndsSo l IsMoment r before behind lanes (record { steps = steps; lanes = lanes_now }) end
+      → Serves before behind lanes links start desk end
+  ended_behind start now desk lanes lanes_now links before behind end desk_is links_are legal steps ran ends =
+      subst (λ (x : OnDisk D). Serves before behind lanes links start x end) desk_is
+      (subst (λ (x : List (Lane L)). Serves before behind lanes x start now end) links_are
+      (ended_so start now lanes lanes_now before behind end steps legal ran ends))
+
+-- the disk lasts, where the loan of the desk ended
+pub lasts_behind : {D : Type 0} (d : DiskGhosts D) (start now desk : OnDisk D) → now ≡ desk → d.lasts start.disk now.disk → d.lasts start.disk desk.disk
+lasts_behind {D} d start now desk is lasts = subst (λ (x : OnDisk D). d.lasts start.disk x.disk) is lasts
+
+-- on a floor, over any desk
+module _ {Y L C G : Type 0} (y : DeskGhosts Y) (l : LinkGhosts L) (c : ClockGhosts C) where
+  -- a connection ended so, and the loan of its sink too
+  pub floor_so : (old new : Floor Y L C G) (tape tape_now : Option Tape) (before sunk held held_now : Option (List ℕ)) (end : ConnEnd) → before ≡ held → sunk ≡ held_now
+      → ((steps : List Step) × y.runs old.desk new.desk steps × EndsSo l (IsMomentOf (c.moment old.clock.now)) old.roster.now (talked tape before) (talked tape_now sunk) old.lanes.now.items (record { steps = steps; lanes = new.lanes.now.items }) end)
+      → ServesFloor y l c old new (talked tape held) (talked tape_now held_now) end
+  floor_so old new tape tape_now before sunk held held_now end held_is sunk_is ends =
+      subst (λ (h : Option (List ℕ)). ServesFloor y l c old new (talked tape h) (talked tape_now held_now) end) held_is
+      (subst (λ (h : Option (List ℕ)). ServesFloor y l c old new (talked tape before) (talked tape_now h) end) sunk_is
+      (record { steps = ends.0; ran = ends.1; ends = ends.2 }))
 
   -- memory was refused before any message came
-  pub never_begun : (desk : OnDisk D) (lanes : List (Lane L)) (tape : Option Tape) (held : Option (List ℕ)) → IsLegal desk.desk.terms.day desk.desk.history → OwnRuns d desk desk []
-      → Serves (talked tape held) (talked tape held) lanes lanes desk desk ConnEnd.OutOfMemory
-  never_begun desk lanes tape held legal ran =
-      ended_so desk desk lanes lanes (talked tape held) (talked tape held) ConnEnd.OutOfMemory [] legal ran (
-        [],
-        begun lanes,
-        record { out = []; replies = (refl, refl); took = sym (known_none held) },
-        record { kept = All-nil (λ (m : Request). is_kept m.head ≡ true); few = omega arith },
-        inl (refl, refl, refl),
-      )
+  pub never_begun : (f : Floor Y L C G) (tape : Option Tape) (held : Option (List ℕ)) → y.runs f.desk f.desk [] → ServesFloor y l c f f (talked tape held) (talked tape held) ConnEnd.OutOfMemory
+  never_begun f tape held ran = record {
+    steps = [];
+    ran = ran;
+    ends = (
+      [],
+      begun f.lanes.now.items,
+      record { out = []; replies = (refl, refl); took = sym (known_none held) },
+      record { kept = All-nil (λ (m : Request). is_kept m.head ≡ true); few = omega arith },
+      inl (refl, refl, refl),
+    );
+  }
 
 -- the references that a sink stands on, one by one
 abbrev name_or : GName → List GName → GName

@@ -67,7 +67,8 @@ module _ {Y L C G O : Type 0} (y : DeskGhosts Y) (l : LinkGhosts L) (c : ClockGh
   abbrev pub EndsOn : Floor Y L C G → (start : Y) (lanes : List (Lane L)) (tape tape_now : Option Tape)
       (before : Option (List ℕ)) → Floor Y L C G → O → ConnEnd → Type 0
   EndsOn by start lanes tape tape_now before f outlet end =
-      EndsHere y (works l) (IsMomentOf (c.moment by.clock.now)) by.roster.now start lanes tape tape_now before f.desk f.lanes.now.items (o.sunk outlet) end
+      EndsHere y (works l) (IsMomentOf (c.moment by.clock.now)) by.roster.now start lanes tape tape_now before
+      f.desk f.lanes.now.items (o.sunk outlet) end
 
   -- what is under way goes on; the last of the notices that wait may close before
   abbrev pub GoesOn : Floor Y L C G → Bool → Stand O → Floor Y L C G → Stand O → Type 0
@@ -113,13 +114,15 @@ module _ {Y L C G O : Type 0} (y : DeskGhosts Y) (l : LinkGhosts L) (c : ClockGh
   abbrev pub TakesNext : Floor Y L C G → Stand O → Read → Floor Y L C G → Stand O → Read → Result (Option Over) Stop → Type 0
   TakesNext f k read f_now k_now read_now result =
       (start : Y) (lanes : List (Lane L)) (tape : Option Tape) (count : ℕ) (before : Option (List ℕ)) → count < MESSAGE_LIMIT
-      → WayOn f start lanes tape read.tape (more read.held count) before f false k → GivesNext f start lanes tape read_now (suc count) before f_now k_now result
+      → WayOn f start lanes tape read.tape (more read.held count) before f false k
+      → GivesNext f start lanes tape read_now (suc count) before f_now k_now result
 
   -- all messages came, and no more are read
   abbrev pub TakesAll : Floor Y L C G → Stand O → Read → Floor Y L C G → Stand O → Option Tape → Over → Type 0
   TakesAll f k read f_now k_now tape_now over =
       (start : Y) (lanes : List (Lane L)) (tape : Option Tape) (before : Option (List ℕ))
-      → WayOn f start lanes tape read.tape (more read.held 0) before f false k → WayOn f start lanes tape tape_now (ended over) before f_now false k_now
+      → WayOn f start lanes tape read.tape (more read.held 0) before f false k
+      → WayOn f start lanes tape tape_now (ended over) before f_now false k_now
 
   -- or the connection ended so among them
   abbrev pub StopsAmong : Floor Y L C G → Stand O → Read → Floor Y L C G → O → Option Tape → ConnEnd → Type 0

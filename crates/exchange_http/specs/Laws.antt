@@ -35,7 +35,8 @@ HasOneMeaning = (request : Request) (x y : Meaning) → Means request x → Mean
 -- Messages that made the same steps were replied with the same bytes, whatever the lanes and the clocks.
 abbrev pub HasOneReply : {L : Type 0} → (List ℕ → List ℕ → Lane L → Lane L → Outcome → Type 0) → Type 0
 HasOneReply {L = L} Works =
-    (clock other_clock : Option ℕ) (r : Roster) (lanes other_lanes : List (Lane L)) (requests : List Request) (out other : List ℕ) (now other_now : Course L)
+    (clock other_clock : Option ℕ) (r : Roster) (lanes other_lanes : List (Lane L)) (requests : List Request)
+    (out other : List ℕ) (now other_now : Course L)
     → Replies (AnswersOn Works (IsMomentOf clock) r) (begun lanes) requests out now
     → Replies (AnswersOn Works (IsMomentOf other_clock) r) (begun other_lanes) requests other other_now
     → now.steps ≡ other_now.steps → out ≡ other

@@ -108,7 +108,8 @@ fault_over HttpFault.Coding = Ok (Some (Over.Fault HttpFault.Coding))
 
 module _ {Y : Type 0} (runs : Y → Y → List Step → Type 0) where
   -- notices that waited were taken, and their replies gathered
-  pub record Flushes (close : Bool) (notices : List Arrival) (old new : Y) (held held_now : Option (List ℕ)) (least waiting least_now waiting_now : ℕ) : Type 0 where
+  pub record Flushes (close : Bool) (notices : List Arrival) (old new : Y) (held held_now : Option (List ℕ))
+      (least waiting least_now waiting_now : ℕ) : Type 0 where
     pub outcomes : List (Option Answer)
     pub takes : TakesNotices runs old new notices outcomes
     pub holds : held_now ≡ append_known held (outcomes_bytes close outcomes)
@@ -124,7 +125,9 @@ module _ {Y : Type 0} (runs : Y → Y → List Step → Type 0) where
 
 module _ {Y L : Type 0} (y : DeskGhosts Y) (Works : List ℕ → List ℕ → Lane L → Lane L → Outcome → Type 0) (IsMoment : ℕ → Type 0) (r : Roster) where
   -- Messages were replied or their notices wait, from a desk and lanes on, over a source and behind what a sink took before.
-  pub record IsUnderWay (start : Y) (lanes : List (Lane L)) (tape tape_now : Option Tape) (coming : Coming) (before : Option (List ℕ)) (now : Y) (lanes_now : List (Lane L)) (notices : List Arrival) (close : Bool) (held : Option (List ℕ)) (least waiting : ℕ) : Type 0 where
+  pub record IsUnderWay (start : Y) (lanes : List (Lane L)) (tape tape_now : Option Tape) (coming : Coming)
+      (before : Option (List ℕ)) (now : Y) (lanes_now : List (Lane L)) (notices : List Arrival) (close : Bool)
+      (held : Option (List ℕ)) (least waiting : ℕ) : Type 0 where
     pub steps : List Step
     pub requests : List Request
     pub late : List Request
@@ -143,7 +146,8 @@ module _ {Y L : Type 0} (y : DeskGhosts Y) (Works : List ℕ → List ℕ → La
       (begun lanes) (record { steps = steps; lanes = lanes_now }) end
 
   -- what came of the next message: it was taken, and more may come, or none; or the connection ended
-  abbrev pub StepGives : Y → List (Lane L) → Option Tape → Option Tape → List ℕ → ℕ → Option (List ℕ) → Y → List (Lane L) → List Arrival → Option (List ℕ) → Option (List ℕ) → ℕ → ℕ → Result (Option Over) Stop → Type 0
+  abbrev pub StepGives : Y → List (Lane L) → Option Tape → Option Tape → List ℕ → ℕ → Option (List ℕ) → Y
+      → List (Lane L) → List Arrival → Option (List ℕ) → Option (List ℕ) → ℕ → ℕ → Result (Option Over) Stop → Type 0
   StepGives start lanes tape tape_now ahead count before now lanes_now notices held sunk least waiting (Ok None) =
       IsUnderWay start lanes tape tape_now (more ahead count) before now lanes_now notices false held least waiting
   StepGives start lanes tape tape_now ahead count before now lanes_now notices held sunk least waiting (Ok (Some over)) =
@@ -177,7 +181,9 @@ EndsOver held sunk (Over.Fault fault) result = EndsAt held sunk fault result
 abbrev pub IsEndOf : Over → ConnEnd → Type 0
 IsEndOf Over.Closed end = end ≡ ConnEnd.Closed
 IsEndOf Over.Spent end = end ≡ ConnEnd.Spent
-IsEndOf (Over.Fault fault) end = ((end ≡ ConnEnd.ReadFault) × (fault ≡ HttpFault.ReadFault)) ⊎ ((end ≡ ConnEnd.Cut) × (fault ≡ HttpFault.Cut)) ⊎ (end ≡ ConnEnd.Refused fault)
+IsEndOf (Over.Fault fault) end =
+    ((end ≡ ConnEnd.ReadFault) × (fault ≡ HttpFault.ReadFault)) ⊎ ((end ≡ ConnEnd.Cut) × (fault ≡ HttpFault.Cut))
+    ⊎ (end ≡ ConnEnd.Refused fault)
 
 -- the counts of a sink where a step that reads nothing stopped: it failed, or memory was refused
 abbrev pub StopsBy : ℕ → ℕ → Stop → Type 0

@@ -4,7 +4,8 @@ use Rattle.adx_io.specs.Streams.{Tape}
 use Rattle.adx_io.specs.declared.disk.Disk.{Ghosts as DiskGhosts}
 use Rattle.adx_links.specs.declared.link.Link.{Ghosts as LinkGhosts}
 use Rattle.adx_desk.specs.Desks.{OnDisk}
-use Rattle.desk_calls.specs.Steps.{AreSteps, alone, turns_of}
+use Rattle.desk_calls.specs.Steps.{AreSteps, Step, alone, turns_of}
+use Rattle.desk_calls.specs.declared.day_desk.DayDesk.{Ghosts as DeskGhosts}
 use Rattle.notice_batches.specs.declared.batch.TheConstants.{BATCH_LIMIT}
 use Rattle.deal_floor.specs.declared.roster.Roster.{Roster}
 use Rattle.fan_out.specs.declared.lane.Lane.{Lane}
@@ -15,7 +16,9 @@ use Rattle.http_service.specs.Connections.{Answering, GivingUp, AreSpent, Brings
 use Rattle.http_service.specs.declared.limits.TheConstants.{REQUEST_LIMIT}
 use Rattle.desk_runs.specs.Calls.{HasBooks}
 use Rattle.desk_runs.specs.Told.{told_of}
-use Rattle.exchange_floor.specs.Floors.{works}
+use Rattle.exchange_floor.specs.Floors.{IsMomentOf, works}
+use Rattle.exchange_floor.specs.declared.clock.Clock.{Ghosts as ClockGhosts}
+use Rattle.exchange_floor.specs.declared.floor.Floor.{Floor}
 use Rattle.exchange_messages.specs.Courses.{AnswersOn, Course, GivesUpOn, begun}
 use Rattle.desk_runs.specs.Records.{RunsOn}
 
@@ -25,7 +28,8 @@ IsAny rest = Unit {0}
 
 -- The sink failed within the replies. It took those to some messages, and a front of those to at most so many more as wait
 -- together, whose calls were taken.
-pub record FailsWaiting {S : Type 0} (answers : Answering S) (limit : ℕ) (tape tape_now : Option Tape) (held held_now : Option (List ℕ)) (s now : S) : Type 0 where
+pub record FailsWaiting {S : Type 0} (answers : Answering S) (limit : ℕ) (tape tape_now : Option Tape)
+    (held held_now : Option (List ℕ)) (s now : S) : Type 0 where
   pub before : List Request
   pub waiting : List Request
   pub between : S
@@ -40,7 +44,8 @@ pub record FailsWaiting {S : Type 0} (answers : Answering S) (limit : ℕ) (tape
 
 -- How a connection ended, whose replies may wait together. Where the sink failed within the reply to a message that is
 -- refused, it took those to all messages before it.
-abbrev pub EndsWith : {S : Type 0} → Answering S → GivingUp S → ℕ → Option Tape → Option Tape → Option (List ℕ) → Option (List ℕ) → S → S → ConnEnd → Type 0
+abbrev pub EndsWith : {S : Type 0} → Answering S → GivingUp S → ℕ → Option Tape → Option Tape → Option (List ℕ)
+    → Option (List ℕ) → S → S → ConnEnd → Type 0
 EndsWith answers gives_up limit tape tape_now held held_now s now ConnEnd.Closed =
     EndsService answers gives_up limit tape tape_now held held_now s now ConnEnd.Closed
 EndsWith answers gives_up limit tape tape_now held held_now s now ConnEnd.Cut =
@@ -68,10 +73,22 @@ talked tape held = record { tape = tape; held = held }
 -- which messages came, what each was replied by its own steps, and why no more were read
 abbrev pub EndsSo : {L : Type 0} → LinkGhosts L → (ℕ → Type 0) → Roster → Talked → Talked → List (Lane L) → Course L → ConnEnd → Type 0
 EndsSo l IsMoment r before now lanes course end =
-    EndsWith (AnswersOn (works l) IsMoment r) (GivesUpOn (works l) IsMoment r) REQUEST_LIMIT before.tape now.tape before.held now.held (begun lanes) course end
+    EndsWith (AnswersOn (works l) IsMoment r) (GivesUpOn (works l) IsMoment r) REQUEST_LIMIT
+    before.tape now.tape before.held now.held (begun lanes) course end
+
+-- A connection was served on a floor, over any desk that one calls, and ended so.
+pub record ServesFloor {Y L C G : Type 0} (y : DeskGhosts Y) (l : LinkGhosts L) (c : ClockGhosts C) (old new : Floor Y L C G)
+    (before now : Talked) (end : ConnEnd) : Type 0 where
+  pub steps : List Step
+  -- the desk tells this of its steps,
+  pub ran : y.runs old.desk new.desk steps
+  -- and by them the messages were replied
+  pub ends : EndsSo l (IsMomentOf (c.moment old.clock.now)) old.roster.now before now old.lanes.now.items
+      (record { steps = steps; lanes = new.lanes.now.items }) end
 
 -- A connection was served on a desk that nobody else calls, over a source, a sink and lanes, and ended so.
-pub record ServesConnection {D L : Type 0} (d : DiskGhosts D) (l : LinkGhosts L) (IsMoment : ℕ → Type 0) (r : Roster) (before now : Talked) (lanes lanes_now : List (Lane L)) (old new : OnDisk D) (end : ConnEnd) : Type 0 where
+pub record ServesConnection {D L : Type 0} (d : DiskGhosts D) (l : LinkGhosts L) (IsMoment : ℕ → Type 0) (r : Roster)
+    (before now : Talked) (lanes lanes_now : List (Lane L)) (old new : OnDisk D) (end : ConnEnd) : Type 0 where
   pub course : Course L
   pub lanes_are : course.lanes ≡ lanes_now
   -- each step is at the history that those before it leave,

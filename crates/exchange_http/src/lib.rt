@@ -2,8 +2,8 @@
 //!
 //! `serve_connection` reads messages from a source, asks bidders over links, keeps the day on a desk, and puts the reply to
 //! each message into a sink, in their order. Its contract names the messages, the steps that they made on the desk, what
-//! each was replied by the history of its own steps, what the disk keeps of it, and why no more were read. The loop is over
-//! any desk that one calls.
+//! each was replied by the history of its own steps, what the disk keeps of it, and why no more were read. `serve_floor` is
+//! the same loop over any desk that one calls.
 //! Stands on `exchange_floor` for what one message does, on `desk_calls` and `owned_desk` for the desk, on
 //! `exchange_messages` for what a message means, and on `http_service` for replies.
 #![tactic(auto)]
@@ -22,4 +22,4 @@ mod stop;
 mod waiting;
 
 pub use laws::{has_meaning, one_reply};
-pub use serving::serve_connection;
+pub use serving::{serve_connection, serve_floor};

@@ -6,7 +6,7 @@ ghost use Rattle.http_service.specs.declared.limits.TheConstants.{REQUEST_LIMIT 
 ghost use Rattle.exchange_floor.specs.Floors.{AreLanes, Gave, IsFloor, IsKept, IsMomentOf};
 ghost use Rattle.exchange_http.specs.Going.{EndsOn};
 ghost use Rattle.exchange_http.specs.Running.{IsSettled};
-ghost use Rattle.exchange_http.specs.Serving.{ServesConnection, talked};
+ghost use Rattle.exchange_http.specs.Serving.{ServesConnection, ServesFloor, talked};
 ghost use Rattle.exchange_http.specs.declared.outgoing.TheConstants.{ROOM as room_size};
 
 use crate::ending::finish;
@@ -97,6 +97,42 @@ fn serve_over<
     }
 }
 
+/// Serves a connection on a floor, over any desk that one calls: what `serve_connection` does, with the floor's desk and with
+/// its lanes asked as the floor asks them. Memory that is refused before the first message (`OutOfMemory`) leaves all as it was.
+pub fn serve_floor<
+    Y: DayDesk,
+    L: Link + Drop,
+    C: Clock,
+    F: Fn(Round<'_, L>) -> Given<L>,
+    S: Source,
+    K: Sink,
+>(alloc: Global, floor: &mut Floor<'_, Y, L, C, F>, source: &mut S, sink: &mut K) -> ConnEnd
+    requires floor { IsFloor Y.DayDesk floor.old }
+    requires always { F.IsAlwaysCallable floor.old.gatherer }
+    requires gives { (x y : _) → F.post floor.old.gatherer x y → Gave L.Link x y }
+    ensures serves { ServesFloor Y.DayDesk L.Link C.Clock floor.old floor.new
+        (talked (S.tape source.old) (K.held sink.old)) (talked (S.tape source.new) (K.held sink.new)) result }
+    ensures floor { IsFloor Y.DayDesk floor.new }
+    ensures kept { IsKept Y.DayDesk floor.old floor.new }
+    ensures causes { HasCauses (S.faults source.old) (S.faults source.new) (K.faults sink.old) (K.faults sink.new) result }
+    ensures source { S.place source.new ≡ S.place source.old }
+    ensures sink { K.place sink.new ≡ K.place sink.old }
+{
+    let Ok(mut conn) = Conn::new(alloc, REQUEST_LIMIT) else {
+        return ConnEnd::OutOfMemory;
+    };
+    let Ok(waiting) = Waiting::new(alloc) else {
+        return ConnEnd::OutOfMemory;
+    };
+    let Ok(bytes) = room(alloc) else {
+        return ConnEnd::OutOfMemory;
+    };
+    let mut keeping = keeping_over(alloc, waiting, bytes, &mut *sink);
+    let end = serve_over(alloc, floor, &mut keeping, &mut conn, source);
+    let _ = close(keeping);
+    end
+}
+
 /// Serves a connection of an exchange: reads messages from the source, and puts the reply to each into the sink, in their
 /// order. A request for bids at `/openrtb` is looked up; where it is new every lane's bidder is asked; then the clock is
 /// read, the desk ticks and takes the ask at that moment. Notices that stand whole in what was taken are taken together,
@@ -129,16 +165,6 @@ pub fn serve_connection<'a, S: Source, K: Sink, D: Disk, L: Link + Drop, C: Cloc
 {
     // A desk's history is legal.
     let _entries = desk.entries();
-    let Ok(mut conn) = Conn::new(alloc, REQUEST_LIMIT) else {
-        return ConnEnd::OutOfMemory;
-    };
-    let Ok(waiting) = Waiting::new(alloc) else {
-        return ConnEnd::OutOfMemory;
-    };
-    let Ok(bytes) = room(alloc) else {
-        return ConnEnd::OutOfMemory;
-    };
-    let mut keeping = keeping_over(alloc, waiting, bytes, &mut *sink);
     let mut floor = Floor {
         roster,
         desk: OwnDesk { desk },
@@ -148,7 +174,5 @@ pub fn serve_connection<'a, S: Source, K: Sink, D: Disk, L: Link + Drop, C: Cloc
             ensures { Gave L.Link round.entry result }
         { in_turn(alloc, round) },
     };
-    let end = serve_over(alloc, &mut floor, &mut keeping, &mut conn, source);
-    let _ = close(keeping);
-    end
+    serve_floor(alloc, &mut floor, source, sink)
 }
