@@ -141,8 +141,11 @@ impl<R: Wait + Drop> StepBoard<R> {
             &mut self.writer,
             (&self.rt, &self.front),
             |writer: Press, given: (&R, &Shown)| -> (Press, ())
-                requires { (drop writer.behind writer.log.items ≡ given.1.now ∷ []) × (given.1.now.seen.book ≡ writer.desk.shown.value.seen.book) }
-                ensures { (result.0.desk.shown.value ≡ given.entry.1.now) × (drop result.0.behind result.0.log.items ≡ []) × (view result.0.desk.place ≡ Some given.entry.1.now.seen) }
+                requires { (drop writer.behind writer.log.items ≡ given.1.now ∷ [])
+                    × (given.1.now.seen.book ≡ writer.desk.shown.value.seen.book) }
+                ensures { (result.0.desk.shown.value ≡ given.entry.1.now)
+                    × (drop result.0.behind result.0.log.items ≡ [])
+                    × (view result.0.desk.place ≡ Some given.entry.1.now.seen) }
             { (show_next(writer, given.0, given.1), ()) },
         );
         Ok(())

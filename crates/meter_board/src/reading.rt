@@ -40,7 +40,8 @@ impl MeterReader {
             &mut self.sight,
             (),
             |sight: Sight, _nothing: ()| -> (Sight, Option<Shown>)
-                ensures { (view result.0.place ≡ view sight.place) × ForSome result.1 (λ s. (b : Book) → book_of (view sight.place) ≡ Some b → s.seen.book ≡ b) }
+                ensures { (view result.0.place ≡ view sight.place)
+                    × ForSome result.1 (λ s. (b : Book) → book_of (view sight.place) ≡ Some b → s.seen.book ≡ b) }
             { look(sight) },
         );
         if let Some(found) = found {
