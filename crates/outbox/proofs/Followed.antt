@@ -20,6 +20,14 @@ posts_more before (f ∷ es) e =
     ∙ (sym (append_assoc (posts_by before f) (posts_behind (before ++ f ∷ []) es) (posts_by ((before ++ f ∷ []) ++ es) e))
     ∙ ap (λ (b : List Entry). posts_behind before (f ∷ es) ++ posts_by b e) (append_assoc before (f ∷ []) es))
 
+-- the posts of more entries come behind
+pub posts_on : (before es fs : List Entry) → posts_behind before (es ++ fs) ≡ posts_behind before es ++ posts_behind (before ++ es) fs
+posts_on before [] fs = ap (λ (b : List Entry). posts_behind b fs) (sym (append-nil before))
+posts_on before (e ∷ es) fs =
+    ap (λ (t : List Post). posts_by before e ++ t) (posts_on (before ++ e ∷ []) es fs)
+    ∙ (sym (append_assoc (posts_by before e) (posts_behind (before ++ e ∷ []) es) (posts_behind ((before ++ e ∷ []) ++ es) fs))
+    ∙ ap (λ (b : List Entry). posts_behind before (e ∷ es) ++ posts_behind b fs) (append_assoc before (e ∷ []) es))
+
 one_more : (es : List Entry) (i : ℕ) (e : Entry) → i < length es → get_or es i e ≡ e → take (i + 1) es ≡ take i es ++ e ∷ []
 one_more es i e within here = take_more es i e within ∙ ap (λ (x : Entry). take i es ++ x ∷ []) here
 
@@ -27,11 +35,13 @@ one_more es i e within here = take_more es i e within ∙ ap (λ (x : Entry). ta
 pub record Stands (history es : List Entry) (i : ℕ) (old now : OutboxState) : Type 0 where
   pub followed : HasFollowed (history ++ take i es) now
   pub posts : now.pending ≡ old.pending ++ posts_behind history (take i es)
+  pub given_up : now.undeliverable ≡ old.undeliverable
 
 pub stands_first : (history es : List Entry) (old : OutboxState) → HasFollowed history old → Stands history es 0 old old
 stands_first history es old followed = record {
   followed = subst (λ (h : List Entry). HasFollowed h old) (sym (append-nil history)) followed;
   posts = sym (append-nil old.pending);
+  given_up = refl;
 }
 
 pub stands_more : (history es : List Entry) (i : ℕ) (e : Entry) (done : Unit) (old mid new : OutboxState) → i < length es → get_or es i e ≡ e
@@ -46,6 +56,7 @@ stands_more history es i e done old mid new within here before now =
           ∙ (append_assoc old.pending (posts_behind history (take i es)) (posts_by (history ++ take i es) e)
           ∙ (sym (ap (λ (t : List Post). old.pending ++ t) (posts_more history (take i es) e))
           ∙ sym (ap (λ (t : List Entry). old.pending ++ posts_behind history t) more))));
+      given_up = now.2 ∙ before.given_up;
     }
 
 pub day_more : (terms : Terms) (history es : List Entry) (i : ℕ) (e : Entry) → i < length es → get_or es i e ≡ e → IsDay terms (history ++ es) → IsDay terms ((history ++ take i es) ++ e ∷ [])
@@ -69,6 +80,7 @@ follows_front history es i e wanting old mid new within before now = record {
   all = tt;
   followed = now.0;
   posts = now.1 ∙ before.posts;
+  given_up = now.2 ∙ before.given_up;
 }
 
 pub follows_all : (history es : List Entry) (i : ℕ) (done : Unit) (old now : OutboxState) → length es ≤ i → Stands history es i old now → Follows history es (Ok done) old now
@@ -80,4 +92,5 @@ follows_all history es i done old now past before =
       all = refl;
       followed = subst (λ (t : List Entry). HasFollowed (history ++ t) now) all before.followed;
       posts = before.posts ∙ ap (λ (t : List Entry). old.pending ++ posts_behind history t) all;
+      given_up = before.given_up;
     }

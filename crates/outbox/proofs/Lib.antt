@@ -7,3 +7,4 @@ pub mod Tried
 pub mod Changes
 pub mod Walks
 pub mod Followed
+pub mod Called

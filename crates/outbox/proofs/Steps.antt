@@ -311,6 +311,7 @@ continues_ok terms history (Entry.Ask a) done old mid followed day asks =
         rows = rows_ask terms history a old.kept mid.kept (legal_front terms history (Entry.Ask a ∷ []) day.legal) f followed.rows asks.1;
       },
       asks.0 ∙ ap (λ n. old.pending ++ flat_map (lost_post n a) a.kept) followed.count,
+      asks.3,
     )
 continues_ok terms history (Entry.Win n) done old mid followed day asks =
     let c : Counts NoticeKind.Win n (awards_of history) = legal_last terms history (Entry.Win n) [] day.legal in
@@ -330,6 +331,7 @@ continues_ok terms history (Entry.Win n) done old mid followed day asks =
       asks.0
           ∙ (ap (λ k. old.pending ++ post_in (row_win k) old.kept n) followed.count
           ∙ ap (λ (ps : List Post). old.pending ++ ps) (notice_posts history NoticeKind.Win n old.kept c (row_win (length history)) (win_post (length history)) followed.rows (win_posts (length history)))),
+      asks.3,
     )
 continues_ok terms history (Entry.Bill n) done old mid followed day asks =
     let c : Counts NoticeKind.Bill n (awards_of history) = legal_last terms history (Entry.Bill n) [] day.legal in
@@ -343,6 +345,7 @@ continues_ok terms history (Entry.Bill n) done old mid followed day asks =
       asks.0
           ∙ (ap (λ k. old.pending ++ post_in (row_bill k) old.kept n) followed.count
           ∙ ap (λ (ps : List Post). old.pending ++ ps) (notice_posts history NoticeKind.Bill n old.kept c (row_bill (length history)) (bill_post (length history)) followed.rows (bill_posts (length history)))),
+      asks.3,
     )
 continues_ok terms history (Entry.Loss n) done old mid followed day asks =
     let c : Counts NoticeKind.Loss n (awards_of history) = legal_last terms history (Entry.Loss n) [] day.legal in
@@ -355,6 +358,7 @@ continues_ok terms history (Entry.Loss n) done old mid followed day asks =
       asks.0
           ∙ (ap (λ k. old.pending ++ post_in (row_loss k LOST_TO_HIGHER) old.kept n) followed.count
           ∙ ap (λ (ps : List Post). old.pending ++ ps) (notice_posts history NoticeKind.Loss n old.kept c (row_loss (length history) LOST_TO_HIGHER) (loss_post (length history) LOST_TO_HIGHER) followed.rows (loss_posts (length history) LOST_TO_HIGHER))),
+      asks.3,
     )
 continues_ok terms history (Entry.Expire now) done old mid followed day asks = (
   record {
@@ -364,6 +368,7 @@ continues_ok terms history (Entry.Expire now) done old mid followed day asks = (
   asks.0
       ∙ (ap (λ k. old.pending ++ flat_map (post_in (row_loss k OPPORTUNITY_EXPIRED) old.kept) (due_in now old.kept)) followed.count
       ∙ ap (λ (ps : List Post). old.pending ++ ps) (posts_moment history now (length history) old.kept followed.rows asks.1.0)),
+  asks.3,
 )
 continues_ok terms history (Entry.Budget campaign change budget) done old mid followed day asks = (
   record {
@@ -371,10 +376,11 @@ continues_ok terms history (Entry.Budget campaign change budget) done old mid fo
     rows = rows_change history campaign change budget old.kept mid.kept followed.rows asks.1;
   },
   asks.0,
+  asks.3,
 )
 
-again : (history : List Entry) (e : Entry) (old new : OutboxState) (wanting : OutOfMemory) → HasFollowed history old → AreRowsOf history new.kept → new.pending ≡ old.pending → new.followed ≡ old.followed → Continues history e (Err wanting) old new
-again history e old new wanting followed rows pending count = (record { count = count ∙ followed.count; rows = rows }, pending)
+again : (history : List Entry) (e : Entry) (old new : OutboxState) (wanting : OutOfMemory) → HasFollowed history old → AreRowsOf history new.kept → new.pending ≡ old.pending → new.followed ≡ old.followed → new.undeliverable ≡ old.undeliverable → Continues history e (Err wanting) old new
+again history e old new wanting followed rows pending count given_up = (record { count = count ∙ followed.count; rows = rows }, pending, given_up)
 
 as_before : (history : List Entry) (old new : RowsState) → AreRowsOf history old → new ≡ old → AreRowsOf history new
 as_before history old new are same = subst (AreRowsOf history) (sym same) are
@@ -384,9 +390,9 @@ continues_err terms history (Entry.Ask a) wanting old new followed day asks =
     let f : AskMayFollow terms history a = legal_last terms history (Entry.Ask a) [] day.legal in
     again history (Entry.Ask a) old new wanting followed
     (elim asks.1 [ inl same ↦ as_before history old.kept new.kept followed.rows same | inr forgotten ↦ rows_forgotten terms history a old.kept new.kept f followed.rows forgotten ])
-    asks.0 asks.2
-continues_err terms history (Entry.Win n) wanting old new followed day asks = again history (Entry.Win n) old new wanting followed (as_before history old.kept new.kept followed.rows asks.1) asks.0 asks.2
-continues_err terms history (Entry.Bill n) wanting old new followed day asks = again history (Entry.Bill n) old new wanting followed (as_before history old.kept new.kept followed.rows asks.1) asks.0 asks.2
-continues_err terms history (Entry.Loss n) wanting old new followed day asks = again history (Entry.Loss n) old new wanting followed (as_before history old.kept new.kept followed.rows asks.1) asks.0 asks.2
-continues_err terms history (Entry.Expire now) wanting old new followed day asks = again history (Entry.Expire now) old new wanting followed (as_before history old.kept new.kept followed.rows asks.1) asks.0 asks.2
-continues_err terms history (Entry.Budget campaign change budget) wanting old new followed day asks = again history (Entry.Budget campaign change budget) old new wanting followed (as_before history old.kept new.kept followed.rows asks.1) asks.0 asks.2
+    asks.0 asks.2 asks.3
+continues_err terms history (Entry.Win n) wanting old new followed day asks = again history (Entry.Win n) old new wanting followed (as_before history old.kept new.kept followed.rows asks.1) asks.0 asks.2 asks.3
+continues_err terms history (Entry.Bill n) wanting old new followed day asks = again history (Entry.Bill n) old new wanting followed (as_before history old.kept new.kept followed.rows asks.1) asks.0 asks.2 asks.3
+continues_err terms history (Entry.Loss n) wanting old new followed day asks = again history (Entry.Loss n) old new wanting followed (as_before history old.kept new.kept followed.rows asks.1) asks.0 asks.2 asks.3
+continues_err terms history (Entry.Expire now) wanting old new followed day asks = again history (Entry.Expire now) old new wanting followed (as_before history old.kept new.kept followed.rows asks.1) asks.0 asks.2 asks.3
+continues_err terms history (Entry.Budget campaign change budget) wanting old new followed day asks = again history (Entry.Budget campaign change budget) old new wanting followed (as_before history old.kept new.kept followed.rows asks.1) asks.0 asks.2 asks.3

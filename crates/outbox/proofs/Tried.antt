@@ -3,6 +3,8 @@ use Rattle.std.proofs.Common.{◌≡◌, ◌≢◌, ℕ, ◌<◌, List, [], ◌�
 use mathlib.Core.List.{reverse}
 use Rattle.std.proofs.lemmas.List.{reverse-append, reverse-reverse}
 use Rattle.std.specs.Option.{IfSome}
+use Rattle.std.specs.List.{count_by}
+use Rattle.std.specs.Prelude.{min, ◌-◌, ◌^◌}
 use Rattle.adx_io.specs.Streams.{WhereTold}
 use Rattle.http_bodies.specs.Steps.{ReadsBy}
 use Rattle.http_grammar.specs.declared.fault.HttpFault.{HttpFault}
@@ -17,7 +19,7 @@ use Rattle.outbox.specs.declared.report.Outcome.{Outcome}
 use Rattle.outbox.specs.Calls.{call_of}
 use Rattle.outbox.specs.Following.{OutboxState}
 use Rattle.adx_units.specs.declared.memory.OutOfMemory.{OutOfMemory}
-use Rattle.outbox.specs.Pumping.{AreTried, Asks, ComesTo, Follows, IsCaused, IsPlanned, IsTried, Pumps, TriesCall, is_success, left_of, outcome_by, stays, stays_at}
+use Rattle.outbox.specs.Pumping.{AreTried, Asks, ComesTo, Follows, IsCaused, IsPlanned, IsTried, Pumps, TriesCall, counted, given_up_with, is_success, is_undeliverable, left_of, outcome_by, stays, stays_at}
 
 module _ {L : Type 0} (exchanges : L → Option Exchanges) (course : L → Option Course) (faults : L → ℕ) (stands_on : L → List GName) (limit : ℕ) where
   pub tried_more : (ps : List Post) (os : List Outcome) (p : Post) (o : Outcome) (old mid new : L)
@@ -167,6 +169,19 @@ module _ {L : Type 0} (exchanges : L → Option Exchanges) (course : L → Optio
         sent = was_sent result;
       }
 
+-- the count of posts that were given up, by a count that stands still at its last value
+pub given_up_more : (before : ℕ) (os : List Outcome) → before < 2 ^ 32 → min (before + counted is_undeliverable os) (2 ^ 32 - 1) ≡ given_up_with before os
+given_up_more before os few = capped before (count_by is_undeliverable os) (2 ^ 32) few
+  where
+    capped : (a b many : ℕ) → a < many → min (a + min b (many - 1)) (many - 1) ≡ a + min b ((many - 1) - a)
+    capped a b many few = omega (arith, few)
+
+none_given_up : (before : ℕ) → before ≡ given_up_with before []
+none_given_up before = none before ((2 ^ 32 - 1) - before)
+  where
+    none : (a most : ℕ) → a ≡ a + min 0 most
+    none a most = omega arith
+
 none_tried : (ps : List Post) → ps ≡ left_of ps []
 none_tried [] = refl
 none_tried (p ∷ ps) = refl
@@ -182,5 +197,6 @@ module _ {L : Type 0} (exchanges : L → Option Exchanges) (course : L → Optio
     pending = none_tried o.pending;
     followed = refl;
     kept = refl;
+    given_up = none_given_up o.undeliverable;
     report = tt;
   }

@@ -1,10 +1,10 @@
 -- What a post asks of which host: the request that fetches its URL (URL Standard; RFC 9112, sections 2 and 3). Which URLs
 -- are fetched, and which fields stand in the request, is this project's own.
-use Rattle.std.specs.Prelude.{ℕ, List, [], ◌++◌, if◌then◌else◌, bytes_eq, codes, decimal, Option, Some, None, option_map, unwrap_or, Ok, Err}
+use Rattle.std.specs.Prelude.{◌≡◌, ℕ, List, [], ◌++◌, if◌then◌else◌, bytes_eq, codes, decimal, Option, Some, None, option_map, unwrap_or, Ok, Err}
 use Rattle.httparse.specs.Ascii.{crlf_bytes}
 use Rattle.url.specs.Host.{host_text}
 use Rattle.url.specs.Parser.{Parsed, parse_url}
-use Rattle.url.specs.Parts.{Parts, nonempty_host}
+use Rattle.url.specs.Parts.{IsValid, Parts, nonempty_host}
 use Rattle.outbox.specs.declared.calling.Call.{Call}
 use Rattle.outbox.specs.declared.calling.TheConstants.{HTTP_PORT}
 
@@ -43,3 +43,7 @@ call_by (Err e) = None
 -- the call of a text: none where it isn't a URL
 abbrev pub call_of : List ℕ → Option Call
 call_of url = call_by (parse_url None url)
+
+-- what a text is as a URL has just the bytes in its parts that the URL Standard allows there
+abbrev pub IsValidAs : List ℕ → Type 0
+IsValidAs url = (p : Parts) → parse_url None url ≡ Ok p → IsValid p

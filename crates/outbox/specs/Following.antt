@@ -22,11 +22,13 @@ row_in kept n = lookup (is_at (nat_cmp n)) kept.rows
 abbrev pub deadline_in : RowsState → ℕ → Option ℕ
 deadline_in kept n = lookup (is_at (nat_cmp n)) kept.deadlines
 
--- an outbox: how many entries it followed, what it keeps of awards by their numbers, and the posts that are pending
+-- an outbox: how many entries it followed, what it keeps of awards by their numbers, the posts that are pending, and how
+-- many posts it gave up since it was made, because they can't be sent
 pub record OutboxState : Type 0 where
   pub followed : ℕ
   pub kept : RowsState
   pub pending : List Post
+  pub undeliverable : ℕ
 
 -- just what is to be kept of the awards of a history is kept
 pub record AreRowsOf (history : List Entry) (kept : RowsState) : Type 0 where
@@ -45,3 +47,4 @@ pub record Follows (history entries : List Entry) (result : Result Unit OutOfMem
   pub all : OnOk result (done ≡ length entries)
   pub followed : HasFollowed (history ++ take done entries) new
   pub posts : new.pending ≡ old.pending ++ posts_behind history (take done entries)
+  pub given_up : new.undeliverable ≡ old.undeliverable

@@ -38,7 +38,9 @@ beside (Some r) deadline = deadline
 -- the win of an award was counted
 pub record IsWon (n : ℕ) (old new : RowsState) : Type 0 where
   pub rows : (q : ℕ) → row_in new q ≡ put_at n (option_and_then (won_row (is_some (deadline_in old n))) (row_in old n)) (row_in old) q
-  pub deadlines : (q : ℕ) → deadline_in new q ≡ put_at n (beside (option_and_then (won_row (is_some (deadline_in old n))) (row_in old n)) (deadline_in old n)) (deadline_in old) q
+  pub deadlines : (q : ℕ) → deadline_in new q ≡ put_at n
+      (beside (option_and_then (won_row (is_some (deadline_in old n))) (row_in old n)) (deadline_in old n))
+      (deadline_in old) q
 
 -- the bill of an award was counted
 pub record IsBilled (n : ℕ) (old new : RowsState) : Type 0 where

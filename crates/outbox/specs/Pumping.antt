@@ -1,5 +1,5 @@
 -- What a pump does: it tries each pending post once, in order. This project's own.
-use Rattle.std.specs.Prelude.{◌≡◌, ◌≢◌, ◌⊎◌, ℕ, ◌-◌, ◌^◌, ◌<◌, ◌≤◌, min, List, [], ◌∷◌, length, take, Bool, true, false, ◌&&◌, nat_le, IsTrue, if◌then◌else◌, Option, Some, None, IfSome, IfOk, OnOk, Result, Ok, Err, ⊤}
+use Rattle.std.specs.Prelude.{◌≡◌, ◌≢◌, ◌⊎◌, ℕ, ◌+◌, ◌-◌, ◌^◌, ◌<◌, ◌≤◌, min, List, [], ◌∷◌, length, take, Bool, true, false, ◌&&◌, nat_le, IsTrue, if◌then◌else◌, Option, Some, None, IfSome, IfOk, OnOk, Result, Ok, Err, ⊤}
 use Rattle.std.specs.List.{count_by, slice_get}
 use Rattle.std.specs.Option.{option_map_or}
 use Rattle.std.specs.Borrow.{GName}
@@ -121,6 +121,10 @@ is_undeliverable Undeliverable = true
 abbrev pub counted : (Outcome → Bool) → List Outcome → ℕ
 counted test outcomes = min (count_by test outcomes) (2 ^ 32 - 1)
 
+-- how many posts were given up, those of these outcomes too; the count stands still at its last value
+abbrev pub given_up_with : ℕ → List Outcome → ℕ
+given_up_with before outcomes = before + min (count_by is_undeliverable outcomes) ((2 ^ 32 - 1) - before)
+
 abbrev pub report_of : List Outcome → Report
 report_of outcomes = record {
   delivered = counted is_delivered outcomes;
@@ -152,7 +156,8 @@ module _ {L : Type 0} (exchanges : L → Option Exchanges) (course : L → Optio
   AreTried (p ∷ ps) (o ∷ os) old new = (mid : L) × TriesCall (call_of p.url) old mid o × AreTried ps os mid new
 
   -- Each of the first pending posts was tried once, in order, all of them unless memory was wanting. Those that were
-  -- delivered or can't be delivered are pending no more, and the report counts them all by what came of them.
+  -- delivered or can't be delivered are pending no more, and the report counts them all by what came of them. Those that
+  -- can't be delivered are counted also where memory is wanting, when no report tells of them.
   pub record Pumps (link_old link_new : L) (result : Result Report OutOfMemory) (old new : OutboxState) : Type 0 where
     pub outcomes : List Outcome
     pub few : length outcomes ≤ length old.pending
@@ -161,4 +166,5 @@ module _ {L : Type 0} (exchanges : L → Option Exchanges) (course : L → Optio
     pub pending : new.pending ≡ left_of old.pending outcomes
     pub followed : new.followed ≡ old.followed
     pub kept : new.kept ≡ old.kept
+    pub given_up : new.undeliverable ≡ given_up_with old.undeliverable outcomes
     pub report : IfOk result (λ r. r ≡ report_of outcomes)

@@ -57,11 +57,15 @@ RowsAgain (Entry.Budget campaign change budget) old new = new ≡ old
 abbrev pub AsksFor : Entry → Result Unit OutOfMemory → OutboxState → OutboxState → Type 0
 AsksFor e (Ok done) old new =
     (new.pending ≡ old.pending ++ posts_in old e) × RowsBehind e old.kept new.kept × (new.followed ≡ old.followed)
+    × (new.undeliverable ≡ old.undeliverable)
 AsksFor e (Err wanting) old new =
     (new.pending ≡ old.pending) × RowsAgain e old.kept new.kept × (new.followed ≡ old.followed)
+    × (new.undeliverable ≡ old.undeliverable)
 
 -- the outbox has followed the entry too, or nothing changed that counts
 abbrev pub Continues : List Entry → Entry → Result Unit OutOfMemory → OutboxState → OutboxState → Type 0
 Continues history e (Ok done) old new =
     HasFollowed (history ++ e ∷ []) new × (new.pending ≡ old.pending ++ posts_by history e)
-Continues history e (Err wanting) old new = HasFollowed history new × (new.pending ≡ old.pending)
+    × (new.undeliverable ≡ old.undeliverable)
+Continues history e (Err wanting) old new =
+    HasFollowed history new × (new.pending ≡ old.pending) × (new.undeliverable ≡ old.undeliverable)

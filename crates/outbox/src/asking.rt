@@ -95,7 +95,8 @@ fn push_row(
     place: usize,
     offer: &Offer,
 ) -> Result<(), OutOfMemory>
-    ensures { OnOk result (out.new.items ≡ out.old.items ++ (if is_award_for imp (place, offer.now) then row_made ask.entry.now (place, offer.now) ∷ [] else [])) }
+    ensures { OnOk result (out.new.items ≡ out.old.items
+        ++ (if is_award_for imp (place, offer.now) then row_made ask.entry.now (place, offer.now) ∷ [] else [])) }
 {
     if is_award(offer, imp) {
         out.push(row_of(alloc, ask, place, offer)?)?;

@@ -1,7 +1,8 @@
 //! The call that fetches a URL.
-ghost use Rattle.std.specs.Prelude.{◌≡◌, ◌++◌, IfOk, OnOk, codes, decimal, string_bytes};
+ghost use Rattle.std.specs.Prelude.{◌≡◌, ◌++◌, IfOk, IfSome, OnOk, codes, decimal, string_bytes};
 ghost use Rattle.httparse.specs.Ascii.{crlf_bytes};
-ghost use Rattle.outbox.specs.Calls.{call_at as call_at_host, call_in as call_in_parts, call_of as call_of_text, request_for, target_of};
+ghost use Rattle.outbox.specs.Calls.{call_at as call_at_host, call_in as call_in_parts, IsValidAs, call_of as call_of_text, request_for, target_of};
+ghost use Rattle.url.specs.Parts.{IsValid};
 
 use adx_units::{OutOfMemory, Text};
 use itoa::Buffer;
@@ -39,7 +40,8 @@ fn push_target(out: &mut String, parts: &Url) -> Result<(), OutOfMemory>
 
 /// Puts the field that names the host.
 fn push_host(out: &mut String, host: &str, port: u16) -> Result<(), OutOfMemory>
-    ensures { OnOk result (string_bytes out.new ≡ string_bytes out.old ++ (codes "Host: " ++ host.now ++ codes ":" ++ decimal port ++ crlf_bytes)) }
+    ensures { OnOk result (string_bytes out.new ≡ string_bytes out.old
+        ++ (codes "Host: " ++ host.now ++ codes ":" ++ decimal port ++ crlf_bytes)) }
 {
     let mut digits = Buffer::new();
     out.push_str("Host: ")?;
@@ -78,7 +80,8 @@ fn call_at(alloc: Global, parts: &Url, host: &str) -> Result<Call, OutOfMemory>
 
 /// The call of a URL; none where its scheme isn't http, or it has no host.
 fn call_in(alloc: Global, parts: &Url) -> Result<Option<Call>, OutOfMemory>
-    ensures { IfOk result (λ c. c ≡ call_in_parts parts.entry.now) }
+    ensures call { IfOk result (λ c. c ≡ call_in_parts parts.entry.now) }
+    ensures valid { IsValid parts.entry.now }
 {
     if parts.scheme() != "http" {
         return Ok(None);
@@ -92,9 +95,11 @@ fn call_in(alloc: Global, parts: &Url) -> Result<Option<Call>, OutOfMemory>
     }
 }
 
-/// The call of a text; none where it isn't a URL. A URL for which there is no room wants memory.
-pub(crate) fn call_of(alloc: Global, url: &str) -> Result<Option<Call>, OutOfMemory>
-    ensures { IfOk result (λ c. c ≡ call_of_text url.now) }
+/// The call that fetches a URL (URL Standard; RFC 9112, section 3), which is what an outbox asks for a post with that URL.
+/// None where the text isn't a URL, its scheme isn't http, or it has no host. A URL for which there is no room wants memory.
+pub fn call_of(alloc: Global, url: &str) -> Result<Option<Call>, OutOfMemory>
+    ensures call { IfOk result (λ c. c ≡ call_of_text url.now) }
+    ensures valid { IfOk result (λ c. IfSome c (λ _. IsValidAs url.now)) }
 {
     match Url::parse(alloc, url) {
         Ok(parts) => call_in(alloc, &parts),

@@ -11,7 +11,7 @@ mod row;
 mod rows;
 mod trying;
 
-pub use calling::{Call, HTTP_PORT};
+pub use calling::{Call, HTTP_PORT, call_of};
 pub use outbox::{ANSWER_LIMIT, Outbox};
 pub use post::{OPPORTUNITY_EXPIRED, Post, PostKind};
 pub use report::{Outcome, Report};

@@ -14,7 +14,7 @@ ghost use Rattle.std.specs.List.{flat_map};
 use crate::asking::{awarded_rows, push_lost};
 use crate::post::{OPPORTUNITY_EXPIRED, Post, PostKind};
 use crate::pushing::push_notice;
-use crate::report::{Report, report_of};
+use crate::report::{Report, given_up_with, report_of};
 use crate::rows::Rows;
 use crate::trying::{keep_left, try_all};
 use adx_links::Link;
@@ -30,13 +30,14 @@ use std::mem;
 pub const ANSWER_LIMIT: u32 = 262_144;
 
 /// The posts of a day that are pending, and what is kept of its awards for those to come. A contract
-/// sees how many entries it followed, what it keeps of awards, and the pending posts.
+/// sees how many entries it followed, what it keeps of awards, the pending posts, and how many were given up.
 #[derive(Drop)]
 pub struct Outbox {
     alloc: Global,
     followed: u64,
     kept: Rows,
     pending: Vec<Post>,
+    undeliverable: u32,
     conn: Conn,
 }
 
@@ -45,7 +46,7 @@ impl Model for Outbox {
 
     ghost Value = { OutboxState };
 
-    ghost view = { λ o. record { followed = o.followed; kept = o.kept; pending = o.pending.items } };
+    ghost view = { λ o. record { followed = o.followed; kept = o.kept; pending = o.pending.items; undeliverable = o.undeliverable } };
 
     ghost use Rattle.std.specs.Prelude.{◌≡◌};
     ghost use Rattle.outbox.specs.declared.outbox.TheConstants.{ANSWER_LIMIT};
@@ -58,12 +59,14 @@ impl Outbox {
     pub fn new(alloc: Global) -> Result<Outbox, OutOfMemory>
         ensures followed { IfOk result (λ o. HasFollowed [] o) }
         ensures pending { IfOk result (λ o. o.pending ≡ []) }
+        ensures undeliverable { IfOk result (λ o. o.undeliverable ≡ 0) }
     {
         Ok(Outbox {
             alloc,
             followed: 0,
             kept: Rows::new(alloc),
             pending: Vec::new(alloc),
+            undeliverable: 0,
             conn: Conn::new(alloc, ANSWER_LIMIT)?,
         })
     }
@@ -89,11 +92,20 @@ impl Outbox {
         self.pending.as_slice()
     }
 
+    /// How many posts it gave up since it was made, because they can't be sent: each pump adds those that it met, also
+    /// one that ends without memory. The count stands still at 4,294,967,295.
+    pub fn undeliverable(&self) -> u32
+        ensures { result ≡ self.now.undeliverable }
+    {
+        self.undeliverable
+    }
+
     /// Follows entries that stand behind those followed so far: their posts become pending, and what
     /// later posts need is kept. Where memory is wanting it has followed the entries before the one that
     /// wanted it, as `followed` tells, and may be told of the others again.
     pub fn follow(&mut self, entries: &[Entry]) -> Result<(), OutOfMemory>
-        ensures { (terms : Terms) (history : List EntryValue) → HasFollowed history self.old → IsDay terms (history ++ entries.now) → Follows history entries.now result self.old self.new }
+        ensures { (terms : Terms) (history : List EntryValue) → HasFollowed history self.old
+            → IsDay terms (history ++ entries.now) → Follows history entries.now result self.old self.new }
     {
         for entry in entries {
             match self.follow_one(entry) {
@@ -128,6 +140,7 @@ impl Outbox {
             &mut left,
         );
         self.pending = left;
+        self.undeliverable = given_up_with(self.undeliverable, &outcomes);
         match tried {
             Ok(()) => Ok(report_of(&outcomes)),
             Err(wanting) => Err(wanting),
@@ -136,7 +149,8 @@ impl Outbox {
 
     /// Follows an entry; as before where memory is wanting.
     fn follow_one(&mut self, entry: &Entry) -> Result<(), OutOfMemory>
-        ensures { (terms : Terms) (history : List EntryValue) → HasFollowed history self.old → IsDay terms (history ++ entry.now ∷ []) → Continues history entry.now result self.old self.new }
+        ensures { (terms : Terms) (history : List EntryValue) → HasFollowed history self.old
+            → IsDay terms (history ++ entry.now ∷ []) → Continues history entry.now result self.old self.new }
     {
         match self.take(entry) {
             Ok(()) => {

@@ -53,7 +53,8 @@ pub(crate) fn push_notice(
     price: Option<Units>,
     loss: u16,
 ) -> Result<(), OutOfMemory>
-    ensures more { OnOk result (out.new.items ≡ out.old.items ++ post_of place kind (url_expansion (row_values row.now price loss) url.now)) }
+    ensures more { OnOk result (out.new.items ≡ out.old.items
+        ++ post_of place kind (url_expansion (row_values row.now price loss) url.now)) }
     ensures same { OnErr result (out.new.items ≡ out.old.items) }
 {
     let url = row.url(alloc, url, price, loss)?;

@@ -1,6 +1,6 @@
 //! What came of tries.
 ghost use Rattle.std.specs.Prelude.{◌≡◌, ◌∷◌, ◌++◌, [], List};
-ghost use Rattle.outbox.specs.Pumping.{report_of, stays};
+ghost use Rattle.outbox.specs.Pumping.{given_up_with, report_of, stays};
 ghost use Rattle.outbox.specs.declared.report.Outcome.{Outcome as OutcomeValue};
 
 /// What came of one try of a post.
@@ -81,4 +81,11 @@ pub(crate) fn report_of(outcomes: &[Outcome]) -> Report
         report = report.with(*outcome);
     }
     report
+}
+
+/// How many posts were given up, those of these outcomes too.
+pub(crate) fn given_up_with(before: u32, outcomes: &[Outcome]) -> u32
+    ensures { result ≡ given_up_with before outcomes.now }
+{
+    before.saturating_add(report_of(outcomes).undeliverable)
 }

@@ -64,7 +64,8 @@ fn try_post<L: Link>(
     link: &mut L,
     post: &Post,
 ) -> Result<Outcome, OutOfMemory>
-    ensures tried { IfOk result (λ o. TriesCall L.exchanges L.course L.faults L.place conn.old.limit (call_of_text post.now.url) link.old link.new o) }
+    ensures tried { IfOk result (λ o. TriesCall L.exchanges L.course L.faults L.place conn.old.limit
+        (call_of_text post.now.url) link.old link.new o) }
     ensures untouched { OnErr result (link.new ≡ link.old) }
     ensures limit { conn.new.limit ≡ conn.old.limit }
 {
@@ -85,7 +86,8 @@ pub(crate) fn try_all<L: Link>(
     requires none { outcomes.old.items ≡ [] }
     ensures few { length outcomes.new.items ≤ length posts.now }
     ensures all { OnOk result (length outcomes.new.items ≡ length posts.now) }
-    ensures tried { AreTried L.exchanges L.course L.faults L.place conn.old.limit (take (length outcomes.new.items) posts.now) outcomes.new.items link.old link.new }
+    ensures tried { AreTried L.exchanges L.course L.faults L.place conn.old.limit
+        (take (length outcomes.new.items) posts.now) outcomes.new.items link.old link.new }
     ensures limit { conn.new.limit ≡ conn.old.limit }
 {
     outcomes.reserve(posts.len())?;

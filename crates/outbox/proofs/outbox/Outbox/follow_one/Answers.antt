@@ -6,7 +6,7 @@ use Rattle.outbox.proofs.outbox.Outbox.follow_one.Goals as goal
 
 pub returns-in-Ok : goal.returns-in-Ok
 returns-in-Ok c =
-    let new : ℕ → OutboxState = λ k. record { followed = k; kept = c.self.inside.kept; pending = c.self.inside.pending.items } in
+    let new : ℕ → OutboxState = λ k. record { followed = k; kept = c.self.inside.kept; pending = c.self.inside.pending.items; undeliverable = c.self.inside.undeliverable } in
     let same : counted_on c.take.new.self ≡ new c.saturating_add-self-inside.result = ap (λ (s : OutboxState). counted_on s) (sym c.self.view_is) ∙ ap new (sym c.saturating_add-self-inside.ensures) in
     λ terms history followed day.
     subst (λ (s : OutboxState). Continues history c.args.entry.now (Ok c.in-Ok.field-0) c.args.self.now s) same
