@@ -37,7 +37,8 @@ AreNoticed (x ∷ notices) (o ∷ outcomes) steps =
     (at : List Entry) × (rest : List Step) × (steps ≡ took (noticed at x o) ∷ rest) × IsOutcome at x o × AreNoticed notices outcomes rest
 
 -- a desk took these notices, one behind another, with these outcomes
-pub record TakesNotices {Y : Type 0} (runs : Y → Y → List Step → Type 0) (old new : Y) (notices : List Arrival) (outcomes : List (Option Answer)) : Type 0 where
+pub record TakesNotices {Y : Type 0} (runs : Y → Y → List Step → Type 0) (old new : Y) (notices : List Arrival)
+    (outcomes : List (Option Answer)) : Type 0 where
   pub steps : List Step
   pub are : AreNoticed notices outcomes steps
   pub ran : runs old new steps

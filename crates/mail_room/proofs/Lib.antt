@@ -1,0 +1,2 @@
+mod Tending
+mod Rooms

@@ -1,0 +1,2 @@
+pub mod Tending
+pub mod Rooms
