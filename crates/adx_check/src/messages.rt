@@ -1,7 +1,6 @@
 //! What a run that failed says on standard error: one line.
 use crate::status::{ACCEPTED, NO_DOCUMENT, NOT_ACCEPTED, OUT_OF_MEMORY, READ_FAULT, WRITE_FAULT};
 use noted_streams::{Reason, Told};
-use std::cell::Cell;
 
 /// What the system said of standard input and standard output.
 #[derive(Drop)]
@@ -14,8 +13,8 @@ impl Heard {
     /// Nothing so far.
     pub(crate) fn new() -> Heard {
         Heard {
-            input: Cell::new(None),
-            output: Cell::new(None),
+            input: Told::new(),
+            output: Told::new(),
         }
     }
 }

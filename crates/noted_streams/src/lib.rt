@@ -1,11 +1,14 @@
 //! Streams and files that keep the last error which the system told.
 //!
 //! A program's sources, sinks and disks answer that they failed, and no more. `Noting` stands between them and the system, hands
-//! every call on, and keeps the error of one that fails; `Reason` writes it for a person. Stands on `std` alone.
+//! every call on, and keeps the error of one that fails in a place that threads may share (`Told`); `Reason` writes it for a
+//! person. Stands on `std` alone.
 #![tactic(auto)]
 
 mod noting;
 mod reason;
+mod told;
 
-pub use noting::{Noting, Told};
+pub use noting::Noting;
 pub use reason::Reason;
+pub use told::Told;

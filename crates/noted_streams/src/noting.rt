@@ -1,14 +1,11 @@
 //! What the system said of a stream or a file when it failed.
 ghost use Rattle.std.specs.Prelude.{◌≡◌};
 
-use std::cell::Cell;
+use crate::told::Told;
 use std::fs::{File, Metadata, OpenFile};
 use std::io;
 use std::io::{Read, Write};
 use std::os::unix::fs::FileExt;
-
-/// The last error that the system told, if it told one.
-pub type Told = Cell<Option<io::Error>>;
 
 /// A stream or a file, and where its errors are kept.
 #[derive(Drop)]
@@ -29,7 +26,7 @@ fn noted<T>(told: &Told, answer: io::Result<T>) -> io::Result<T>
     ensures { result ≡ answer }
 {
     if let Err(error) = &answer {
-        told.set(Some(*error));
+        told.keep(error);
     }
     answer
 }
