@@ -1,14 +1,17 @@
 //! An exchange for OpenRTB 2.6 that serves a day of first-price auctions.
 //!
-//! The call `adx` of the crate `adx_commands` does all that the program does, from the words of its command
-//! line and the bytes of a source to those of a sink; its contract is the program's. This crate opens what the words name: the
-//! file of a journal, or by `archive_file` the file of an archive of closed days. Stands on `command_words`, `adx_commands`,
-//! `day_archive`, `archive_file`, `noted_streams`, `adx_io` and `adx_units`.
+//! The call `adx` of the crate `adx_commands` does what the program does between its standard streams, from the words of its
+//! command line and the bytes of a source to those of a sink, and `adx_serve` of `network_commands` what it does over the
+//! network; their contracts are the program's. This crate opens what the words name: the file of a journal, of a roster or of
+//! a price line, a port, or by `archive_file` the file of an archive of closed days. Stands on `command_words`,
+//! `adx_commands`, `network_commands`, `adx_acceptors`, `adx_links`, `command_runs`, `day_archive`, `archive_file`,
+//! `noted_streams`, `adx_io` and `adx_units`.
 #![tactic(auto)]
 
 mod archive;
 mod journal_file;
 mod messages;
+mod network;
 mod run;
 
 use crate::messages::say_memory;
@@ -30,7 +33,7 @@ fn words_of(rt: &HostRuntime) -> io::Result<Vec<Text>> {
 
 fn main(rt: HostRuntime) -> ExitCode {
     let status = match words_of(&rt) {
-        Ok(words) => run(&rt, words.as_slice()),
+        Ok(words) => run(&rt, &rt, words.as_slice()),
         Err(error) if error.kind() == ErrorKind::OutOfMemory => {
             say_memory(&rt);
             OUT_OF_MEMORY

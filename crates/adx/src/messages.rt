@@ -5,9 +5,10 @@ use adx_commands::{
 };
 use adx_units::Text;
 use command_words::complaint_of;
+use network_commands::PENDING;
 use noted_streams::{Reason, Told};
-use std::cell::Cell;
 use std::fmt::Display;
+use std::net::SocketAddr;
 
 /// What the system said of standard input, standard output and the journal's file.
 #[derive(Drop)]
@@ -21,9 +22,9 @@ impl Heard {
     /// Nothing so far.
     pub(crate) fn new() -> Heard {
         Heard {
-            input: Cell::new(None),
-            output: Cell::new(None),
-            file: Cell::new(None),
+            input: Told::new(),
+            output: Told::new(),
+            file: Told::new(),
         }
     }
 }
@@ -56,6 +57,51 @@ pub(crate) fn say_not_opened<T: Display + Drop>(rt: &HostRuntime, path: &str, fa
 /// Says why the file of an archive wasn't closed.
 pub(crate) fn say_not_closed<T: Display + Drop>(rt: &HostRuntime, path: &str, fault: T) {
     let _ = eprintln!(rt; "adx: {path}: not closed: {fault}");
+}
+
+/// Says where connections are taken.
+pub(crate) fn say_listening(rt: &HostRuntime, address: SocketAddr) {
+    let _ = eprintln!(rt; "adx: connections are taken at {address}");
+}
+
+/// Says why no connections are taken at a port.
+pub(crate) fn say_not_bound<T: Display + Drop>(rt: &HostRuntime, port: u16, fault: T) {
+    let _ = eprintln!(rt; "adx: port {port}: {fault}");
+}
+
+/// Says why a run over the network ended with a status other than 0. Its document is in the file with the first path, and its
+/// journal in that with the second.
+pub(crate) fn say_network(
+    rt: &HostRuntime,
+    words: &[Text],
+    document: &str,
+    journal: &str,
+    heard: &Heard,
+    status: u8,
+) {
+    let written = match status {
+        DONE => Ok(()),
+        NO_COMMAND => {
+            say_of_words(rt, words);
+            Ok(())
+        }
+        REFUSED => eprintln!(rt;
+            "adx: {document}: the first line isn't of its form, or is too long"
+        ),
+        READ_FAULT => eprintln!(rt; "adx: no connection can be taken"),
+        DISK_FAULT => eprintln!(rt; "adx: {journal}: {}", Reason(&heard.file)),
+        NO_HISTORY => {
+            eprintln!(rt; "adx: {journal}: holds another roster's day, or isn't a journal")
+        }
+        PENDING => {
+            eprintln!(rt;
+                "adx: notices are pending: their hosts weren't reached, or answered with a status outside 200 to 299"
+            )
+        }
+        OUT_OF_MEMORY => eprintln!(rt; "adx: out of memory"),
+        _ => Ok(()),
+    };
+    let _ = written;
 }
 
 /// Says why a run ended with a status other than 0. The journal or the archive is in the file with this path, or the journal

@@ -1,16 +1,19 @@
-//! Runs the words of a command line between the standard streams, on the disk that they ask for.
+//! Runs the words of a command line: between the standard streams, on the disk that they ask for, or over the network.
 use crate::archive::run_with_archive;
 use crate::journal_file::{FileFault, open_journal};
 use crate::messages::{Heard, say, say_memory, say_no_text, say_not_opened};
+use crate::network::{run_bid, run_post};
 use adx_commands::{
     DISK_FAULT, Kept, NO_COMMAND, OUT_OF_MEMORY, adx, adx_in_memory, kept_by_words,
 };
 use adx_io::{FileDisk, StdSink, StdSource};
 use adx_units::Text;
+use command_words::{Paths, paths_of};
 use day_archive::{Keeper, MemoryKeeper};
 use noted_streams::Noting;
 use std::fs::File;
 use std::io::ErrorKind;
+use std::sync::Wait;
 
 /// What stands for the name of a journal that has no file.
 const NO_FILE: &str = "the journal in memory";
@@ -62,7 +65,7 @@ fn run_on_file(rt: &HostRuntime, words: &[Text], path: &str, file: File) -> u8 {
 }
 
 /// The status where the file of a journal wasn't opened.
-fn status_of_fault(fault: &FileFault) -> u8 {
+pub(crate) fn status_of_fault(fault: &FileFault) -> u8 {
     match fault {
         FileFault::System(error) if error.kind() == ErrorKind::OutOfMemory => OUT_OF_MEMORY,
         _ => DISK_FAULT,
@@ -80,9 +83,8 @@ fn run_with_journal(rt: &HostRuntime, words: &[Text], path: &str, make: bool) ->
     }
 }
 
-/// Runs the words that stand behind the program's name, and gives the exit status. At every status but 0 a line on
-/// standard error says why.
-pub(crate) fn run(rt: &HostRuntime, words: &[Text]) -> u8 {
+/// Runs the words of a command that talks to none but the standard streams.
+fn run_between(rt: &HostRuntime, words: &[Text]) -> u8 {
     match kept_by_words(rt.alloc(), words) {
         Ok(Kept::InMemory) => {
             let heard = Heard::new();
@@ -93,6 +95,29 @@ pub(crate) fn run(rt: &HostRuntime, words: &[Text]) -> u8 {
         Ok(Kept::Archived(path)) => run_with_archive(rt, words, path.as_str()),
         Ok(Kept::Made(path)) => run_with_journal(rt, words, path.as_str(), true),
         Ok(Kept::Existing(path)) => run_with_journal(rt, words, path.as_str(), false),
+        Err(_) => {
+            say_memory(rt);
+            OUT_OF_MEMORY
+        }
+    }
+}
+
+/// Runs the words whose options have these values.
+fn run_by<W: Wait>(rt: &HostRuntime, waits: &W, words: &[Text], paths: &Paths) -> u8 {
+    if let (Some(roster), Some(journal)) = (&paths.roster, &paths.journal) {
+        return run_post(rt, waits, words, roster.as_str(), journal.as_str());
+    }
+    if let (Some(prices), Some(port)) = (&paths.prices, &paths.port) {
+        return run_bid(rt, waits, words, prices.as_str(), *port);
+    }
+    run_between(rt, words)
+}
+
+/// Runs the words that stand behind the program's name, and gives the exit status. At every status but 0 a line on
+/// standard error says why.
+pub(crate) fn run<W: Wait>(rt: &HostRuntime, waits: &W, words: &[Text]) -> u8 {
+    match paths_of(rt.alloc(), words) {
+        Ok(paths) => run_by(rt, waits, words, &paths),
         Err(_) => {
             say_memory(rt);
             OUT_OF_MEMORY

@@ -15,13 +15,14 @@ use std::test::Fail;
 use std::thread::{Threads, join};
 
 /// A connection in memory.
-type Pair = (MemorySource, MemorySink);
+pub(crate) type Pair = (MemorySource, MemorySink);
 
 /// The price line of the bidder, and what comes behind it in its document.
-const DOCUMENT: &str = "{\"seat\":\"s1\",\"prices\":[{\"cid\":\"c1\",\"price\":2.5}]};{]";
+pub(crate) const DOCUMENT: &str =
+    "{\"seat\":\"s1\",\"prices\":[{\"cid\":\"c1\",\"price\":2.5}]};{]";
 
 /// What a row says of its bytes: `~` stands for CR LF, and `;` for LF alone.
-fn bytes_of(alloc: Global, text: &str) -> Result<Vec<u8>, OutOfMemory> {
+pub(crate) fn bytes_of(alloc: Global, text: &str) -> Result<Vec<u8>, OutOfMemory> {
     let mut bytes = Vec::new(alloc);
     for byte in text.as_bytes() {
         match *byte {
@@ -58,7 +59,7 @@ fn pair_of(alloc: Global, text: &str) -> Result<Pair, OutOfMemory>
 }
 
 /// A new connection for each line.
-fn pairs_of(alloc: Global, lines: &str) -> Result<Vec<Pair>, OutOfMemory>
+pub(crate) fn pairs_of(alloc: Global, lines: &str) -> Result<Vec<Pair>, OutOfMemory>
     ensures { IfOk result (λ pairs. All (λ p. IsNew (pair_told p)) pairs.items) }
 {
     let mut pairs = Vec::new(alloc);
@@ -84,7 +85,11 @@ fn run<R: Wait>(
 }
 
 /// Whether pairs were given back with these replies, a line for each.
-fn have_replies(alloc: Global, pairs: &[Pair], lines: &str) -> Result<bool, OutOfMemory> {
+pub(crate) fn have_replies(
+    alloc: Global,
+    pairs: &[Pair],
+    lines: &str,
+) -> Result<bool, OutOfMemory> {
     let mut left = lines.lines();
     for pair in pairs {
         let Some(line) = left.next() else {
@@ -114,12 +119,12 @@ fn served<R: Wait>(
 }
 
 /// A bill twice, and the books: a ledger for all.
-const BILLS: &str = "GET /n/bill?a=a1&b=0-0&p=2.5 HTTP/1.1~Host: x~~
+pub(crate) const BILLS: &str = "GET /n/bill?a=a1&b=0-0&p=2.5 HTTP/1.1~Host: x~~
 GET /n/bill?a=a1&b=0-0&p=2.5 HTTP/1.1~Host: x~~
 GET /books HTTP/1.1~Host: x~~";
 
 /// What they are replied.
-const BILLED: &str = "HTTP/1.1 204 No Content~~
+pub(crate) const BILLED: &str = "HTTP/1.1 204 No Content~~
 HTTP/1.1 204 No Content~~
 HTTP/1.1 200 OK~Content-Type: application/json~Content-Length: 40~~{\"cid\":\"c1\",\"billed\":2500000,\"count\":1};";
 

@@ -3,3 +3,5 @@
 
 #[cfg(test)]
 mod bids;
+#[cfg(test)]
+mod commanded;

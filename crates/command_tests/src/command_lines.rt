@@ -44,6 +44,10 @@ archive-list => 2 usage: adx COMMAND
 reconcile --journal a --bidder b => 3 {"answer":"roster","why":"cut"}
 reconcile --journal a => 2 usage: adx COMMAND
 reconcile --help => 0 usage: adx reconcile --journal FILE --bidder NAME
+post --roster r --journal j => 2 usage: adx COMMAND
+post --help => 0 usage: adx post --roster FILE --journal FILE
+bid --prices p --port 80 => 2 usage: adx COMMAND
+help bid => 0 usage: adx bid --prices FILE --port P
 gen --asks 250 --seed 7 => 0 {"seat":"s","cid":"c0","budget":10000000,"reserved":1418384,"billed":4378846,"slab":57}
 gen --asks=250 --seed 7 => 0 {"seat":"s","cid":"c0","budget":10000000,"reserved":1418384,"billed":4378846,"slab":57}
 gen => 2 usage: adx COMMAND

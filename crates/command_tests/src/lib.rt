@@ -15,6 +15,8 @@ mod generated;
 #[cfg(test)]
 mod journals;
 #[cfg(test)]
+mod network_words;
+#[cfg(test)]
 mod runs;
 #[cfg(test)]
 mod tables;

@@ -137,6 +137,12 @@ archive-list|--help => help list
 help|archive-list => help list
 reconcile|--help => help reconcile
 help|reconcile => help reconcile
+post|--help => help post
+help|post => help post
+bid|--help => help bid
+help|bid => help bid
+post|--roster|r|--journal|j => none
+bid|--prices|p|--port|80 => none
 gen|--seed|7|--help => help gen
 day|--help|--nothing => help day
 day|--nothing|--help => none
@@ -159,11 +165,13 @@ fn name_of(topic: Topic) -> &'static str {
         Topic::ArchivePut => "put",
         Topic::ArchiveList => "list",
         Topic::Reconcile => "reconcile",
+        Topic::Post => "post",
+        Topic::Bid => "bid",
     }
 }
 
 /// Whether a text is these words with a blank between them.
-fn is_of(text: &str, words: &[&str]) -> bool {
+pub(crate) fn is_of(text: &str, words: &[&str]) -> bool {
     let mut parts = text.split(' ');
     for word in words {
         if parts.next() != Some(*word) {
@@ -245,7 +253,7 @@ fn is_asked(command: &Option<Command>, asked: &str) -> bool {
 }
 
 /// The words that stand between bars.
-fn words_of(alloc: Global, spelled: &str) -> Result<Vec<Text>, OutOfMemory> {
+pub(crate) fn words_of(alloc: Global, spelled: &str) -> Result<Vec<Text>, OutOfMemory> {
     let mut words = Vec::new(alloc);
     for word in spelled.split('|') {
         words.push(Text::of(alloc, word)?)?;
@@ -286,7 +294,9 @@ notices => the following required arguments were not provided: --journal <journa
 archive-put => the following required arguments were not provided: --archive <archive>
 archive-list|--archive|a|--cid|c => the following required arguments were not provided: --seat <seat> --from <from> --to <to>
 gen => the following required arguments were not provided: --seed <seed> --asks <asks>
-gen|--seed|07|--asks|250 => '--seed' is a decimal number below 2^64, and '--asks' one of at most 1000000, both without a sign or a leading zero
+gen|--seed|07|--asks|250 => '--seed' is a decimal number below 2^64, '--asks' one of at most 1000000, and '--port' one of at most 65535, each without a sign or a leading zero
+bid => the following required arguments were not provided: --prices <prices> --port <port>
+post|--roster|r => the following required arguments were not provided: --journal <journal>
 help|days => unrecognized subcommand 'days'
 ";
 

@@ -4,4 +4,5 @@ pub mod Programs
 pub mod ArchiveRows
 pub mod ReconcileRow
 pub mod Rows
+pub mod NetworkRows
 pub mod Builds

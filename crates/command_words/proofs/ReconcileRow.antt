@@ -1,5 +1,5 @@
 -- The row of the command that compares bills.
-use Rattle.std.proofs.Common.{◌≡◌, ◌∙◌, sym, ap, ap₂, refl, ◌&&◌, ◌||◌, Bool, true, false, not, List, ℕ, [], ◌∷◌, map, is_some, true≢false}
+use Rattle.std.proofs.Common.{◌≡◌, ◌∙◌, sym, ap₂, refl, ◌&&◌, ◌||◌, Bool, true, false, not, List, ℕ, [], ◌∷◌, map, is_some, true≢false}
 use Rattle.std.specs.List.{All}
 use Rattle.std.specs.Str.{bytes_eq}
 use Rattle.std.proofs.lemmas.List.Elements.{All-head, All-tail}

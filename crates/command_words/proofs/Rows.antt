@@ -244,7 +244,7 @@ module _ (given : List Given) (words : List (List ℕ)) (spells : Spells closing
 
 -- ---- words in plain spelling
 
-abbrev Takes : List ℕ → List Found → List (List ℕ) → Type 0
+abbrev pub Takes : List ℕ → List Found → List (List ℕ) → Type 0
 Takes word rows words = (fault_of application words ≡ []) × (subcommand_of application words ≡ Some (word, rows))
 
 -- words that are read behind a command's are taken
@@ -258,7 +258,7 @@ takes_words row words rows command name read =
     )
 
 -- a command in plain spelling is taken, with its options
-takes : (row : Row) (given : List Given) (words : List (List ℕ)) → IsBuilt row → Spells row given words → Takes row.word (map row_for given) words
+pub takes : (row : Row) (given : List Given) (words : List (List ℕ)) → IsBuilt row → Spells row given words → Takes row.word (map row_for given) words
 takes row given words built spells =
     let s = shape_by row in
     let read : IsRead s (words_of given) (map row_for given) =
@@ -293,6 +293,8 @@ help_asked Topic.ArchivePut = refl
 help_asked Topic.ArchiveList = refl
 help_asked Topic.Reconcile = refl
 help_asked Topic.Generate = refl
+help_asked Topic.Post = refl
+help_asked Topic.Bid = refl
 
 help_answered : (topic : Topic) → answer (Some ErrorKind.DisplayHelp) (words_before_help topic ++ help_word ∷ []) ≡ Some (Command.Help topic)
 help_answered Topic.Program = refl
@@ -306,6 +308,8 @@ help_answered Topic.ArchivePut = refl
 help_answered Topic.ArchiveList = refl
 help_answered Topic.Reconcile = refl
 help_answered Topic.Generate = refl
+help_answered Topic.Post = refl
+help_answered Topic.Bid = refl
 
 version_asked : fault_of application (version_word ∷ []) ≡ ErrorKind.DisplayVersion ∷ []
 unfolding clap_on_literals
@@ -404,9 +408,11 @@ help_stays Topic.ArchivePut = refl
 help_stays Topic.ArchiveList = refl
 help_stays Topic.Reconcile = refl
 help_stays Topic.Generate = refl
+help_stays Topic.Post = refl
+help_stays Topic.Bid = refl
 
 -- words that begin with another word than `help` stand as `clap` takes them
-stays : (row : Row) (given : List Given) (words : List (List ℕ)) → bytes_eq row.word first_help_word ≡ false → Spells row given words → turned_round words ≡ words
+pub stays : (row : Row) (given : List Given) (words : List (List ℕ)) → bytes_eq row.word first_help_word ≡ false → Spells row given words → turned_round words ≡ words
 stays row given words other spells = ap turned_round spells.are ∙ ap (λ b. turned_by b row.word (words_of given)) other ∙ sym spells.are
 
 begun_by : (word : List ℕ) (rest words : List (List ℕ)) → bytes_eq word first_help_word ≡ false → words ≡ word ∷ rest → turned_round words ≡ words

@@ -2,3 +2,6 @@ pub mod Spelling
 pub mod Meanings
 pub mod Taken
 pub mod Helps
+pub mod Network
+pub mod NetworkTaken
+pub mod Paths

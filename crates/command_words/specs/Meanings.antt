@@ -19,6 +19,15 @@ asks_name = codes "asks"
 abbrev pub bidder_name : List ℕ
 bidder_name = codes "bidder"
 
+abbrev pub roster_name : List ℕ
+roster_name = codes "roster"
+
+abbrev pub prices_name : List ℕ
+prices_name = codes "prices"
+
+abbrev pub port_name : List ℕ
+port_name = codes "port"
+
 -- the name of a flag
 abbrev pub ratio_name : List ℕ
 ratio_name = codes "ratio"
@@ -78,9 +87,19 @@ archive_list = record { word = codes "archive-list"; needed = archive_name ∷ s
 abbrev pub reconcile : Row
 reconcile = record { word = codes "reconcile"; needed = journal_name ∷ bidder_name ∷ []; optional = []; flags = [] }
 
+-- post --roster FILE --journal FILE
+abbrev pub posting : Row
+posting = record { word = codes "post"; needed = roster_name ∷ journal_name ∷ []; optional = []; flags = [] }
+
+-- bid --prices FILE --port P
+abbrev pub bidding : Row
+bidding = record { word = codes "bid"; needed = prices_name ∷ port_name ∷ []; optional = []; flags = [] }
+
 -- the commands that the program has
 abbrev pub commands : List Row
-commands = day ∷ connection ∷ notices ∷ bidder ∷ generator ∷ closing ∷ check ∷ archive_put ∷ archive_list ∷ reconcile ∷ []
+commands =
+    day ∷ connection ∷ notices ∷ bidder ∷ generator ∷ closing ∷ check ∷ archive_put ∷ archive_list ∷ reconcile
+    ∷ posting ∷ bidding ∷ []
 
 -- the number that an option's value tells: decimal, without a sign or a leading zero, and at most so much
 abbrev pub number_of : ℕ → Option (List ℕ) → Option ℕ
@@ -129,6 +148,8 @@ words_before_help Topic.ArchivePut = archive_put.word ∷ []
 words_before_help Topic.ArchiveList = archive_list.word ∷ []
 words_before_help Topic.Reconcile = reconcile.word ∷ []
 words_before_help Topic.Generate = generator.word ∷ []
+words_before_help Topic.Post = posting.word ∷ []
+words_before_help Topic.Bid = bidding.word ∷ []
 
 -- the words ask for this in plain spelling
 abbrev pub IsPlain : Command → List (List ℕ) → Type 0

@@ -12,7 +12,7 @@ use Rattle.clap.specs.Walk.{Row as Found}
 use Rattle.clap.specs.declared.builder.action.ArgAction.TheVariants.{SetTrue}
 use Rattle.clap.specs.declared.error.kind.ErrorKind.{ErrorKind}
 use Rattle.command_words.specs.Spelling.{Row}
-use Rattle.command_words.specs.Meanings.{archive_list, archive_name, archive_put, asks_name, bidder, bidder_name, check, cid_name, closing, commands, connection, day, first_help_word, from_name, generator, help_word, journal_name, notices, number_of, ratio_name, reconcile, seat_name, seed_name, to_name}
+use Rattle.command_words.specs.Meanings.{archive_list, archive_name, archive_put, asks_name, bidder, bidder_name, bidding, check, cid_name, closing, commands, connection, day, first_help_word, from_name, generator, help_word, journal_name, notices, number_of, posting, ratio_name, reconcile, seat_name, seed_name, to_name}
 use Rattle.command_words.specs.declared.command.Command.{Command}
 use Rattle.command_words.specs.declared.command.Topic.{Topic}
 use Rattle.command_words.specs.declared.command.TheConstants.{MOST_ASKS}
@@ -78,6 +78,10 @@ list_archive archive seat cid first last =
     option_and_then (λ f.
     option_map (λ l. Command.ArchiveList a s c f l) last) first) cid) seat) archive
 
+-- the generated day that the options ask for
+abbrev pub generated_by : List Found → Option Command
+generated_by found = generate (number_of (2 ^ 64 - 1) (first_of seed_name found)) (number_of MOST_ASKS (first_of asks_name found))
+
 -- the days that these rows ask for
 abbrev pub days_asked : List Found → Option Command
 days_asked found =
@@ -90,7 +94,7 @@ command_by word found =
     else if bytes_eq word connection.word then Some (Command.Connection (first_of journal_name found))
     else if bytes_eq word notices.word then print_notices (first_of journal_name found)
     else if bytes_eq word bidder.word then Some Command.Bidder
-    else if bytes_eq word generator.word then generate (number_of (2 ^ 64 - 1) (first_of seed_name found)) (number_of MOST_ASKS (first_of asks_name found))
+    else if bytes_eq word generator.word then generated_by found
     else if bytes_eq word closing.word then close_by (first_of journal_name found) (is_set ratio_name found)
     else if bytes_eq word check.word then Some Command.Check
     else if bytes_eq word archive_put.word then put_archive (first_of archive_name found)
@@ -114,6 +118,8 @@ topic_by word =
     else if bytes_eq word archive_put.word then Topic.ArchivePut
     else if bytes_eq word archive_list.word then Topic.ArchiveList
     else if bytes_eq word reconcile.word then Topic.Reconcile
+    else if bytes_eq word posting.word then Topic.Post
+    else if bytes_eq word bidding.word then Topic.Bid
     else Topic.Program
 
 abbrev pub topic_of : List (List ℕ) → Topic

@@ -3,7 +3,7 @@ ghost use Rattle.std.specs.Prelude.{◌≡◌, ◌∷◌, [], IfOk, false, true}
 ghost use Rattle.clap.specs.Simple.{app_of};
 ghost use Rattle.clap.specs.Walk.{rule_of};
 ghost use Rattle.clap.specs.declared.builder.command.Command.TheViews.{out-Command as fields_of};
-ghost use Rattle.command_words.specs.Meanings.{archive_list as archive_list_row, archive_put as archive_put_row, bidder as bidder_row, check as check_row, closing as closing_row, connection as connection_row, day as day_row, generator as generator_row, notices as notices_row, reconcile as reconcile_row};
+ghost use Rattle.command_words.specs.Meanings.{archive_list as archive_list_row, archive_put as archive_put_row, bidder as bidder_row, bidding as bidding_row, check as check_row, closing as closing_row, connection as connection_row, day as day_row, generator as generator_row, notices as notices_row, posting as posting_row, reconcile as reconcile_row};
 ghost use Rattle.command_words.specs.Taken.{application as program, flag_rule, listed_of, no_commands, option_rule, program_of, subcommand_for};
 
 use clap::{Arg, ArgAction, Command};
@@ -115,6 +115,22 @@ fn reconcile<'a>(alloc: Global) -> Result<Command<'a>, AllocError>
     command.arg(needed(alloc, "bidder"))
 }
 
+/// The command `post`.
+fn posting<'a>(alloc: Global) -> Result<Command<'a>, AllocError>
+    ensures { IfOk result (λ c. (app_of c ≡ subcommand_for posting_row) × ((fields_of c).has_globals ≡ false)) }
+{
+    let command = Command::new(alloc, "post").arg(needed(alloc, "roster"))?;
+    command.arg(needed(alloc, "journal"))
+}
+
+/// The command `bid`.
+fn bidding<'a>(alloc: Global) -> Result<Command<'a>, AllocError>
+    ensures { IfOk result (λ c. (app_of c ≡ subcommand_for bidding_row) × ((fields_of c).has_globals ≡ false)) }
+{
+    let command = Command::new(alloc, "bid").arg(needed(alloc, "prices"))?;
+    command.arg(needed(alloc, "port"))
+}
+
 /// The program without its commands. It has no `help` command beside `--help`.
 fn bare<'a>(alloc: Global) -> Command<'a>
     ensures { app_of result ≡ no_commands }
@@ -143,18 +159,28 @@ fn with_bidder<'a>(alloc: Global) -> Result<Command<'a>, AllocError>
 
 /// The program with these, and the commands that generate a day, close one and check a closed one.
 fn with_check<'a>(alloc: Global) -> Result<Command<'a>, AllocError>
-    ensures { IfOk result (λ c. app_of c ≡ program_of (day_row ∷ connection_row ∷ notices_row ∷ bidder_row ∷ generator_row ∷ closing_row ∷ check_row ∷ [])) }
+    ensures { IfOk result (λ c. app_of c
+        ≡ program_of (day_row ∷ connection_row ∷ notices_row ∷ bidder_row ∷ generator_row ∷ closing_row ∷ check_row ∷ [])) }
 {
     let command = with_bidder(alloc)?.subcommand(generator(alloc)?)?;
     let command = command.subcommand(closing(alloc)?)?;
     command.subcommand(check(alloc))
 }
 
-/// The program with its commands.
-pub(crate) fn application<'a>(alloc: Global) -> Result<Command<'a>, AllocError>
-    ensures { IfOk result (λ c. app_of c ≡ program) }
+/// The program with these, and the commands on an archive and on the bills of a day.
+fn with_archive<'a>(alloc: Global) -> Result<Command<'a>, AllocError>
+    ensures { IfOk result (λ c. app_of c ≡ program_of (day_row ∷ connection_row ∷ notices_row ∷ bidder_row ∷ generator_row
+        ∷ closing_row ∷ check_row ∷ archive_put_row ∷ archive_list_row ∷ reconcile_row ∷ [])) }
 {
     let command = with_check(alloc)?.subcommand(archive_put(alloc)?)?;
     let command = command.subcommand(archive_list(alloc)?)?;
     command.subcommand(reconcile(alloc)?)
+}
+
+/// The program with its commands.
+pub(crate) fn application<'a>(alloc: Global) -> Result<Command<'a>, AllocError>
+    ensures { IfOk result (λ c. app_of c ≡ program) }
+{
+    let command = with_archive(alloc)?.subcommand(posting(alloc)?)?;
+    command.subcommand(bidding(alloc)?)
 }

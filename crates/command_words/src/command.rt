@@ -81,4 +81,8 @@ pub enum Topic {
     Reconcile,
     /// The command `gen`.
     Generate,
+    /// The command `post`.
+    Post,
+    /// The command `bid`.
+    Bid,
 }

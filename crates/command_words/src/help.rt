@@ -20,6 +20,8 @@ usage: adx day [--journal FILE]
        adx archive-put --archive FILE
        adx archive-list --archive FILE --seat S --cid C --from DAY --to DAY
        adx reconcile --journal FILE --bidder NAME
+       adx post --roster FILE --journal FILE
+       adx bid --prices FILE --port P
        adx COMMAND --help
        adx help COMMAND
        adx --version
@@ -27,13 +29,14 @@ usage: adx day [--journal FILE]
 status:  0  done: the input was read to its end
          2  the words aren't a command
          3  the first line, or the document, isn't of its form, or the input is too long
-         4  standard input can't be read
+         4  standard input, the file of a roster or of prices can't be read, or a port can't be had
          5  standard output can't be written
          6  the journal can't be read or written, or another process has it open
          7  the journal isn't one of this roster's day
          8  the certificate isn't accepted
          9  the archive can't be read or written, or another process has it open
         10  the day is kept already, or a day isn't a date, or the first day is after the last
+        11  a notice wasn't taken by its host
         12  out of memory
 At every status but 0 a line on standard error says why.
 
@@ -192,6 +195,39 @@ ledger's, or the input is too long, 4 standard input can't be read, 5 standard o
 read, or another process has it open, 7 the journal isn't one of this roster's day, 12 out of memory
 ";
 
+/// The help on the command `post`.
+pub const POST_HELP: &str = "usage: adx post --roster FILE --journal FILE
+
+in:  the roster of the journal's day, the first line of its FILE; everything after the line is ignored
+out: nothing on standard output; each notice that the day owes its bidders is sent once to the host of its URL, in order, over
+a connection of its own, and nothing is kept of it: a second run sends them all again
+--journal FILE: the journal of the day; FILE has to exist, and nothing is added to its history
+
+status: 0 each notice that can be sent was answered by 200 to 299, 3 the first line isn't a roster, 4 the roster's file can't
+be read, 6 the journal can't be read or written, or another process has it open, 7 the journal isn't one of this roster's day,
+11 a host wasn't reached, or answered by another status, 12 out of memory
+
+example:
+  ./adx post --roster a.roster --journal a.journal
+";
+
+/// The help on the command `bid`.
+pub const BID_HELP: &str = "usage: adx bid --prices FILE --port P
+
+in:  a price line, the first line of FILE; everything after the line is ignored
+out: nothing on standard output; connections to the port P of this machine's own address 127.0.0.1 are served one after
+another, on one ledger: bids, counted notices, books and ledger
+--port P: a number of at most 65535; 0 takes a free port, which standard error names
+
+It ends by a signal, and its ledger with it: ask for /ledger before.
+
+status: 3 the first line isn't a price line, 4 the file or the port can't be had, or no connection can be taken, 12 out of
+memory
+
+example:
+  ./adx bid --prices examples/bidder.prices --port 28081
+";
+
 /// The help on a topic: what goes in and out, the exit statuses, and an example.
 pub fn help_of(topic: Topic) -> &'static str
     ensures { result.now ≡ help_text topic }
@@ -208,5 +244,7 @@ pub fn help_of(topic: Topic) -> &'static str
         Topic::ArchiveList => ARCHIVE_LIST_HELP,
         Topic::Reconcile => RECONCILE_HELP,
         Topic::Generate => GENERATOR_HELP,
+        Topic::Post => POST_HELP,
+        Topic::Bid => BID_HELP,
     }
 }

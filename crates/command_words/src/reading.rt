@@ -1,13 +1,12 @@
 //! What words ask for.
-ghost use Rattle.std.specs.Prelude.{◌≡◌, ◌≢◌, ◌≤◌, ◌-◌, ◌^◌, IfOk, IfSome, Some, option_map};
+ghost use Rattle.std.specs.Prelude.{◌≡◌, ◌≢◌, ◌≤◌, IfOk, IfSome, Some, option_map};
 ghost use Rattle.clap.specs.Matches.{found_of};
 ghost use Rattle.clap.specs.Simple.{subcommand_rows_of};
 ghost use Rattle.clap.specs.Walk.{first_of, rows_of, texts, texts as texts_in};
 ghost use Rattle.clap.specs.declared.error.kind.ErrorKind.TheVariants.{OutOfMemory as no_memory};
-ghost use Rattle.command_words.specs.Meanings.{HasFewAsks, IsPlain, asks_name, bidder_name, journal_name, number_of, seed_name};
-ghost use Rattle.command_words.specs.Taken.{IsReadingOf, answer_by, close_by, command_by, command_found, days_asked, generate, is_set as is_set_in, list_archive, print_notices, put_archive, reconcile_with, topic_of as topic_in, topic_by, turned_round};
+ghost use Rattle.command_words.specs.Meanings.{HasFewAsks, IsPlain, bidder_name, journal_name, number_of};
+ghost use Rattle.command_words.specs.Taken.{IsReadingOf, answer_by, close_by, command_by, command_found, days_asked, generated_by, is_set as is_set_in, list_archive, print_notices, put_archive, reconcile_with, topic_of as topic_in, topic_by, turned_round};
 ghost use Rattle.command_words.specs.declared.command.Command.{Command as Meaning};
-ghost use Rattle.command_words.specs.declared.command.TheConstants.{MOST_ASKS as most_asks};
 
 use crate::application::application;
 use crate::command::{Command, MOST_ASKS, Topic};
@@ -56,6 +55,8 @@ fn topic_named(word: &str) -> Topic
         "archive-put" => Topic::ArchivePut,
         "archive-list" => Topic::ArchiveList,
         "reconcile" => Topic::Reconcile,
+        "post" => Topic::Post,
+        "bid" => Topic::Bid,
         _ => Topic::Program,
     }
 }
@@ -113,7 +114,7 @@ fn number_in(text: Option<&str>, most: u64) -> Option<u64>
 }
 
 /// The text that was found for an option, as one of its own.
-fn text_found(
+pub(crate) fn text_found(
     alloc: Global,
     found: &ArgMatches<'_>,
     name: &str,
@@ -124,7 +125,7 @@ fn text_found(
 }
 
 /// The number that was found for an option, where it is decimal and at most so much.
-fn number_found(found: &ArgMatches<'_>, name: &str, most: u64) -> Option<u64>
+pub(crate) fn number_found(found: &ArgMatches<'_>, name: &str, most: u64) -> Option<u64>
     ensures value { result ≡ number_of most (first_of name.now (rows_of (found_of found.now))) }
     ensures small { IfSome result (λ n. n ≤ most) }
 {
@@ -133,7 +134,7 @@ fn number_found(found: &ArgMatches<'_>, name: &str, most: u64) -> Option<u64>
 
 /// The generated day that the options ask for.
 fn generated(found: &ArgMatches<'_>) -> Option<Command>
-    ensures read { result ≡ generate (number_of (2 ^ 64 - 1) (first_of seed_name (rows_of (found_of found.now)))) (number_of most_asks (first_of asks_name (rows_of (found_of found.now)))) }
+    ensures read { result ≡ generated_by (rows_of (found_of found.now)) }
     ensures few { HasFewAsks result }
 {
     let seed = number_found(found, "seed", u64::MAX)?;

@@ -21,7 +21,7 @@ fn planned(alloc: Global, letter: char) -> Result<Planned, OutOfMemory> {
 }
 
 /// A link with a start for each letter; each further start answers that there is no content.
-fn link_of(alloc: Global, letters: &str) -> Result<MemoryLink, OutOfMemory> {
+pub(crate) fn link_of(alloc: Global, letters: &str) -> Result<MemoryLink, OutOfMemory> {
     let mut plan = Vec::new(alloc);
     for letter in letters.chars() {
         plan.push(planned(alloc, letter)?)?;
@@ -30,7 +30,7 @@ fn link_of(alloc: Global, letters: &str) -> Result<MemoryLink, OutOfMemory> {
 }
 
 /// How many of the first eight starts were asked something.
-fn asked(link: &MemoryLink) -> usize {
+pub(crate) fn asked(link: &MemoryLink) -> usize {
     (0..8)
         .filter(|start| link.asked(*start).is_some_and(|bytes| !bytes.is_empty()))
         .count()

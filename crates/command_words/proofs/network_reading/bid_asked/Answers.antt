@@ -1,0 +1,7 @@
+-- The bidder that the texts ask for.
+use Rattle.std.proofs.Common.{◌∙◌, ap₂}
+use Rattle.command_words.specs.NetworkTaken.{bid_with}
+use Rattle.command_words.proofs.network_reading.bid_asked.Goals as goal
+
+pub returns : goal.returns
+returns c = c.bidding_at.ensures ∙ ap₂ bid_with c.in_ok-prices.ensures c.port_found.ensures

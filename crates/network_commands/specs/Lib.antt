@@ -1,0 +1,4 @@
+pub mod Served
+pub mod Documents
+pub mod Commands
+pub mod Causes

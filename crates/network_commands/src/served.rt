@@ -1,0 +1,14 @@
+//! What a command gives back.
+
+/// What a command that talks over the network gives back: the exit status, and the objects that it was given.
+#[derive(Drop)]
+pub struct Served<A, D, L> {
+    /// The exit status.
+    pub status: u8,
+    /// The acceptor of connections.
+    pub acceptor: Option<A>,
+    /// The disk of the journal.
+    pub disk: Option<D>,
+    /// The link that notices are sent over.
+    pub post: Option<L>,
+}
