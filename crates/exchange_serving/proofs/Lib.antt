@@ -1,0 +1,6 @@
+mod Meters
+mod Rounds
+mod Workers
+mod Finished
+mod Days
+mod Begun

@@ -1,0 +1,241 @@
+-- What a round of a worker gives, and what is so of the pair that was served.
+use Rattle.std.proofs.Common.{◌≡◌, inl, inr, ℕ, ◌≤◌, List, [], ◌∷◌, ◌++◌, length, take, Bool, true, false, not, ◌||◌, Option, Some, None, IfSome, option_map, refl, sym, ap, ◌∙◌, subst, arith, append_assoc, append-nil, Ok, Err}
+use Rattle.std.specs.Prelude.{Result, unwrap_or}
+use Rattle.std.specs.List.{AllZip}
+use Rattle.std.specs.Io.KnownBytes.{append_known}
+use Rattle.std.proofs.lemmas.List.Elements.{All-nil}
+use mathlib.Core.List.{IsPrefix}
+use Rattle.adx_acceptors.specs.Pairs.{IsNew, PairTold}
+use Rattle.adx_desk.specs.Histories.{DeskTerms}
+use Rattle.adx_desk.specs.Rosters.{desk_terms}
+use Rattle.adx_desk.specs.Shared.{terms_in}
+use Rattle.adx_desk.specs.declared.shared.OpenedWith.{OpenedWith}
+use Rattle.adx_desk.specs.declared.turn.Turn.{Turn}
+use Rattle.adx_io.specs.Streams.{Moves, Tape, Took}
+use Rattle.adx_io.specs.declared.failed.Failed.{Failed}
+use Rattle.adx_links.specs.declared.link.Link as links
+use Rattle.day_meters.specs.DayMeters.{steps_of}
+use Rattle.day_rules.specs.DayState.{IsDay}
+use Rattle.day_rules.specs.declared.entry.Entry.{Entry}
+use Rattle.deal_floor.specs.declared.roster.Roster.{Roster}
+use Rattle.desk_board.proofs.Meeting.{prefix_on}
+use Rattle.desk_calls.specs.Steps.{AreSteps, Step, calls_of, meters_read, shared}
+use Rattle.desk_calls.proofs.Chains.{from_earlier, shared_on, steps_join}
+use Rattle.exchange_floor.specs.Floors.{AreLanes}
+use Rattle.exchange_http.specs.Serving.{EndsSo, Talked}
+use Rattle.exchange_messages.specs.Courses.{Course, begun}
+use Rattle.fan_out.specs.declared.lane.Lane.{Lane}
+use Rattle.http_connection.specs.Messages.{Request}
+use Rattle.http_connection.specs.declared.conn.ConnEnd.{ConnEnd}
+use Rattle.http_grammar.specs.Requests.{is_kept}
+use Rattle.http_service.specs.Connections.{HasCauses}
+use Rattle.lobby.specs.Serving.{ServedPair}
+use Rattle.meter_steps.specs.declared.step.MeterStep.{MeterStep}
+use Rattle.pass_calls.specs.Passes.{IsNotedAs}
+use Rattle.shared_board.specs.Boards.{AreStepsBetween}
+use Rattle.shared_desk.specs.Callers.{DeskPass, IsRightPass}
+use Rattle.shared_desk.proofs.Steps.{as_many}
+use Rattle.shared_serving.specs.Sharing.{ServesShared}
+use Rattle.turnstile.specs.Passes.{IsSamePass}
+use Rattle.turnstile.specs.declared.noted.Noted.{Noted}
+use Rattle.exchange_serving.specs.Served.{AreMetersIn, AreServedOver, Connection, IsServed, as_new, talk_of, untaken}
+use Rattle.exchange_serving.specs.Rounds.{AreOwn, IsRound, IsWhole, bytes_of, is_out_of_memory}
+use Rattle.exchange_serving.proofs.Meters.{day_front, meters_longer, meters_read_in, prefix_short}
+
+-- a longer history behind some steps
+pub steps_longer : (terms : DeskTerms) (seen now more : List Entry) (steps : List Step) → AreSteps shared terms seen steps now → IsPrefix now more → AreSteps shared terms seen steps more
+steps_longer terms seen now more steps are p = subst (λ (l : List Step). AreSteps shared terms seen l more) (append-nil steps) (steps_join shared shared_on terms seen now more steps [] are p)
+
+same_again : (p q s : DeskPass) → IsSamePass p q → IsSamePass q s → IsSamePass p s
+same_again p q s a b = (b.0 ∙ a.0, b.1 ∙ a.1, b.2 ∙ a.2, b.3 ∙ a.3, b.4 ∙ a.4)
+
+-- a call of the source moves bytes from those left to those taken
+pub whole_moved : (t old new : Option Tape) (out : List ℕ) (result : Result ℕ Failed) → IsWhole t old → Moves old new out result → IsWhole t new
+whole_moved t None new out result whole moves = ap bytes_of moves ∙ whole
+whole_moved t (Some b) None out result whole moves = absurd moves
+whole_moved t (Some b) (Some c) out (Ok n) whole moves =
+    ap (λ (l : List ℕ). Some l) (ap (λ (l : List ℕ). l ++ c.left) moves.taken ∙ (append_assoc b.taken (take n out) c.left ∙ ap (λ (l : List ℕ). b.taken ++ l) (sym moves.left))) ∙ whole
+whole_moved t (Some b) (Some c) out (Err e) whole moves = ap (λ (x : Tape). bytes_of (Some x)) moves ∙ whole
+
+-- a sink that took nothing
+known_none : (held : Option (List ℕ)) → append_known held [] ≡ held
+known_none None = refl
+known_none (Some h) = ap (λ (bytes : List ℕ). Some bytes) (append-nil h)
+
+-- by the tests of a round
+shown_is : (shown short : Bool) → (not shown || short) ≡ false → shown ≡ true
+shown_is true short e = refl
+shown_is false short e = absurd (cc e)
+
+short_is : (shown short : Bool) → short ≡ true → (not shown || short) ≡ true
+short_is true short e = e
+short_is false short e = refl
+
+pub then_is : (shown short : Bool) → shown ≡ false → (not shown || short) ≡ not shown
+then_is true short e = absurd (cc e)
+then_is false short e = refl
+
+pub else_is : (shown short : Bool) → shown ≡ true → (not shown || short) ≡ short
+else_is true short e = refl
+else_is false short e = absurd (cc e)
+
+no_causes : (read write : ℕ) → HasCauses read read write write ConnEnd.OutOfMemory
+no_causes read write = record {
+  read_later = omega arith;
+  write_later = omega arith;
+  read_fault = λ e. absurd (cc e);
+  write_fault = λ e. absurd (cc e);
+  read_same = λ e. refl;
+  write_same = λ e. refl;
+}
+
+module _ {L : Type 0} (l : links.Ghosts L) (IsMoment : ℕ → Type 0) (r : Roster) where
+  -- memory was refused before any message came
+  never_begun : (lanes : List (Lane L)) (t : Talked) → EndsSo l IsMoment r t t lanes (begun lanes) ConnEnd.OutOfMemory
+  never_begun lanes t = (
+    [],
+    begun lanes,
+    record { out = []; replies = (refl, refl); took = sym (known_none t.held) },
+    record { kept = All-nil (λ (m : Request). is_kept m.head ≡ true); few = omega arith },
+    inl (refl, refl, refl),
+  )
+
+  pub unserved : (p q : DeskPass) (told : PairTold) (lanes : List (Lane L)) → IsSamePass p q → q.turns ≡ p.turns → IsPrefix p.seen q.seen → IsRound l IsMoment r p q told told lanes lanes true
+  unserved p q told lanes same turns later = record {
+    course = begun lanes;
+    end = ConnEnd.OutOfMemory;
+    lanes_are = refl;
+    ends = never_begun lanes (talk_of told);
+    whole = refl;
+    causes = no_causes told.read_faults told.write_faults;
+    same = same;
+    noted = [];
+    turns = turns ∙ sym (append-nil p.turns);
+    are = tt;
+    along = later;
+    meters = λ e. absurd (cc e);
+    wanting = λ e. refl;
+  }
+
+  -- a connection between two looks at the board
+  pub served_between : (opened : OpenedWith) (p p1 p2 q : DeskPass) (before now : PairTold) (lanes lanes_now : List (Lane L)) (b1 b2 b3 : List MeterStep) (end : ConnEnd) (shown : Bool) →
+      terms_in opened ≡ desk_terms r → IsRightPass opened q →
+      IsSamePass p p1 → p1.turns ≡ p.turns → AreStepsBetween p.seen p1.seen b1 →
+      ServesShared l IsMoment r (talk_of before) (talk_of now) lanes lanes_now p1 p2 b1 b2 end → IsWhole before.tape now.tape →
+      HasCauses before.read_faults now.read_faults before.write_faults now.write_faults end →
+      IsSamePass p2 q → q.turns ≡ p2.turns → IsPrefix p2.seen q.seen → IsPrefix b2 b3 → (shown ≡ true → AreStepsBetween p2.seen q.seen b3) →
+      IsRound l IsMoment r p q before now lanes lanes_now (not shown || is_out_of_memory end)
+  served_between opened p p1 p2 q before now lanes lanes_now b1 b2 b3 end shown terms right same1 turns1 first serves whole causes same2 turns2 later read last =
+      let g = serves.gains in
+      let start : IsPrefix p.seen p1.seen = prefix_on p.seen first.history p1.seen first.begins first.front in
+      let day : IsDay (desk_terms r).day q.seen = subst (λ (t : DeskTerms). IsDay t.day q.seen) terms right.legal in
+      record {
+        course = serves.course;
+        end = end;
+        lanes_are = sym serves.lanes_are;
+        ends = serves.ends;
+        whole = whole;
+        causes = causes;
+        same = same_again p p2 q (same_again p p1 p2 same1 g.same) same2;
+        noted = g.noted;
+        turns = turns2 ∙ (g.turns ∙ ap (λ (ts : List (Noted Turn)). ts ++ g.noted) turns1);
+        are = g.are;
+        along = steps_longer (desk_terms r) p.seen p2.seen q.seen serves.course.steps (from_earlier shared shared_on (desk_terms r) p.seen p1.seen p2.seen serves.course.steps start g.along) later;
+        meters = λ e.
+            let s = last (shown_is shown (is_out_of_memory end) e) in
+            let b2_is : IsPrefix b2 (steps_of s.history) = subst (IsPrefix b2) s.steps_are read in
+            let low : length p.seen ≤ length b1 = omega (arith, prefix_short p.seen first.history first.begins, as_many first.history, ap (λ (x : List MeterStep). length x) first.steps_are) in
+            meters_longer s.history q.seen (meters_read serves.course.steps) (length p.seen) s.front
+            (meters_read_in (desk_terms r).day s.history (day_front (desk_terms r).day s.history q.seen s.front day) b1 b2 (meters_read serves.course.steps) (length p.seen) low b2_is serves.read);
+        wanting = λ e. short_is shown (is_out_of_memory end) (ap is_out_of_memory e);
+      }
+
+  -- what the sink took
+  took_some : (before now : Talked) (lanes : List (Lane L)) (course : Course L) (end : ConnEnd) → EndsSo l IsMoment r before now lanes course end → (bytes : List ℕ) × Took before.held now.held bytes
+  took_some before now lanes course ConnEnd.Closed e = (e.1.out, e.1.took)
+  took_some before now lanes course ConnEnd.Cut e = (e.1.out, e.1.took)
+  took_some before now lanes course (ConnEnd.Refused fault) e = (_, e.took)
+  took_some before now lanes course ConnEnd.ReadFault e = (e.1.out, e.1.took)
+  took_some before now lanes course ConnEnd.WriteFault (inl e) = (_, e.took.3)
+  took_some before now lanes course ConnEnd.WriteFault (inr e) = (_, e.1.took.3)
+  took_some before now lanes course ConnEnd.Spent e = (e.1.out, e.1.took)
+  took_some before now lanes course ConnEnd.OutOfMemory e = (e.2.out, e.2.took)
+
+  -- the pair told so when it came
+  tape_new : (before now : Option Tape) → IfSome before (λ t. t.taken ≡ []) → IsWhole before now → before ≡ option_map untaken now
+  tape_new None None new whole = refl
+  tape_new None (Some n) new whole = absurd (cc whole)
+  tape_new (Some b) None new whole = absurd (cc whole)
+  tape_new (Some b) (Some n) new whole =
+      let all : n.taken ++ n.left ≡ b.taken ++ b.left = ap (λ (o : Option (List ℕ)). unwrap_or o []) whole in
+      let left : b.left ≡ n.taken ++ n.left = ap (λ (x : List ℕ). x ++ b.left) (sym new) ∙ sym all in
+      λ i. Some (record { taken = new i; left = left i })
+
+  held_new : (before now : Option (List ℕ)) (bytes : List ℕ) → IfSome before (λ h. h ≡ []) → now ≡ append_known before bytes → before ≡ option_map (λ h. []) now
+  held_new None now bytes new took = sym (ap (λ (o : Option (List ℕ)). option_map (λ h. []) o) took)
+  held_new (Some b) now bytes new took = ap (λ (h : List ℕ). Some h) new ∙ sym (ap (λ (o : Option (List ℕ)). option_map (λ h. []) o) took)
+
+  -- the pair that was served, over the lanes of its worker
+  pub served_of : (workers : List (List (Lane L))) (opened : List Entry) (p q : DeskPass) (before now : PairTold) (lanes lanes_now : List (Lane L)) (short : Bool) →
+      IsNew before → p.turns ≡ [] → IsPrefix opened p.seen → AreOwn l IsMoment r workers lanes → IsRound l IsMoment r p q before now lanes lanes_now short →
+      IsServed l IsMoment r workers opened q.seen (record { told = now; turns = q.turns; wanting = short })
+  served_of workers opened p q before now lanes lanes_now short new none begins own round =
+      let took = took_some (talk_of before) (talk_of now) lanes round.course round.end round.ends in
+      let was : talk_of before ≡ talk_of (as_new now) = λ i. record { tape = tape_new before.tape now.tape new.untaken round.whole i; held = held_new before.held now.held took.0 new.unput took.1 i } in record {
+        worker = own.worker;
+        came_with = own.came_with;
+        is_worker = own.is_worker;
+        earlier = own.earlier;
+        lanes = lanes;
+        are_left = own.are_left;
+        course = round.course;
+        end = round.end;
+        ends = subst (λ (t : Talked). EndsSo l IsMoment r t (talk_of now) lanes round.course round.end) was round.ends;
+        causes = subst (λ (n : ℕ). HasCauses n now.read_faults 0 now.write_faults round.end) new.unread
+            (subst (λ (n : ℕ). HasCauses before.read_faults now.read_faults n now.write_faults round.end) new.unwritten round.causes);
+        from = p.seen;
+        begins = begins;
+        along = round.along;
+        turns = subst (λ (ts : List (Noted Turn)). AllZip IsNotedAs ts (calls_of round.course.steps)) (sym (round.turns ∙ ap (λ (ts : List (Noted Turn)). ts ++ round.noted) none)) round.are;
+        meters = round.meters;
+        wanting = round.wanting;
+      }
+
+  over_more : (lanes mid now : List (Lane L)) (cs : List (Connection L)) (c : Connection L) → AreServedOver l IsMoment r lanes cs mid → EndsSo l IsMoment r c.before c.now mid c.course c.end → now ≡ c.course.lanes →
+      AreServedOver l IsMoment r lanes (cs ++ c ∷ []) now
+  over_more lanes mid now [] c are ends is = (subst (λ (ls : List (Lane L)). EndsSo l IsMoment r c.before c.now ls c.course c.end) are ends, is)
+  over_more lanes mid now (d ∷ cs) c are ends is = (are.0, over_more d.course.lanes mid now cs c are.1 ends is)
+
+  -- the lanes that a round leaves are still of that worker
+  pub own_on : (workers : List (List (Lane L))) (p q : DeskPass) (before now : PairTold) (lanes lanes_now : List (Lane L)) (short : Bool) → AreLanes r lanes_now →
+      AreOwn l IsMoment r workers lanes → IsRound l IsMoment r p q before now lanes lanes_now short → AreOwn l IsMoment r workers lanes_now
+  own_on workers p q before now lanes lanes_now short are own round =
+      let c : Connection L = record { before = talk_of before; now = talk_of now; course = round.course; end = round.end } in record {
+        are = are;
+        worker = own.worker;
+        came_with = own.came_with;
+        is_worker = own.is_worker;
+        earlier = own.earlier ++ c ∷ [];
+        are_left = over_more own.came_with lanes lanes_now own.earlier c own.are_left round.ends round.lanes_are;
+      }
+
+  -- a pair that was served stays so in a history that goes on
+  pub served_longer : (workers : List (List (Lane L))) (opened history more : List Entry) (s : ServedPair Turn) → IsPrefix history more → IsServed l IsMoment r workers opened history s → IsServed l IsMoment r workers opened more s
+  served_longer workers opened history more s p served = record {
+    worker = served.worker;
+    came_with = served.came_with;
+    is_worker = served.is_worker;
+    earlier = served.earlier;
+    lanes = served.lanes;
+    are_left = served.are_left;
+    course = served.course;
+    end = served.end;
+    ends = served.ends;
+    causes = served.causes;
+    from = served.from;
+    begins = served.begins;
+    along = steps_longer (desk_terms r) served.from history more served.course.steps served.along p;
+    turns = served.turns;
+    meters = λ e. meters_longer history more (meters_read served.course.steps) (length served.from) p (served.meters e);
+    wanting = served.wanting;
+  }

@@ -1,0 +1,15 @@
+use Rattle.std.specs.Prelude.{◌≡◌, All, vec_len}
+use mathlib.Core.List.{IsPrefix}
+use Rattle.exchange_floor.specs.Floors.{AreLanes}
+use Rattle.meter_board.specs.Words.{list_read}
+use Rattle.exchange_serving.specs.Lanes.{lists_of}
+use Rattle.exchange_serving.proofs.worker.workers_of.Given as goal
+
+-- the lists that are left are the first ones
+abbrev pub invariant-lists : goal.invariant-lists
+invariant-lists g l =
+    IsPrefix (lists_of l.lists.items) g.J.DayNames.workers × All (AreLanes l.fn.roster) (lists_of l.lists.items)
+    × All (λ r. list_read r ≡ g.J.DayNames.book) l.readers.items
+
+abbrev pub decreases-lists : goal.decreases-lists
+decreases-lists g l = vec_len l.lists

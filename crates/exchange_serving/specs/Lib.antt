@@ -1,0 +1,5 @@
+pub mod Served
+pub mod Lanes
+pub mod Rounds
+pub mod Finishing
+pub mod Beginning

@@ -1,0 +1,157 @@
+-- What serving the connections of an acceptor on one desk leaves. This project's own.
+use Rattle.std.specs.Prelude.{◌≡◌, ◌≢◌, ◌⊎◌, ℕ, ◌<◌, ◌≤◌, List, [], ◌∷◌, ◌++◌, length, map, take, All, Contains, Bool, true, false, Option, Some, IfSome, option_map, slice_get}
+use Rattle.std.specs.List.{AllZip, flat_map}
+use mathlib.Core.List.{IsPrefix}
+use Rattle.adx_io.specs.Streams.{Rises, Tape}
+use Rattle.adx_io.specs.declared.disk.Disk as disk
+use Rattle.adx_links.specs.declared.link.Link as links
+use Rattle.adx_acceptors.specs.Pairs.{AcceptorTold, PairTold}
+use Rattle.turnstile.specs.declared.noted.Noted.{Noted}
+use Rattle.turnstile.specs.Turns.{AreAllRight, Stand, faults_noted, places_of}
+use Rattle.turnstile.specs.Places.{AreAllOnce}
+use Rattle.lobby.specs.Serving.{ServedPair}
+use Rattle.day_meters.specs.DayMeters.{meters_after}
+use Rattle.day_rules.specs.declared.entry.Entry.{Entry}
+use Rattle.day_rules.specs.Legal.{IsLegal}
+use Rattle.adx_desk.specs.declared.turn.Turn.{Turn}
+use Rattle.adx_desk.specs.Desks.{OnDisk}
+use Rattle.adx_desk.specs.Endings.{IsWithinRise}
+use Rattle.adx_desk.specs.Histories.{DeskTerms, WithOrWithout}
+use Rattle.adx_desk.specs.Rosters.{desk_terms}
+use Rattle.adx_desk.specs.Shared.{IsTurnAt, is_disk_fault}
+use Rattle.shared_desk.specs.Callers.{entry_of}
+use Rattle.desk_calls.specs.Steps.{AreSteps, calls_of, meters_read, shared}
+use Rattle.pass_calls.specs.Passes.{IsNotedAs}
+use Rattle.deal_floor.specs.declared.roster.Roster.{Roster}
+use Rattle.fan_out.specs.declared.lane.Lane.{Lane}
+use Rattle.http_connection.specs.declared.conn.ConnEnd.{ConnEnd}
+use Rattle.http_service.specs.Connections.{HasCauses}
+use Rattle.exchange_messages.specs.Courses.{Course}
+use Rattle.exchange_http.specs.Serving.{EndsSo, Talked}
+use Rattle.meter_steps.specs.declared.meters.Meters.{Meters}
+use Rattle.outbox.specs.declared.post.Post.{Post}
+use Rattle.mail_room.specs.Tending.{AreTended}
+use Rattle.exchange_serving.specs.declared.ending.Ending.{Ending}
+
+-- a tape of which nothing was taken
+abbrev pub untaken : Tape → Tape
+untaken t = record { taken = []; left = t.taken ++ t.left }
+
+-- what a pair told when it came, by what it tells now: nothing was taken, put or failed
+abbrev pub as_new : PairTold → PairTold
+as_new p = record {
+  tape = option_map untaken p.tape;
+  read_faults = 0;
+  held = option_map (λ bytes. []) p.held;
+  write_faults = 0;
+}
+
+-- what its source gave and its sink took
+abbrev pub talk_of : PairTold → Talked
+talk_of p = record { tape = p.tape; held = p.held }
+
+-- each of these meters is that of a front of the history, the first of so many entries or more, and none is of a shorter
+-- front than the one before it
+abbrev pub AreMetersIn : List Entry → ℕ → List Meters → Type 0
+AreMetersIn history least [] = Unit {0}
+AreMetersIn history least (m ∷ ms) =
+    (n : ℕ) × (least ≤ n) × (n ≤ length history) × (m ≡ meters_after (take n history)) × AreMetersIn history n ms
+
+-- a connection: what it brought and took before and now, what its messages made, and how it ended
+pub record Connection (L : Type 0) : Type 0 where
+  pub before : Talked
+  pub now : Talked
+  pub course : Course L
+  pub end : ConnEnd
+
+module _ {L : Type 0} (l : links.Ghosts L) (IsMoment : ℕ → Type 0) (r : Roster) where
+  -- connections were served over lanes, one behind another, each over those that the one before it left
+  abbrev pub AreServedOver : List (Lane L) → List (Connection L) → List (Lane L) → Type 0
+  AreServedOver lanes [] now = now ≡ lanes
+  AreServedOver lanes (c ∷ cs) now =
+      EndsSo l IsMoment r c.before c.now lanes c.course c.end × AreServedOver c.course.lanes cs now
+
+  -- A pair was served on a desk whose history began with `opened` and is `history` now, by one of the workers, each of
+  -- whom came with lanes of its own.
+  pub record IsServed (workers : List (List (Lane L))) (opened history : List Entry) (s : ServedPair Turn) : Type 0 where
+    -- its lanes are those of one worker, as the connections before it left them
+    pub worker : ℕ
+    pub came_with : List (Lane L)
+    pub is_worker : slice_get workers worker ≡ Some came_with
+    pub earlier : List (Connection L)
+    pub lanes : List (Lane L)
+    pub are_left : AreServedOver came_with earlier lanes
+    -- which messages its source brought, what its sink took for them by its steps, and why no more were read
+    pub course : Course L
+    pub end : ConnEnd
+    pub ends : EndsSo l IsMoment r (talk_of (as_new s.told)) (talk_of s.told) lanes course end
+    pub causes : HasCauses 0 s.told.read_faults 0 s.told.write_faults end
+    -- its steps were made on histories that go on, each from the one before
+    pub from : List Entry
+    pub begins : IsPrefix opened from
+    pub along : AreSteps shared (desk_terms r) from course.steps history
+    -- its turns are the calls among them
+    pub turns : AllZip IsNotedAs s.turns (calls_of course.steps)
+    -- the meters that it was told are of fronts of the history, none shorter than what was seen when it began
+    pub meters : s.wanting ≡ false → AreMetersIn history (length from) (meters_read course.steps)
+    -- it is told where memory was wanting for it
+    pub wanting : end ≡ ConnEnd.OutOfMemory → s.wanting ≡ true
+
+-- all turns of these pairs, one pair's behind another's
+abbrev pub turns_in : List (ServedPair Turn) → List (Noted Turn)
+turns_in rows = flat_map (λ (s : ServedPair Turn). s.turns) rows
+
+-- how many of them met a fault of the disk
+abbrev pub faults_in : List (ServedPair Turn) → ℕ
+faults_in rows = faults_noted (λ (t : Turn). is_disk_fault t.ended) (turns_in rows)
+
+-- The pairs that were given back, in their order, and the history that their turns made of the one at the opening.
+pub record AreServed {L : Type 0} (l : links.Ghosts L) (IsMoment : ℕ → Type 0) (r : Roster) (workers : List (List (Lane L)))
+    (opened history : List Entry) (rows : List (ServedPair Turn)) (ending : Ending) : Type 0 where
+  pub each : All (IsServed l IsMoment r workers opened history) rows
+  pub wanting : All (λ (s : ServedPair Turn). s.wanting ≡ true → ending ≡ Ending.OutOfMemory) rows
+  -- each turn is one of the day at the front of the history that is as long as it was at the turn's call; its entry, if it
+  -- has one, stands there
+  pub right : AreAllRight (IsTurnAt (desk_terms r)) history (turns_in rows)
+  pub stand : Stand entry_of history (turns_in rows)
+  -- each entry past the opening is of exactly one of these turns
+  pub own : AreAllOnce (length opened) (length history) (places_of entry_of (turns_in rows))
+
+-- What an acceptor tells, by what it told and the pairs that were given back.
+pub record HasBack (before now : AcceptorTold) (rows : List (ServedPair Turn)) (ending : Ending) : Type 0 where
+  pub back : IfSome now.pairs (λ t. t.back ≡ map (λ (s : ServedPair Turn). s.told) rows)
+  pub all_back : IfSome now.pairs (λ t. length t.out ≡ length t.back)
+  pub later : before.faults ≤ now.faults
+  pub fault : ending ≡ Ending.AcceptorFault → Rises before.faults now.faults
+  pub over : ending ≢ Ending.OutOfMemory → ending ≢ Ending.AcceptorFault → (now.is_over ≡ true) × (now.faults ≡ before.faults)
+
+-- What became of the posts of the history, by how serving ended: all of them were followed and tried, unless memory was
+-- wanting; and some are pending, or none.
+pub record ArePosted {L : Type 0} (l : links.Ghosts L) (history : List Entry) (post post_now : L) (ending : Ending) : Type 0 where
+  pub followed : List Entry
+  pub begins : IsPrefix followed history
+  pub pending : List Post
+  pub tended : AreTended l followed pending post post_now
+  pub all : ending ≢ Ending.OutOfMemory → followed ≡ history
+  pub each_tried : ending ≢ Ending.OutOfMemory → All (Contains tended.tried) pending
+  pub none : ending ≡ Ending.Done → pending ≡ []
+  pub some : ending ≡ Ending.Pending → 0 < length pending
+
+-- What serving connections leaves of an opened desk with its disk, of an acceptor, and of the link that posts go over.
+pub record ServesDay {D L : Type 0} (d : disk.Ghosts D) (l : links.Ghosts L) (IsMoment : ℕ → Type 0) (r : Roster)
+    (workers : List (List (Lane L))) (opened : OnDisk D) (disk_now : D) (acceptor acceptor_now : AcceptorTold)
+    (post post_now : L) (ending : Ending) : Type 0 where
+  pub history : List Entry
+  pub begins : IsPrefix opened.desk.history history
+  pub legal : IsLegal (desk_terms r).day history
+  -- Where the disk told at the opening what it read, a crash now leaves the history, or it and one record in doubt.
+  pub on_disk : opened.since.tells ≡ true
+      → (tail : List Entry) × ((file : List ℕ) → d.may_leave disk_now file → WithOrWithout (desk_terms r) history tail file)
+  pub rows : List (ServedPair Turn)
+  pub served : AreServed l IsMoment r workers opened.desk.history history rows ending
+  pub accepted : HasBack acceptor acceptor_now rows ending
+  -- the turns with a fault of the disk are at most what its count rose by since the opening
+  pub counted : IsWithinRise opened.since.count (faults_in rows) (d.faults disk_now)
+  pub fault : ending ≡ Ending.DiskFault → IsWithinRise opened.since.count 1 (d.faults disk_now)
+  pub passed : (ending ≡ Ending.Done) ⊎ (ending ≡ Ending.Pending) → (faults_in rows ≡ 0) × (d.faults disk_now ≡ opened.since.count)
+  pub posted : ArePosted l history post post_now ending

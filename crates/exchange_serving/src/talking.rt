@@ -1,0 +1,116 @@
+//! A connection over a pair.
+ghost use Rattle.std.specs.Prelude.{◌≡◌};
+ghost use Rattle.adx_desk.specs.Rosters.{desk_terms};
+ghost use Rattle.adx_desk.specs.Shared.{terms_in};
+ghost use Rattle.exchange_floor.specs.Floors.{AreLanes, Gave, IsMomentOf};
+ghost use Rattle.exchange_http.specs.Serving.{talked};
+ghost use Rattle.http_service.specs.Connections.{HasCauses};
+ghost use Rattle.meter_board.specs.Words.{list_read, seen};
+ghost use Rattle.shared_serving.specs.Sharing.{ServesShared};
+ghost use Rattle.turnstile.specs.Passes.{IsOf};
+ghost use Rattle.exchange_serving.specs.Rounds.{IsWhole};
+
+use crate::gathering::Gathers;
+use crate::whole::{TapeNames, Whole};
+use adx_desk::Desk;
+use adx_http::ConnEnd;
+use adx_io::{Disk, Sink, Source};
+use adx_links::Link;
+use deal_floor::Roster;
+use exchange_floor::{Clock, Given, Round};
+use fan_out::Lane;
+use meter_board::MeterReader;
+use shared_desk::SharedDesk;
+use shared_serving::serve_gathering;
+use std::alloc::Global;
+use std::marker::{Brand, PhantomData};
+use std::sync::Wait;
+use turnstile::Pass;
+
+/// Serves a connection over a source that told this.
+fn talk_over<
+    R: Wait,
+    S: Source,
+    K: Sink,
+    D: Disk + Drop,
+    L: Link + Drop,
+    C: Clock,
+    G: Gathers<L>,
+    J: TapeNames,
+>(
+    rt: &R,
+    alloc: Global,
+    roster: &Roster,
+    desk: &SharedDesk<D>,
+    pass: &mut Pass<Desk<D>>,
+    lanes: &mut Vec<Lane<L>>,
+    source: &mut S,
+    sink: &mut K,
+    clock: &C,
+    reader: &mut MeterReader,
+    gather: &G,
+) -> ConnEnd
+    requires tape { J.tape ≡ S.tape source.old }
+    requires of { IsOf pass.old desk.now }
+    requires opened { terms_in desk.now.fixed ≡ desk_terms roster.now }
+    requires lanes { AreLanes roster.now lanes.old.items }
+    requires ready { G.ready gather.now }
+    ensures serves { ServesShared L.Link (IsMomentOf (C.moment clock.entry.now)) roster.entry.now
+        (talked (S.tape source.old) (K.held sink.old)) (talked (S.tape source.new) (K.held sink.new))
+        lanes.old.items lanes.new.items pass.old pass.new (seen reader.old) (seen reader.new) result }
+    ensures whole { IsWhole (S.tape source.old) (S.tape source.new) }
+    ensures causes { HasCauses (S.faults source.old) (S.faults source.new) (K.faults sink.old) (K.faults sink.new) result }
+    ensures lanes { AreLanes roster.entry.now lanes.new.items }
+    ensures reader { list_read reader.new ≡ list_read reader.old }
+{
+    let mut whole: Whole<'_, S, J> = Whole {
+        source,
+        names: PhantomData,
+    };
+    let asks = |round: Round<'_, L>| -> Given<L>
+        requires ready { G.ready gather.now }
+        ensures { Gave L.Link round.entry result }
+    { gather.gather(round) };
+    serve_gathering(
+        rt, alloc, roster, desk, pass, lanes, &mut whole, sink, clock, reader, &asks,
+    )
+}
+
+/// Serves a connection over a pair's ends, by a pass of the desk. The source keeps its bytes.
+pub(crate) fn talk<
+    R: Wait,
+    S: Source,
+    K: Sink,
+    D: Disk + Drop,
+    L: Link + Drop,
+    C: Clock,
+    G: Gathers<L>,
+>(
+    rt: &R,
+    alloc: Global,
+    roster: &Roster,
+    desk: &SharedDesk<D>,
+    pass: &mut Pass<Desk<D>>,
+    lanes: &mut Vec<Lane<L>>,
+    source: &mut S,
+    sink: &mut K,
+    clock: &C,
+    reader: &mut MeterReader,
+    gather: &G,
+) -> ConnEnd
+    requires of { IsOf pass.old desk.now }
+    requires opened { terms_in desk.now.fixed ≡ desk_terms roster.now }
+    requires lanes { AreLanes roster.now lanes.old.items }
+    requires ready { G.ready gather.now }
+    ensures serves { ServesShared L.Link (IsMomentOf (C.moment clock.entry.now)) roster.entry.now
+        (talked (S.tape source.old) (K.held sink.old)) (talked (S.tape source.new) (K.held sink.new))
+        lanes.old.items lanes.new.items pass.old pass.new (seen reader.old) (seen reader.new) result }
+    ensures whole { IsWhole (S.tape source.old) (S.tape source.new) }
+    ensures causes { HasCauses (S.faults source.old) (S.faults source.new) (K.faults sink.old) (K.faults sink.new) result }
+    ensures lanes { AreLanes roster.entry.now lanes.new.items }
+    ensures reader { list_read reader.new ≡ list_read reader.old }
+{
+    talk_over::<R, S, K, D, L, C, G, Brand>(
+        rt, alloc, roster, desk, pass, lanes, source, sink, clock, reader, gather,
+    )
+}
