@@ -25,7 +25,13 @@ length-front at d = length-take-le at (reaching at d) (omega (arith, length-reac
 
 length-written : (at : ℕ) (piece d : List ℕ) → length (written at piece d) ≡ max (length d) (at + length piece)
 length-written at piece d =
-    omega (arith, length-append (take at (reaching at d) ++ piece) (drop (at + length piece) d), length-append (take at (reaching at d)) piece, length-front at d, length-drop (at + length piece) d)
+    omega (
+      arith,
+      length-append (take at (reaching at d) ++ piece) (drop (at + length piece) d),
+      length-append (take at (reaching at d)) piece,
+      length-front at d,
+      length-drop (at + length piece) d,
+    )
 
 -- a list cut within or behind its front
 pub take_over : (n : ℕ) (xs ys : List ℕ) → take n (xs ++ ys) ≡ take n xs ++ take (n - length xs) ys
@@ -43,7 +49,12 @@ torn_written at piece d =
     let more : List ℕ = take (at - length d) (zeros (at - length d)) in
     let long : length (front ++ piece) ≡ at + length piece = omega (arith, length-append front piece, length-front at d) in
     record {
-      before = (more ++ (piece ++ end), append_assoc front piece end ∙ ap (λ (l : List ℕ). l ++ (piece ++ end)) (take_over at d (zeros (at - length d))) ∙ append_assoc (take at d) more (piece ++ end));
+      before = (
+        more ++ (piece ++ end),
+        append_assoc front piece end
+            ∙ ap (λ (l : List ℕ). l ++ (piece ++ end)) (take_over at d (zeros (at - length d)))
+            ∙ append_assoc (take at d) more (piece ++ end),
+      );
       after = drop_at (front ++ piece) end (at + length piece) long;
       no_shorter = omega (arith, length-written at piece d);
       no_longer = omega (arith, length-written at piece d);
@@ -92,7 +103,9 @@ left_sync [] now images c left = left
 left_sync (Change.Write a p b ∷ changes) now images c left = left_sync changes _ _ c left
 left_sync (Change.Sync ∷ changes) now images c left = left_sync changes now _ c left
 
-pub follows_write : (start : List ℕ) (changes : List Change) (at : ℕ) (piece : List ℕ) (done : Bool) → Follows (Torn at (length piece)) (IsImage start changes) (IsImage start (changes ++ Change.Write at piece done ∷ []))
+pub follows_write : (start : List ℕ) (changes : List Change) (at : ℕ) (piece : List ℕ) (done : Bool)
+    → Follows (Torn at (length piece)) (IsImage start changes)
+    (IsImage start (changes ++ Change.Write at piece done ∷ []))
 follows_write start changes at piece done c left = left_write changes start _ at piece done c left
 
 pub synced : (start : List ℕ) (changes : List Change) → AsRead (Some (reading start changes)) (IsImage start (changes ++ Change.Sync ∷ []))
@@ -102,17 +115,27 @@ synced start changes c left = ap Some (sym (left_sync changes start _ c left))
 pub synced_within : (start : List ℕ) (changes : List Change) → Within (IsImage start changes) (IsImage start (changes ++ Change.Sync ∷ []))
 synced_within start changes c left = subst (IsImage start changes) (sym (left_sync changes start _ c left)) (read_left changes start _ refl)
 
-pub elapses_same : (start : List ℕ) (changes : List Change) → Elapses (length changes) (length changes) (LeftSince start changes) (LeftSince start changes) (IsImage start changes)
+pub elapses_same : (start : List ℕ) (changes : List Change)
+    → Elapses (length changes) (length changes) (LeftSince start changes) (LeftSince start changes)
+    (IsImage start changes)
 elapses_same start changes = record { later = omega arith; nothing_else = λ t c le left. inl left; keeps = λ t c le left. left }
 
-pub elapses_more : (start : List ℕ) (changes : List Change) (x : Change) → Elapses (length changes) (length (changes ++ x ∷ [])) (LeftSince start changes) (LeftSince start (changes ++ x ∷ [])) (IsImage start (changes ++ x ∷ []))
+pub elapses_more : (start : List ℕ) (changes : List Change) (x : Change)
+    → Elapses (length changes) (length (changes ++ x ∷ [])) (LeftSince start changes)
+    (LeftSince start (changes ++ x ∷ [])) (IsImage start (changes ++ x ∷ []))
 elapses_more start changes x = record {
   later = omega (arith, length-append changes (x ∷ []));
   nothing_else = λ t c le left. elim (cases left.0) [
     | inl within ↦ inl (left.0, left.1, within, subst (λ (l : List Change). IsImage start l c) (take-append-le left.0 changes (x ∷ []) within) left.3)
     | inr past ↦ inr (subst (λ (l : List Change). IsImage start l c) (take_all left.0 (changes ++ x ∷ []) (omega (arith, past, length-append changes (x ∷ [])))) left.3)
   ];
-  keeps = λ t c le left. (left.0, left.1, omega (arith, left.2, length-append changes (x ∷ [])), subst (λ (l : List Change). IsImage start l c) (sym (take-append-le left.0 changes (x ∷ []) left.2)) left.3);
+  keeps =
+      λ t c le left. (
+        left.0,
+        left.1,
+        omega (arith, left.2, length-append changes (x ∷ [])),
+        subst (λ (l : List Change). IsImage start l c) (sym (take-append-le left.0 changes (x ∷ []) left.2)) left.3,
+      );
 }
   where
     cases : (k : ℕ) → (k ≤ length changes) ⊎ (length changes < k)
@@ -126,12 +149,18 @@ length-shown : (pick : Bool) (piece : List ℕ) (fill : ℕ) → length (if pick
 length-shown true piece fill = refl
 length-shown false piece fill = length-replicate (length piece) fill
 
-torn_shown : (pick : Bool) (at : ℕ) (piece : List ℕ) (fill : ℕ) (d : List ℕ) → Torn at (length piece) d (written at (if pick then piece else replicate (length piece) fill) d)
-torn_shown pick at piece fill d = subst (λ (n : ℕ). Torn at n d (written at (if pick then piece else replicate (length piece) fill) d)) (length-shown pick piece fill) (torn_written at (if pick then piece else replicate (length piece) fill) d)
+torn_shown : (pick : Bool) (at : ℕ) (piece : List ℕ) (fill : ℕ) (d : List ℕ)
+    → Torn at (length piece) d (written at (if pick then piece else replicate (length piece) fill) d)
+torn_shown pick at piece fill d =
+    subst (λ (n : ℕ). Torn at n d (written at (if pick then piece else replicate (length piece) fill) d))
+    (length-shown pick piece fill) (torn_written at (if pick then piece else replicate (length piece) fill) d)
 
-picked_left : (changes : List Change) (picks : List Bool) (fill number : ℕ) (now image : List ℕ) (images : List ℕ → Type 0) → images image → MayLeave now images changes (picked picks fill number now image changes)
+picked_left : (changes : List Change) (picks : List Bool) (fill number : ℕ) (now image : List ℕ)
+    (images : List ℕ → Type 0) → images image → MayLeave now images changes (picked picks fill number now image changes)
 picked_left [] picks fill number now image images here = here
-picked_left (Change.Write at piece done ∷ changes) picks fill number now image images here = picked_left changes picks fill (number + 1) _ _ _ (image, here, torn_shown (get_or picks number false) at piece fill image)
+picked_left (Change.Write at piece done ∷ changes) picks fill number now image images here =
+    picked_left changes picks fill (number + 1) _ _ _
+    (image, here, torn_shown (get_or picks number false) at piece fill image)
 picked_left (Change.Sync ∷ changes) picks fill number now image images here = picked_left changes picks fill 0 now now _ refl
 
 pub picked_is_image : (start : List ℕ) (changes : List Change) (picks : List Bool) (fill : ℕ) → IsImage start changes (picked picks fill 0 start start changes)

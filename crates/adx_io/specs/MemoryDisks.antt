@@ -70,7 +70,8 @@ habits_after (Err failed) h = record h { calls = counted h.calls; faults = count
 abbrev pub picked : List Bool → ℕ → ℕ → List ℕ → List ℕ → List Change → List ℕ
 picked picks fill number now image [] = image
 picked picks fill number now image (Change.Write at piece done ∷ changes) =
-    picked picks fill (number + 1) (if done then written at piece now else now) (written at (if get_or picks number false then piece else replicate (length piece) fill) image) changes
+    picked picks fill (number + 1) (if done then written at piece now else now)
+    (written at (if get_or picks number false then piece else replicate (length piece) fill) image) changes
 picked picks fill number now image (Change.Sync ∷ changes) = picked picks fill 0 now now changes
 
 -- the picked image of a disk in memory

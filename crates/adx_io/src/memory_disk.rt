@@ -227,7 +227,8 @@ impl Developing {
     ) -> Result<(), OutOfMemory>
         requires { self.old.number + 1 < 2 ^ 64 }
         ensures number { self.new.number ≤ self.old.number + 1 }
-        ensures same { OnOk result ((changes : List Change) → picked pick.now fill self.old.number self.old.read.items self.old.image.items (change.now ∷ changes)
+        ensures same { OnOk result ((changes : List Change)
+            → picked pick.now fill self.old.number self.old.read.items self.old.image.items (change.now ∷ changes)
             ≡ picked pick.now fill self.new.number self.new.read.items self.new.image.items changes) }
     {
         match change {

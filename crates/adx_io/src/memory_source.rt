@@ -72,7 +72,8 @@ impl Source for MemorySource {
         ensures moved { Moves (Some self.old.tape) (Some self.new.tape) out.new result }
         ensures cause { HasCause self.old.habits.faults self.new.habits.faults result }
         ensures same { own_place ≡ own_place }
-        ensures amount { result ≡ (if fails_now self.old.habits then failure else Ok (min (moved_of self.old.habits (length out.old)) (length self.old.tape.left))) }
+        ensures amount { result ≡ (if fails_now self.old.habits then failure else Ok
+            (min (moved_of self.old.habits (length out.old)) (length self.old.tape.left))) }
         ensures habits { self.new.habits ≡ (if fails_now self.old.habits then after_fault self.old.habits else after_call self.old.habits) }
     {
         let call = self.calls;

@@ -84,7 +84,8 @@ fn take_behind<S: Source>(source: &mut S, out: &mut Vec<u8>, start: usize) -> Re
 
 /// Makes the list longer by so many bytes.
 fn grow(out: &mut Vec<u8>, more: usize) -> Result<(), OutOfMemory>
-    ensures grown { OnOk result ((take (length out.old.items) out.new.items ≡ out.old.items) × (length out.new.items ≡ length out.old.items + more)) }
+    ensures grown { OnOk result ((take (length out.old.items) out.new.items ≡ out.old.items)
+        × (length out.new.items ≡ length out.old.items + more)) }
     ensures failed { OnErr result (out.new.items ≡ out.old.items) }
 {
     let end = out.len().checked_add(more).ok_or(OutOfMemory)?;

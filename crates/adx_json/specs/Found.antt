@@ -27,7 +27,8 @@ StopsWord e bytes word = (c : ℕ) (cs : List ℕ) (fs : List Frame) → word �
 -- a string's run of bytes stops being UTF-8 where so many are left of it, before anything that doesn't stand for itself
 abbrev pub BreaksIn : List ℕ → ℕ → Type 0
 BreaksIn bytes left =
-    (role : Role) (fs : List Frame) (rest : List ℕ) → Stops is_bare rest → stop_of 64 (in_text role (characters None)) fs (bytes ++ rest) ≡ Some (Utf8 (left + length rest))
+    (role : Role) (fs : List Frame) (rest : List ℕ) → Stops is_bare rest
+    → stop_of 64 (in_text role (characters None)) fs (bytes ++ rest) ≡ Some (Utf8 (left + length rest))
 
 -- white space, and the rest, which doesn't begin with any
 pub record FoundSpace (bytes rest : List ℕ) : Type 0 where

@@ -1,3 +1,4 @@
+//! A JSON value as a tree.
 ghost use Rattle.std.specs.Prelude.{◌≡◌, ◌≢◌, ℕ, List, IfSome, IfNone};
 ghost use Rattle.adx_json.specs.Tree.{Items, Members, number, text as text_tree, list, object, items_of, members_of};
 ghost use Rattle.adx_json.specs.View.{tree_of, trees_of, members_view};

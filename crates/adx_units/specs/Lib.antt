@@ -1,4 +1,5 @@
 pub mod Number
+pub mod Numerals
 pub mod Money
 pub mod Texts
 pub mod Ids

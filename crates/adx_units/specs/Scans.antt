@@ -23,9 +23,11 @@ HasNoFraction text = (behind : List ℕ) × (text ≡ 46 ∷ behind) × Stops is
 abbrev pub IsExponent : List ℕ → List ℕ → Bool → Type 0
 IsExponent text digits lowers =
     ((text ≡ []) × (digits ≡ []) × (lowers ≡ false))
-    ⊎ ((mark : ℕ) × (behind : List ℕ) × (text ≡ mark ∷ behind) × (is_exponent_mark mark ≡ true) × (is_digits (without_sign behind) ≡ true) × (digits ≡ without_sign behind) × (lowers ≡ has_minus behind))
+    ⊎ ((mark : ℕ) × (behind : List ℕ) × (text ≡ mark ∷ behind) × (is_exponent_mark mark ≡ true)
+    × (is_digits (without_sign behind) ≡ true) × (digits ≡ without_sign behind) × (lowers ≡ has_minus behind))
 
 -- a byte that is no exponent's mark, or one without digits
 abbrev pub HasNoExponent : List ℕ → Type 0
 HasNoExponent text =
-    (mark : ℕ) × (behind : List ℕ) × (text ≡ mark ∷ behind) × ((is_exponent_mark mark ≡ false) ⊎ ((is_exponent_mark mark ≡ true) × (is_digits (without_sign behind) ≡ false)))
+    (mark : ℕ) × (behind : List ℕ) × (text ≡ mark ∷ behind)
+    × ((is_exponent_mark mark ≡ false) ⊎ ((is_exponent_mark mark ≡ true) × (is_digits (without_sign behind) ≡ false)))

@@ -139,7 +139,10 @@ fn exponent_of(text: &[u8]) -> Option<(&[u8], bool)>
 
 /// The parts of a number's text. None exactly where the text isn't a JSON number.
 pub(crate) fn numeral_of(text: &[u8]) -> Option<Numeral<'_>>
-    ensures { MatchOption result (is_number text.now ≡ false) (λ n. (is_number text.now ≡ true) × (n.minus ≡ has_minus_first text.now) × (n.whole.now ≡ whole_digits text.now) × (n.fraction.now ≡ fraction_digits text.now) × (n.exponent.now ≡ text_without_sign (exponent_part text.now)) × (n.lowers ≡ has_minus_first (exponent_part text.now))) }
+    ensures { MatchOption result (is_number text.now ≡ false)
+        (λ n. (is_number text.now ≡ true) × (n.minus ≡ has_minus_first text.now)
+        × (n.whole.now ≡ whole_digits text.now) × (n.fraction.now ≡ fraction_digits text.now)
+        × (n.exponent.now ≡ text_without_sign (exponent_part text.now)) × (n.lowers ≡ has_minus_first (exponent_part text.now))) }
 {
     let (whole, behind) = digits_front(without_minus(text));
     if !are_whole(whole) {

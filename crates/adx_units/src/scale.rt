@@ -1,7 +1,8 @@
 //! The value of a number's text times a power of ten: its whole part up to a cap, and whether a part is left.
 ghost use Rattle.std.specs.Prelude.{◌≡◌, ◌≤◌, ◌<◌, ◌+◌, ◌-◌, ◌*◌, ◌/◌, ◌%◌, ◌^◌, ◌++◌, ◌==◌, ◌&&◌, ◌||◌, nat_lt, not, min, true, false, if◌then◌else◌, MatchOption};
 ghost use Rattle.std.specs.List.{list_all};
-ghost use Rattle.adx_units.specs.Number.{digits_value, digits_after, is_digit, is_number, has_minus, numerator, denominator, numerator_of, denominator_of};
+ghost use Rattle.adx_units.specs.Number.{digits_value, digits_after, is_digit, is_number, has_minus, numerator, denominator};
+ghost use Rattle.adx_units.specs.Numerals.{numerator_in, denominator_in};
 
 use crate::numeral::{Numeral, numeral_of};
 
@@ -120,8 +121,8 @@ fn shifted(numeral: &Numeral<'_>, places: u128) -> Amount
     requires small { places ≤ 9 }
     requires digits { list_all is_digit (numeral.now.whole.now ++ numeral.now.fraction.now) ≡ true }
     ensures minus { result.minus ≡ numeral.now.minus }
-    ensures units { result.units ≡ min (numerator_of numeral.now.whole.now numeral.now.fraction.now numeral.now.lowers numeral.now.exponent.now * 10 ^ places / denominator_of numeral.now.fraction.now numeral.now.lowers numeral.now.exponent.now) CAP }
-    ensures rest { result.rest ≡ not (numerator_of numeral.now.whole.now numeral.now.fraction.now numeral.now.lowers numeral.now.exponent.now * 10 ^ places % denominator_of numeral.now.fraction.now numeral.now.lowers numeral.now.exponent.now == 0) }
+    ensures units { result.units ≡ min (numerator_in numeral.now * 10 ^ places / denominator_in numeral.now) CAP }
+    ensures rest { result.rest ≡ not (numerator_in numeral.now * 10 ^ places % denominator_in numeral.now == 0) }
 {
     let whole = numeral.whole;
     let fraction = numeral.fraction;
@@ -145,7 +146,10 @@ fn shifted(numeral: &Numeral<'_>, places: u128) -> Amount
 /// number.
 pub(crate) fn amount_of(text: &[u8], places: u128) -> Option<Amount>
     requires small { places ≤ 9 }
-    ensures { MatchOption result (is_number text.now ≡ false) (λ v. (is_number text.now ≡ true) × (v.minus ≡ has_minus text.now) × (v.units ≡ min (numerator text.now * 10 ^ places / denominator text.now) CAP) × (v.rest ≡ not (numerator text.now * 10 ^ places % denominator text.now == 0))) }
+    ensures { MatchOption result (is_number text.now ≡ false)
+        (λ v. (is_number text.now ≡ true) × (v.minus ≡ has_minus text.now)
+        × (v.units ≡ min (numerator text.now * 10 ^ places / denominator text.now) CAP)
+        × (v.rest ≡ not (numerator text.now * 10 ^ places % denominator text.now == 0))) }
 {
     let numeral = numeral_of(text)?;
     Some(shifted(&numeral, places))

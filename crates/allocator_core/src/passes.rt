@@ -52,7 +52,9 @@ fn decide(book: &Book, taken: &mut Taken, imp: u32, offers: &mut [Offer])
     requires priced { All (λ o. o.reason ≡ ADMITTED_MARK → IsPriced (length book.now) o) offers.old }
     requires room { length taken.old < IMP_LIMIT }
     ensures offers { offers.new ≡ decided_offers (budgets_in book.now) (standing_with book.now taken.old) imp offers.old }
-    ensures taken { (campaign : ℕ) → taken_from taken.new campaign ≡ taken_from taken.old campaign + taken_by offers.old (chosen_at (budgets_in book.now) (standing_with book.now taken.old) offers.old imp) campaign }
+    ensures taken { (campaign : ℕ) → taken_from taken.new campaign
+        ≡ taken_from taken.old campaign + taken_by offers.old
+        (chosen_at (budgets_in book.now) (standing_with book.now taken.old) offers.old imp) campaign }
     ensures few { length taken.new ≤ length taken.old + 1 }
 {
     if let Some(place) = pass(book, taken, imp, offers) {

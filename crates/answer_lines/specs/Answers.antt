@@ -29,7 +29,8 @@ campaign_text text campaigns place = option_map_or text (slice_get campaigns pla
 abbrev pub award_text : List Campaign → Ask → ℕ × Offer → List ℕ
 award_text campaigns a sold =
     codes "{\"award\":" ++ decimal sold.0 ++ codes ",\"imp\":" ++ text_spelling (slice_index_or a.imps sold.1.imp [])
-    ++ codes ",\"seat\":" ++ text_spelling (campaign_text (λ c. c.seat) campaigns sold.1.campaign) ++ codes ",\"cid\":" ++ text_spelling (campaign_text (λ c. c.cid) campaigns sold.1.campaign)
+    ++ codes ",\"seat\":" ++ text_spelling (campaign_text (λ c. c.seat) campaigns sold.1.campaign)
+    ++ codes ",\"cid\":" ++ text_spelling (campaign_text (λ c. c.cid) campaigns sold.1.campaign)
     ++ codes ",\"charge\":" ++ decimal sold.1.charge.0 ++ codes "}"
 
 -- the awards of an ask, whose numbers run on from its first

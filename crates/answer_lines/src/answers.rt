@@ -134,7 +134,8 @@ pub fn push_answer(
     answer: &Answer,
     ask: Option<&Ask>,
 ) -> Result<(), OutOfMemory>
-    ensures { OnOk result (string_bytes out.new ≡ string_bytes out.old ++ answer_line campaigns.now answer.now (option_map (λ a. a.now) ask.entry)) }
+    ensures { OnOk result (string_bytes out.new ≡ string_bytes out.old
+        ++ answer_line campaigns.now answer.now (option_map (λ a. a.now) ask.entry)) }
 {
     match answer {
         Answer::Awarded { .. } => match ask {

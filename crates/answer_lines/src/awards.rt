@@ -23,7 +23,8 @@ fn push_imp(out: &mut String, ask: &Ask, imp: u32) -> Result<(), OutOfMemory>
 }
 
 fn push_seat(out: &mut String, campaigns: &[Campaign], campaign: u32) -> Result<(), OutOfMemory>
-    ensures { OnOk result (string_bytes out.new ≡ string_bytes out.old ++ text_spelling (campaign_text (λ c. c.seat) campaigns.now campaign)) }
+    ensures { OnOk result (string_bytes out.new ≡ string_bytes out.old
+        ++ text_spelling (campaign_text (λ c. c.seat) campaigns.now campaign)) }
 {
     match campaigns.get(campaign as usize) {
         Some(campaign) => push_text(out, campaign.seat.as_str()),
@@ -32,7 +33,8 @@ fn push_seat(out: &mut String, campaigns: &[Campaign], campaign: u32) -> Result<
 }
 
 fn push_cid(out: &mut String, campaigns: &[Campaign], campaign: u32) -> Result<(), OutOfMemory>
-    ensures { OnOk result (string_bytes out.new ≡ string_bytes out.old ++ text_spelling (campaign_text (λ c. c.cid) campaigns.now campaign)) }
+    ensures { OnOk result (string_bytes out.new ≡ string_bytes out.old
+        ++ text_spelling (campaign_text (λ c. c.cid) campaigns.now campaign)) }
 {
     match campaigns.get(campaign as usize) {
         Some(campaign) => push_text(out, campaign.cid.as_str()),
@@ -91,7 +93,8 @@ fn push_if_sold(
     requires { others ≤ length (string_bytes out.old) }
     ensures count { IfOk result (λ count. count ≡ others + length (awarded_offers (offer.now ∷ []) imp)) }
     ensures few { IfOk result (λ count. count ≤ length (string_bytes out.new)) }
-    ensures written { OnOk result (string_bytes out.new ≡ string_bytes out.old ++ awards_behind campaigns.now ask.entry.now others (awarded_offers (offer.now ∷ []) imp)) }
+    ensures written { OnOk result (string_bytes out.new
+        ≡ string_bytes out.old ++ awards_behind campaigns.now ask.entry.now others (awarded_offers (offer.now ∷ []) imp)) }
 {
     if offer.reason == AWARDED && offer.imp as usize == imp {
         push_next_award(out, campaigns, ask, others, offer)?;
@@ -111,7 +114,8 @@ fn push_imp_awards(
     requires { others ≤ length (string_bytes out.old) }
     ensures count { IfOk result (λ count. count ≡ others + length (awarded_offers ask.entry.now.offers imp)) }
     ensures few { IfOk result (λ count. count ≤ length (string_bytes out.new)) }
-    ensures written { OnOk result (string_bytes out.new ≡ string_bytes out.old ++ awards_behind campaigns.now ask.entry.now others (awarded_offers ask.entry.now.offers imp)) }
+    ensures written { OnOk result (string_bytes out.new
+        ≡ string_bytes out.old ++ awards_behind campaigns.now ask.entry.now others (awarded_offers ask.entry.now.offers imp)) }
 {
     let mut count = others;
     for offer in ask.offers.as_slice() {

@@ -48,7 +48,8 @@ fn push_campaign(
 /// Writes a row for each campaign of the roster.
 fn push_rows(out: &mut String, campaigns: &[Campaign], book: &Book) -> Result<(), OutOfMemory>
     requires { length book.now ≡ length campaigns.now }
-    ensures { OnOk result (string_bytes out.new ≡ string_bytes out.old ++ flat_map (campaign_line book.now) (enumerate_from 0 campaigns.now)) }
+    ensures { OnOk result (string_bytes out.new ≡ string_bytes out.old
+        ++ flat_map (campaign_line book.now) (enumerate_from 0 campaigns.now)) }
 {
     for place in 0..book.count() {
         push_campaign(out, &campaigns[place as usize], book, place)?;
@@ -124,7 +125,8 @@ pub fn push_table(
 ) -> Result<(), OutOfMemory>
     requires rows { length book.now ≡ length campaigns.now }
     requires asks { asks ≡ ask_count_of entries.now }
-    ensures { OnOk result ((terms : Terms) → IsLegal terms entries.now → book.now ≡ accounts_in (budgets_after terms entries.now) (awards_of entries.now)
+    ensures { OnOk result ((terms : Terms) → IsLegal terms entries.now
+        → book.now ≡ accounts_in (budgets_after terms entries.now) (awards_of entries.now)
         → string_bytes out.new ≡ string_bytes out.old ++ closing_table campaigns.now terms entries.now) }
 {
     push_rows(out, campaigns, book)?;

@@ -51,9 +51,14 @@ pub record IsNextEnd (campaigns : List CampaignRow) (imps : List ImpRow) : Type 
 pub data Follows : Told → List ℕ → Told → Type 0 where
   head_first : (format : ℕ) → IsTrue (format == 1 || format == 2) → Follows nothing (head_line format) (a_head format)
   day_second : (format : ℕ) (day : List ℕ) → IsTrue (is_day day) → Follows (a_head format) (day_line day) (rows format day [] [])
-  campaign_next : (format : ℕ) (day : List ℕ) (cs : List CampaignRow) (c : CampaignRow) → IsNextCampaign format cs [] c → Follows (rows format day cs []) (campaign_line (length cs, c)) (rows format day (cs ++ c ∷ []) [])
-  imp_next : (format : ℕ) (day : List ℕ) (cs : List CampaignRow) (imps : List ImpRow) (row : ImpRow) → IsLooseImp format cs imps row → HasPlaces (length cs) row → Follows (rows format day cs imps) (imp_line (length imps, row)) (rows format day cs (imps ++ row ∷ []))
-  end_last : (format : ℕ) (day : List ℕ) (cs : List CampaignRow) (imps : List ImpRow) → IsNextEnd cs imps → Follows (rows format day cs imps) (end_line (length imps)) (all format day cs imps)
+  campaign_next : (format : ℕ) (day : List ℕ) (cs : List CampaignRow) (c : CampaignRow)
+      → IsNextCampaign format cs [] c
+      → Follows (rows format day cs []) (campaign_line (length cs, c)) (rows format day (cs ++ c ∷ []) [])
+  imp_next : (format : ℕ) (day : List ℕ) (cs : List CampaignRow) (imps : List ImpRow) (row : ImpRow)
+      → IsLooseImp format cs imps row → HasPlaces (length cs) row
+      → Follows (rows format day cs imps) (imp_line (length imps, row)) (rows format day cs (imps ++ row ∷ []))
+  end_last : (format : ℕ) (day : List ℕ) (cs : List CampaignRow) (imps : List ImpRow) → IsNextEnd cs imps
+      → Follows (rows format day cs imps) (end_line (length imps)) (all format day cs imps)
 
 -- the last line was there
 abbrev pub IsWhole : Told → Type 0

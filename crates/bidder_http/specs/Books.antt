@@ -12,7 +12,8 @@ use Rattle.bidder_core.specs.declared.price_line.PriceLine.{PriceLine}
 -- a price's campaign, the sum of its bills in units, and their number
 abbrev pub book_line : List LedgerRow → ℕ × Price → List ℕ
 book_line rows (place, price) =
-    codes "{\"cid\":" ++ text_spelling price.cid ++ codes ",\"billed\":" ++ decimal (billed_in place rows) ++ codes ",\"count\":" ++ decimal (bill_count place rows) ++ codes "}\n"
+    codes "{\"cid\":" ++ text_spelling price.cid ++ codes ",\"billed\":" ++ decimal (billed_in place rows)
+    ++ codes ",\"count\":" ++ decimal (bill_count place rows) ++ codes "}\n"
 
 -- price by price
 abbrev pub books_text : PriceLine → List LedgerRow → List ℕ

@@ -57,7 +57,8 @@ fn answer_method(
     body: &mut String,
 ) -> Result<Answer, OutOfMemory>
     requires { string_bytes body.old ≡ [] }
-    ensures answered { IfOk result (λ a. AnswersMethod (is_served page verb) page bidder.old query.now bytes.now a (string_bytes body.new) bidder.new.rows) }
+    ensures answered { IfOk result (λ a. AnswersMethod (is_served page verb) page bidder.old query.now bytes.now a
+        (string_bytes body.new) bidder.new.rows) }
     ensures kept { OnErr result (bidder.new.rows ≡ bidder.old.rows) }
     ensures line { bidder.new.line ≡ bidder.old.line }
 {
@@ -136,7 +137,8 @@ pub fn serve_bidder<S: Source, K: Sink>(
     source: &mut S,
     sink: &mut K,
 ) -> ConnEnd
-    ensures ends { EndsWith BidderAnswers BidderGivesUp REQUEST_LIMIT (S.tape source.old) (S.tape source.new) (K.held sink.old) (K.held sink.new) bidder.old bidder.new result }
+    ensures ends { EndsWith BidderAnswers BidderGivesUp REQUEST_LIMIT (S.tape source.old) (S.tape source.new)
+        (K.held sink.old) (K.held sink.new) bidder.old bidder.new result }
     ensures causes { HasCauses (S.faults source.old) (S.faults source.new) (K.faults sink.old) (K.faults sink.new) result }
     ensures source { S.place source.new ≡ S.place source.old }
     ensures sink { K.place sink.new ≡ K.place sink.old }

@@ -10,7 +10,7 @@ use cert_check::Verdict;
 use command_runs::{Judge, Outcome};
 use std::alloc::Global;
 
-/// The command that checks a certificate against its record: the document is a record with a certificate behind it. It
+/// The command that checks a certificate against its record: the document is a record with a certificate after it. It
 /// writes one line: the bound of a certificate that is accepted; or the first rule that fails; or why the document is none.
 #[derive(Drop)]
 pub struct Check;

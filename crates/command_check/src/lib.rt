@@ -1,6 +1,6 @@
 //! The command that checks a certificate against its record.
 //!
-//! A document is a record with a certificate behind it. `check_input` reads one and says in a line whether the certificate
+//! A document is a record with a certificate after it. `check_input` reads one and says in a line whether the certificate
 //! is accepted, and with which bound, or the first rule that fails, or the first line that isn't of the document's form.
 //! Stands on `cert_check` for the rules and on `command_runs` for the run. It knows no day that was served, and nothing
 //! that makes a certificate.

@@ -24,7 +24,9 @@ abbrev pub reconcile_command : List ℕ → Course → Meaning
 reconcile_command name = by_first roster_heads INPUT_LIMIT (reconciling name)
 
 -- the command ran so
-pub record RunsReconciliation {S K D : Type 0} (s : source.Ghosts S) (k : sink.Ghosts K) (d : disk.Ghosts D) (name : List ℕ) (old new : S) (sink_old sink_new : K) (disk_old disk_new : D) (result : Result Outcome Stop) : Type 0 where
+pub record RunsReconciliation {S K D : Type 0} (s : source.Ghosts S) (k : sink.Ghosts K) (d : disk.Ghosts D)
+    (name : List ℕ) (old new : S) (sink_old sink_new : K) (disk_old disk_new : D)
+    (result : Result Outcome Stop) : Type 0 where
   pub course : Course
   -- what became of the disk,
   pub leaves : LeavesFirst (λ before now r day. LeavesDisk d r day before now) disk_old disk_new course result

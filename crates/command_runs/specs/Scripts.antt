@@ -70,7 +70,8 @@ module _ {A : Type 0} (a : Answering A) where
 abbrev pub PutsAnswer : {A : Type 0} → Answering A → A → A → ℕ → (List ℕ → Type 0) → Option (List ℕ) → Option (List ℕ) → Result (Unit {0}) Stop → Type 0
 PutsAnswer a s now number Known held held_now (Ok done) = (out : List ℕ) × ((line : List ℕ) → Known line → a.answers s number line out now) × Took held held_now out
 PutsAnswer a s now number Known held held_now (Err Stop.ReadFault) = ⊥
-PutsAnswer a s now number Known held held_now (Err Stop.WriteFault) = (out : List ℕ) × ((line : List ℕ) → Known line → a.answers s number line out now) × TookPrefix held held_now out
+PutsAnswer a s now number Known held held_now (Err Stop.WriteFault) =
+    (out : List ℕ) × ((line : List ℕ) → Known line → a.answers s number line out now) × TookPrefix held held_now out
 PutsAnswer a s now number Known held held_now (Err Stop.OutOfMemory) = ((line : List ℕ) → Known line → a.gives_up s number line now) × (held_now ≡ held)
 
 -- what is written at the end was put, or a front of it; or memory was refused, and nothing was

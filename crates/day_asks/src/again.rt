@@ -51,7 +51,8 @@ fn copy_undecided(offers: &[Offer], again: &mut [Offer])
 /// Whether the offers have the same reasons.
 fn are_same(offers: &[Offer], others: &[Offer]) -> bool
     requires { length others.now ≡ length offers.now }
-    ensures { IsTrue result ↔ ((k : ℕ) → (d : OfferValue) → k < length offers.now → (slice_index_or offers.now k d).reason ≡ (slice_index_or others.now k d).reason) }
+    ensures { IsTrue result ↔ ((k : ℕ) → (d : OfferValue) → k < length offers.now
+        → (slice_index_or offers.now k d).reason ≡ (slice_index_or others.now k d).reason) }
 {
     for place in 0..offers.len() {
         if offers[place].reason != others[place].reason {

@@ -50,6 +50,7 @@ pub record IsLeastBeta (alphas : List ℕ) (offers : Impression) (beta : ℕ) : 
 -- the certificate that the closer makes of a record
 pub record IsClosing (r : Record) (c : Cert) : Type 0 where
   pub shape : HasShape r c
-  pub alphas : (campaign : ℕ) (row : CampaignRow) → campaign < length r.campaigns → slice_index c.alphas campaign ≡ row_alpha (slice_index_or r.campaigns campaign row) (money_in r.imps campaign)
+  pub alphas : (campaign : ℕ) (row : CampaignRow) → campaign < length r.campaigns
+      → slice_index c.alphas campaign ≡ row_alpha (slice_index_or r.campaigns campaign row) (money_in r.imps campaign)
   pub betas : (imp : ℕ) → imp < length r.imps → IsLeastBeta c.alphas (slice_index_or (impressions r) imp []) (slice_index c.betas imp)
   pub bound : c.bound ≡ bound_of r c

@@ -42,7 +42,8 @@ abbrev pub KeptParts : Type 0
 KeptParts = ℕ × (List ℕ × (List ℕ × (List ℕ × (List ℕ × (List ℕ × (List ℕ × List ℕ))))))
 
 abbrev pub kept_of_parts : KeptParts → Kept
-kept_of_parts p = record { bid = p.0; seat = p.1.0; bidid = p.1.1.0; adid = p.1.1.1.0; nurl = p.1.1.1.1.0; burl = p.1.1.1.1.1.0; lurl = p.1.1.1.1.1.1.0; body = p.1.1.1.1.1.1.1 }
+kept_of_parts p =
+    record { bid = p.0; seat = p.1.0; bidid = p.1.1.0; adid = p.1.1.1.0; nurl = p.1.1.1.1.0; burl = p.1.1.1.1.1.0; lurl = p.1.1.1.1.1.1.0; body = p.1.1.1.1.1.1.1 }
 
 abbrev pub parts_of_kept : Kept → KeptParts
 parts_of_kept k = (k.bid, (k.seat, (k.bidid, (k.adid, (k.nurl, (k.burl, (k.lurl, k.body)))))))

@@ -54,7 +54,8 @@ abbrev pub ReadsOn : List ℕ → ℕ → ℕ → List ℕ → ℕ → List ℕ 
 ReadsOn file at len old n new = length file < 2 ^ 64 → at + len ≤ length file → take len old ≡ take len (drop at file) → ReadsMore file at len n new
 
 -- calls that change neither what a read gives nor the images, but perhaps leave fewer of these
-pub record OnlyReads {D : Type 0} (reads : D → Option (List ℕ)) (may_leave : D → List ℕ → Type 0) (moment : D → ℕ) (left_since : D → ℕ → List ℕ → Type 0) (old new : D) : Type 0 where
+pub record OnlyReads {D : Type 0} (reads : D → Option (List ℕ)) (may_leave : D → List ℕ → Type 0) (moment : D → ℕ)
+    (left_since : D → ℕ → List ℕ → Type 0) (old new : D) : Type 0 where
   pub same : reads new ≡ reads old
   pub crash : Within (may_leave old) (may_leave new)
   pub moments : LeavesOnly moment left_since old new (may_leave old)

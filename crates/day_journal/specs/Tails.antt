@@ -47,7 +47,9 @@ WithOrWithout format payloads tail file = StandsFor format file payloads ⊎ Sta
 
 -- the payloads alone, with the tail that was in doubt, or with the new one; the two never together
 abbrev pub WithAtMostOne : ℕ → List (List ℕ) → List ℕ → List ℕ → List ℕ → Type 0
-WithAtMostOne format payloads tail new file = StandsFor format file payloads ⊎ StandsFor format file (payloads ++ tail ∷ []) ⊎ StandsFor format file (payloads ++ new ∷ [])
+WithAtMostOne format payloads tail new file =
+    StandsFor format file payloads ⊎ StandsFor format file (payloads ++ tail ∷ [])
+    ⊎ StandsFor format file (payloads ++ new ∷ [])
 
 -- how many bytes a journal has
 abbrev pub size_of : JournalState → ℕ

@@ -55,7 +55,8 @@ impl Journal {
     /// the journal was opened on, as this journal's calls left it.
     pub fn settle<D: Disk>(&mut self, disk: &mut D) -> Result<(), Failed>
         ensures kept { (payloads : List (List ℕ)) (tail : List ℕ) → Keeps (D.may_leave disk.old) self.old payloads tail
-            → Keeps (D.may_leave disk.new) self.new payloads tail × LeavesOnly D.moment D.left_since disk.old disk.new (WithOrWithout self.old.format payloads tail) }
+            → Keeps (D.may_leave disk.new) self.new payloads tail
+            × LeavesOnly D.moment D.left_since disk.old disk.new (WithOrWithout self.old.format payloads tail) }
         ensures settled { OnOk result (self.new.in_doubt ≡ false) }
         ensures place { self.new.gate ≡ self.old.gate }
         ensures format { self.new.format ≡ self.old.format }
@@ -74,8 +75,10 @@ impl Journal {
     /// doubt.
     fn open_gate<D: Disk>(&mut self, disk: &mut D, len: u64) -> Result<(), Failed>
         requires { self.old.gate + len < 2 ^ 64 }
-        ensures kept { (payloads : List (List ℕ)) (payload : List ℕ) → IsFormat self.old.format → self.old.gate ≡ length (opened self.old.format payloads) → All IsPayload payloads
-            → IsPayload payload → len ≡ length payload + 5 → Each (D.may_leave disk.old) (HasShutTail (opened self.old.format payloads) (body payload))
+        ensures kept { (payloads : List (List ℕ)) (payload : List ℕ) → IsFormat self.old.format
+            → self.old.gate ≡ length (opened self.old.format payloads) → All IsPayload payloads
+            → IsPayload payload → len ≡ length payload + 5
+            → Each (D.may_leave disk.old) (HasShutTail (opened self.old.format payloads) (body payload))
             → LeavesOnly D.moment D.left_since disk.old disk.new (WithOrWithout self.old.format payloads payload)
             × OnOk result ((tail : List ℕ) → Keeps (D.may_leave disk.new) self.new (payloads ++ payload ∷ []) tail)
             × OnErr result (Keeps (D.may_leave disk.new) self.new payloads payload) }
@@ -129,7 +132,8 @@ impl Journal {
         // those payloads, or them and one more, the tail or the new one.
         ensures any_moment { (payloads : List (List ℕ)) (tail : List ℕ) → Keeps (D.may_leave disk.old) self.old payloads tail
             → LeavesOnly D.moment D.left_since disk.old disk.new (WithAtMostOne self.old.format payloads tail frame.now.payload) }
-        ensures acknowledged { OnOk result ((payloads : List (List ℕ)) (tail any : List ℕ) → Keeps (D.may_leave disk.old) self.old payloads tail
+        ensures acknowledged { OnOk result ((payloads : List (List ℕ)) (tail any : List ℕ)
+            → Keeps (D.may_leave disk.old) self.old payloads tail
             → Keeps (D.may_leave disk.new) self.new (payloads ++ frame.now.payload ∷ []) any) }
         ensures doubted { OnErr result ((payloads : List (List ℕ)) (tail : List ℕ) → Keeps (D.may_leave disk.old) self.old payloads tail
             → Keeps (D.may_leave disk.new) self.new payloads tail ⊎ Keeps (D.may_leave disk.new) self.new payloads frame.now.payload) }

@@ -5,14 +5,18 @@ ghost use Rattle.day_journal.specs.Places.{HasBadLength, HasNoHead, StandsFor};
 
 /// A file stands for at most one list of payloads, and one with payloads has one format.
 pub fn stands_once()
-    ensures payloads { (format other : ℕ) (file : List ℕ) (payloads others : List (List ℕ)) → StandsFor format file payloads → StandsFor other file others → payloads ≡ others }
-    ensures format { (format other : ℕ) (file first : List ℕ) (rest others : List (List ℕ)) → StandsFor format file (first ∷ rest) → StandsFor other file others → format ≡ other }
+    ensures payloads { (format other : ℕ) (file : List ℕ) (payloads others : List (List ℕ))
+        → StandsFor format file payloads → StandsFor other file others → payloads ≡ others }
+    ensures format { (format other : ℕ) (file first : List ℕ) (rest others : List (List ℕ))
+        → StandsFor format file (first ∷ rest) → StandsFor other file others → format ≡ other }
 {}
 
 /// A file that stands for payloads has no fault, and none has faults of both kinds.
 pub fn faults_exclude()
-    ensures bad_length { (format : ℕ) (file : List ℕ) (payloads : List (List ℕ)) (at : ℕ) → StandsFor format file payloads → HasBadLength file at → ⊥ }
-    ensures no_head { (format : ℕ) (file : List ℕ) (payloads : List (List ℕ)) (at : ℕ) → StandsFor format file payloads → HasNoHead file at → ⊥ }
+    ensures bad_length { (format : ℕ) (file : List ℕ) (payloads : List (List ℕ)) (at : ℕ)
+        → StandsFor format file payloads → HasBadLength file at → ⊥ }
+    ensures no_head { (format : ℕ) (file : List ℕ) (payloads : List (List ℕ)) (at : ℕ)
+        → StandsFor format file payloads → HasNoHead file at → ⊥ }
     ensures both { (file : List ℕ) (at place : ℕ) → HasBadLength file at → HasNoHead file place → ⊥ }
 {}
 

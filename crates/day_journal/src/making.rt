@@ -15,7 +15,8 @@ const MARK: [u8; 9] = *b"ADXJRNL2\0";
 pub(crate) fn make_uncleared<D: Disk>(disk: &mut D) -> Result<(), Failed>
     ensures kept { Each (D.may_leave disk.old) (λ c. (length c ≤ 1) ⊎ IsMarked c)
         → LeavesOnly D.moment D.left_since disk.old disk.new (λ c. StandsNew c × HasSome (D.may_leave disk.old)) }
-    ensures made { OnOk result (Each (D.may_leave disk.old) (λ c. (length c ≤ 1) ⊎ IsMarked c) → Each (D.may_leave disk.new) (λ c. c ≡ new_file)) }
+    ensures made { OnOk result (Each (D.may_leave disk.old) (λ c. (length c ≤ 1) ⊎ IsMarked c)
+        → Each (D.may_leave disk.new) (λ c. c ≡ new_file)) }
     ensures durable { OnOk result (AsRead (D.reads disk.new) (D.may_leave disk.new)) }
     ensures told { is_some (D.reads disk.new) ≡ is_some (D.reads disk.old) }
     ensures lasts { D.lasts disk.old disk.new }

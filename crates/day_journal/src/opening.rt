@@ -91,7 +91,8 @@ fn finish<D: Disk>(disk: &mut D, look: Look) -> Result<Found, OpeningFault>
         → LeavesOnly D.moment D.left_since disk.old disk.new (StandsAsRead (D.may_leave disk.old) (D.reads disk.old)) }
     ensures behind { IfOk result (λ found. Looked look.size look.start (D.reads disk.old) (D.may_leave disk.old)
         → (file : List ℕ) → D.reads disk.new ≡ Some file → BeginsJournal found.format found.size file) }
-    ensures durable { OnOk result (Looked look.size look.start (D.reads disk.old) (D.may_leave disk.old) → AsRead (D.reads disk.new) (D.may_leave disk.new)) }
+    ensures durable { OnOk result (Looked look.size look.start (D.reads disk.old) (D.may_leave disk.old)
+        → AsRead (D.reads disk.new) (D.may_leave disk.new)) }
     ensures reading { OnOk result (Looked look.size look.start (D.reads disk.old) (D.may_leave disk.old)
         → (file : List ℕ) → D.reads disk.old ≡ Some file → KeptOrMade file (D.reads disk.new)) }
     ensures refused { IfErr result (λ e. Looked look.size look.start (D.reads disk.old) (D.may_leave disk.old)
@@ -135,7 +136,8 @@ fn begun(found: Found, window: Window) -> Opening
 fn look_at<D: Disk>(disk: &mut D) -> Result<Look, Failed>
     ensures durable { OnOk result (AsRead (D.reads disk.new) (D.may_leave disk.new)) }
     ensures same { OnOk result (D.reads disk.new ≡ D.reads disk.old) }
-    ensures found { IfOk result (λ look. (file : List ℕ) → D.reads disk.new ≡ Some file → (look.size ≡ length file) × IsStart (take 11 file) look.start) }
+    ensures found { IfOk result (λ look. (file : List ℕ) → D.reads disk.new ≡ Some file
+        → (look.size ≡ length file) × IsStart (take 11 file) look.start) }
     ensures no_more { LeavesNoMore D.may_leave D.moment D.left_since disk.old disk.new }
     ensures lasts { D.lasts disk.old disk.new }
     ensures cause { HasCause (D.faults disk.old) (D.faults disk.new) result }
@@ -162,12 +164,16 @@ impl Opening {
         alloc: Global,
         disk: &mut D,
     ) -> Result<Option<Vec<u8>>, OpeningFault>
-        ensures found { IfOk result (λ next. (file : List ℕ) (payloads : List (List ℕ)) → D.reads disk.old ≡ Some file → StandsBehind file self.old payloads
-            → MatchOption next (StandsBehind file self.new payloads × IsClosed (opened self.old.format payloads) file) (λ payload. StandsBehind file self.new (payloads ++ payload.items ∷ []))) }
+        ensures found { IfOk result (λ next. (file : List ℕ) (payloads : List (List ℕ)) → D.reads disk.old ≡ Some file
+            → StandsBehind file self.old payloads
+            → MatchOption next (StandsBehind file self.new payloads × IsClosed (opened self.old.format payloads) file)
+            (λ payload. StandsBehind file self.new (payloads ++ payload.items ∷ []))) }
         ensures closed { result ≡ Ok None → self.new.closed ≡ true }
-        ensures refused { IfErr result (λ e. (file : List ℕ) (payloads : List (List ℕ)) → D.reads disk.old ≡ Some file → StandsBehind file self.old payloads → Refuses file e) }
+        ensures refused { IfErr result (λ e. (file : List ℕ) (payloads : List (List ℕ)) → D.reads disk.old ≡ Some file
+            → StandsBehind file self.old payloads → Refuses file e) }
         ensures place { (at : ℕ) → result ≡ Err (OpeningFault.BadLength at) → at ≡ self.old.window.at }
-        ensures moved { IfOk result (λ next. MatchOption next (self.new.window.at ≡ self.old.window.at) (λ payload. self.new.window.at ≤ self.old.window.at + (length payload.items + 5))) }
+        ensures moved { IfOk result (λ next. MatchOption next (self.new.window.at ≡ self.old.window.at)
+            (λ payload. self.new.window.at ≤ self.old.window.at + (length payload.items + 5))) }
         ensures only_reads { OnlyReads D.reads D.may_leave D.moment D.left_since disk.old disk.new }
         ensures format { self.new.format ≡ self.old.format }
         ensures ends { EndsOpening (D.faults disk.old) (D.faults disk.new) result }
@@ -185,12 +191,16 @@ impl Opening {
         disk: &mut D,
         payload: &mut Vec<u8>,
     ) -> Result<bool, OpeningFault>
-        ensures found { IfOk result (λ more. (file : List ℕ) (payloads : List (List ℕ)) → D.reads disk.old ≡ Some file → StandsBehind file self.old payloads
-            → MatchBool more (StandsBehind file self.new (payloads ++ payload.new.items ∷ [])) (StandsBehind file self.new payloads × IsClosed (opened self.old.format payloads) file)) }
+        ensures found { IfOk result (λ more. (file : List ℕ) (payloads : List (List ℕ)) → D.reads disk.old ≡ Some file
+            → StandsBehind file self.old payloads
+            → MatchBool more (StandsBehind file self.new (payloads ++ payload.new.items ∷ []))
+            (StandsBehind file self.new payloads × IsClosed (opened self.old.format payloads) file)) }
         ensures closed { result ≡ Ok false → self.new.closed ≡ true }
-        ensures refused { IfErr result (λ e. (file : List ℕ) (payloads : List (List ℕ)) → D.reads disk.old ≡ Some file → StandsBehind file self.old payloads → Refuses file e) }
+        ensures refused { IfErr result (λ e. (file : List ℕ) (payloads : List (List ℕ)) → D.reads disk.old ≡ Some file
+            → StandsBehind file self.old payloads → Refuses file e) }
         ensures place { (at : ℕ) → result ≡ Err (OpeningFault.BadLength at) → at ≡ self.old.window.at }
-        ensures moved { IfOk result (λ more. MatchBool more (self.new.window.at ≤ self.old.window.at + (length payload.new.items + 5)) (self.new.window.at ≡ self.old.window.at)) }
+        ensures moved { IfOk result (λ more. MatchBool more
+            (self.new.window.at ≤ self.old.window.at + (length payload.new.items + 5)) (self.new.window.at ≡ self.old.window.at)) }
         ensures only_reads { OnlyReads D.reads D.may_leave D.moment D.left_since disk.old disk.new }
         ensures format { self.new.format ≡ self.old.format }
         ensures ends { EndsOpening (D.faults disk.old) (D.faults disk.new) result }
@@ -226,9 +236,11 @@ impl Opening {
         requires some { 0 < count }
         requires fits { count ≤ longest_payload }
         requires closed { self.old.closed ≡ false }
-        ensures found { OnOk result ((file : List ℕ) (payloads : List (List ℕ)) → D.reads disk.old ≡ Some file → StandsBehind file self.old payloads
+        ensures found { OnOk result ((file : List ℕ) (payloads : List (List ℕ)) → D.reads disk.old ≡ Some file
+            → StandsBehind file self.old payloads
             → IsPlace self.old.window.bytes (Place.Open count) → StandsBehind file self.new (payloads ++ payload.new.items ∷ [])) }
-        ensures refused { IfErr result (λ e. (file : List ℕ) (payloads : List (List ℕ)) → D.reads disk.old ≡ Some file → StandsBehind file self.old payloads
+        ensures refused { IfErr result (λ e. (file : List ℕ) (payloads : List (List ℕ)) → D.reads disk.old ≡ Some file
+            → StandsBehind file self.old payloads
             → IsPlace self.old.window.bytes (Place.Open count) → Refuses file e) }
         ensures place { (at : ℕ) → result ≡ Err (OpeningFault.BadLength at) → at ≡ self.old.window.at }
         ensures len { OnOk result (length payload.new.items ≡ count) }
@@ -265,7 +277,8 @@ impl Opening {
     /// that were read, with no tail in doubt.
     pub fn done<D: Disk>(self, disk: &D) -> Journal
         requires { self.closed ≡ true }
-        ensures kept { (file : List ℕ) (payloads : List (List ℕ)) (tail : List ℕ) → D.reads disk.now ≡ Some file → StandsBehind file self payloads
+        ensures kept { (file : List ℕ) (payloads : List (List ℕ)) (tail : List ℕ) → D.reads disk.now ≡ Some file
+            → StandsBehind file self payloads
             → AsRead (D.reads disk.now) (D.may_leave disk.now) → Keeps (D.may_leave disk.now) result payloads tail }
         ensures gate { result ≡ record { format = self.format; gate = self.window.at; in_doubt = false } }
     {

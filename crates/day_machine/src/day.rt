@@ -217,7 +217,8 @@ impl Day {
         requires formed { IsWellFormed (length self.now.terms.budgets) ask }
         requires undecided { IsUndecided ask }
         requires new { ask_of ask.auction self.now.history ≡ None }
-        ensures { IsReplyIn self.now.terms self.now.history result (settled_reply self.now.terms.limits self.now.history (settled self.now.terms self.now.history ask)) }
+        ensures { IsReplyIn self.now.terms self.now.history result
+            (settled_reply self.now.terms.limits self.now.history (settled self.now.terms self.now.history ask)) }
     {
         let asks = self.totals.asks + 1;
         if self.limits.auctions < asks {
@@ -293,8 +294,10 @@ impl Day {
     /// The answer to a notice of an award of the auction that it names.
     fn plan_ruled(&self, kind: NoticeKind, n: u32) -> (Answer, Option<Entry>)
         requires { n < length (awards_of self.now.history) }
-        ensures answer { (w : AwardValue) → slice_get (awards_of self.now.history) n ≡ Some w → result.0 ≡ (ruled_reply self.now.history kind n (ruling_of kind w)).answer }
-        ensures entry { (w : AwardValue) → slice_get (awards_of self.now.history) n ≡ Some w → result.1 ≡ (ruled_reply self.now.history kind n (ruling_of kind w)).entry }
+        ensures answer { (w : AwardValue) → slice_get (awards_of self.now.history) n ≡ Some w
+            → result.0 ≡ (ruled_reply self.now.history kind n (ruling_of kind w)).answer }
+        ensures entry { (w : AwardValue) → slice_get (awards_of self.now.history) n ≡ Some w
+            → result.1 ≡ (ruled_reply self.now.history kind n (ruling_of kind w)).entry }
         ensures legal { IfSome result.1 (MayFollow self.now.terms self.now.history) }
         ensures room { IfSome result.1 (HasRoomFor self.now) }
     {
@@ -349,7 +352,8 @@ impl Day {
     /// The change of that campaign and number, if it stands in the history: its place and its budget.
     fn kept_change(&self, campaign: u32, change: u32) -> Option<(u32, Units)>
         requires { campaign < length self.now.terms.budgets }
-        ensures { (budget : Units) → result ≡ option_map (λ p. (p.0, p.1.budget)) (same_change (change_of campaign change budget) self.now.history) }
+        ensures { (budget : Units) → result ≡ option_map (λ p. (p.0, p.1.budget))
+            (same_change (change_of campaign change budget) self.now.history) }
     {
         match self.changes[campaign as usize].place_of(change) {
             None => None,

@@ -6,7 +6,7 @@ use Rattle.sha2.specs.Sha256.{sha256}
 use Rattle.adx_json.specs.declared.tree.Json.{Json}
 use Rattle.adx_json.specs.Spelling.{spelling}
 use Rattle.adx_json.specs.Tree.{Tree, item, list, no_items}
-use Rattle.adx_json.specs.View.{tree_of, trees_of}
+use Rattle.adx_json.specs.View.{tree_of}
 use Rattle.tree_view.specs.Checks.{judged}
 use Rattle.tree_view.specs.Values.{items_in, text_or_empty, texts_in}
 use Rattle.deal_floor.specs.declared.campaign.Campaign.{Campaign}
@@ -15,7 +15,7 @@ use Rattle.deal_floor.specs.declared.limits.Limits.{Limits}
 use Rattle.deal_floor.specs.declared.place.Place.{Place}
 use Rattle.deal_floor.specs.declared.roster.TheConstants.{MOST_NOW}
 use Rattle.deal_floor.specs.Forms.{text_or, whole_or}
-use Rattle.deal_floor.specs.Pairs.{Pair, pair_of}
+use Rattle.deal_floor.specs.Pairs.{pair_of}
 use Rattle.deal_floor.specs.Rosters.{CampaignView, LimitsView, PlaceView, RosterView, bidder_checks, bidder_list_checks, bidders_checks, campaign_checks, campaign_list_checks, campaign_view, campaigns_checks, head_checks, limits_checks, limits_view, or_null, place_view, replies_checks}
 use Rattle.deal_floor.specs.Seen.{seen_campaign, seen_limits, seen_place}
 

@@ -17,7 +17,17 @@ abbrev pub seen_limits : Limits → LimitsView
 seen_limits l = record { auctions = l.auctions; bids = l.bids; text = l.text }
 
 abbrev pub seen_roster : Roster → RosterView
-seen_roster r = record { day = r.day; base = r.base; now = r.now; bidders = map seen_place r.bidders; campaigns = map seen_campaign r.campaigns; replies = r.replies; limits = seen_limits r.limits; digest = r.digest }
+seen_roster r =
+    record {
+      day = r.day;
+      base = r.base;
+      now = r.now;
+      bidders = map seen_place r.bidders;
+      campaigns = map seen_campaign r.campaigns;
+      replies = r.replies;
+      limits = seen_limits r.limits;
+      digest = r.digest;
+    }
 
 -- a bidder has this name
 abbrev pub place_has_name : List ℕ → Place → Bool

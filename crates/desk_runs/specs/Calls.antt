@@ -26,6 +26,7 @@ pub record HasBooks (terms : Terms) (start : List Entry) (turns : List Turn) (hi
   pub ran : history ≡ run terms start turns
   pub legal : IsLegal terms history
   pub books : AreOfCallsTakenOnce terms start turns
-  pub within : (front back : List Entry) → history ≡ front ++ back → (campaign : ℕ) → committed front campaign ≤ budget_at (budgets_after terms front) campaign
+  pub within : (front back : List Entry) → history ≡ front ++ back → (campaign : ℕ)
+      → committed front campaign ≤ budget_at (budgets_after terms front) campaign
   pub chosen : (before : List Entry) (a : Ask) (after : List Entry) → history ≡ before ++ Entry.Ask a ∷ after → StandsSettled terms before a
   pub taken_once : (front : List Turn) (turn : Turn) (back : List Turn) → turns ≡ front ++ turn ∷ back → IsTakenOnce terms start front turn

@@ -48,7 +48,8 @@ AnswersLine w terms number history (calls c) told out =
 AnswersLine w terms number history (refused why) told out = (told ≡ []) × (out ≡ w.refusal number why)
 
 -- one line: its meaning, the calls that it makes after a history, and what it is answered
-pub record IsLine (Means : List ℕ → Meaning → Type 0) (w : Writing) (terms : Terms) (number : ℕ) (history : List Entry) (line : List ℕ) (told : List Told) (out : List ℕ) : Type 0 where
+pub record IsLine (Means : List ℕ → Meaning → Type 0) (w : Writing) (terms : Terms) (number : ℕ) (history : List Entry)
+    (line : List ℕ) (told : List Told) (out : List ℕ) : Type 0 where
   pub meaning : Meaning
   pub means : Means line meaning
   pub answered : AnswersLine w terms number history meaning told out

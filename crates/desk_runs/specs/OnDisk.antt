@@ -96,7 +96,9 @@ FullEach terms start told =
     → FullOnly terms (history_after terms.day start front) (reply terms.day (history_after terms.day start front) one.call).entry one.fault
 
 -- A day that was served on a disk, from a history, with these calls.
-pub record ServesRun {D : Type 0} (faults : D → ℕ) (reads : D → Option (List ℕ)) (may_leave : D → List ℕ → Type 0) (moment : D → ℕ) (left_since : D → ℕ → List ℕ → Type 0) (terms : DeskTerms) (start : List Entry) (told : List Told) (old new : D) : Type 0 where
+pub record ServesRun {D : Type 0} (faults : D → ℕ) (reads : D → Option (List ℕ)) (may_leave : D → List ℕ → Type 0)
+    (moment : D → ℕ) (left_since : D → ℕ → List ℕ → Type 0) (terms : DeskTerms) (start : List Entry) (told : List Told)
+    (old new : D) : Type 0 where
   -- It began with the history that the file stood for, where the disk tells what it reads.
   pub begins : (file : List ℕ) → reads old ≡ Some file → IsHistoryOf terms file start
   -- The calls are some that a day takes, and their books are those of the headline.
@@ -110,10 +112,13 @@ pub record ServesRun {D : Type 0} (faults : D → ℕ) (reads : D → Option (Li
   pub keeps : (file : List ℕ) → reads old ≡ Some file → KeepsRun (may_leave new) terms start told
   -- and a crash at any moment leaves an image from before, the history that was read, or one of the run, with at most one
   -- record.
-  pub any_moment : (file : List ℕ) → reads old ≡ Some file → LeavesOnly moment left_since old new (StandsWithin terms (may_leave old) (reads old) start told)
+  pub any_moment : (file : List ℕ) → reads old ≡ Some file
+      → LeavesOnly moment left_since old new (StandsWithin terms (may_leave old) (reads old) start told)
 
 -- what became of the disk, by how the day went
-abbrev pub CourseOn : {D : Type 0} → (faults : D → ℕ) (reads : D → Option (List ℕ)) (may_leave : D → List ℕ → Type 0) (moment : D → ℕ) (left_since : D → ℕ → List ℕ → Type 0) → Course → D → D → Type 0
+abbrev pub CourseOn : {D : Type 0}
+    → (faults : D → ℕ) (reads : D → Option (List ℕ)) (may_leave : D → List ℕ → Type 0) (moment : D → ℕ)
+    (left_since : D → ℕ → List ℕ → Type 0) → Course → D → D → Type 0
 CourseOn faults reads may_leave moment left_since unopened old new = new ≡ old
 CourseOn faults reads may_leave moment left_since (given_up r why) old new =
     GivesUp reads may_leave moment left_since (desk_terms r) old new why × HasDiskCause (faults old) (faults new) why

@@ -100,7 +100,8 @@ RaisesAmong before [] now = (times : ℕ) × (now ≡ raised times before)
 RaisesAmong before (t ∷ told) now = (times : ℕ) × RaisesAmong (count_after t.fault (raised times before)) told now
 
 -- A run of calls on a desk, whose notices may be written together.
-pub record RunsOn {D : Type 0} (faults : D → ℕ) (may_leave : D → List ℕ → Type 0) (moment : D → ℕ) (left_since : D → ℕ → List ℕ → Type 0) (old new : OnDisk D) (told : List Told) : Type 0 where
+pub record RunsOn {D : Type 0} (faults : D → ℕ) (may_leave : D → List ℕ → Type 0) (moment : D → ℕ)
+    (left_since : D → ℕ → List ℕ → Type 0) (old new : OnDisk D) (told : List Told) : Type 0 where
   pub terms : new.desk.terms ≡ old.desk.terms
   pub since : new.since ≡ old.since
   pub legal : IsLegal old.desk.terms.day old.desk.history

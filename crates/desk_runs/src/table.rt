@@ -37,7 +37,8 @@ pub fn push_books<D: Disk>(
     roster: &Roster,
 ) -> Result<(), OutOfMemory>
     requires { desk.now.desk.terms.day ≡ (desk_terms roster.now).day }
-    ensures { OnOk result (string_bytes out.new ≡ string_bytes out.old ++ closing_table roster.entry.now.campaigns (desk_terms roster.entry.now).day desk.now.desk.history) }
+    ensures { OnOk result (string_bytes out.new ≡ string_bytes out.old
+        ++ closing_table roster.entry.now.campaigns (desk_terms roster.entry.now).day desk.now.desk.history) }
 {
     push_campaigns(out, desk, roster.campaigns.as_slice())?;
     Ok(())

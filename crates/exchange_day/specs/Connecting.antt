@@ -35,7 +35,9 @@ use Rattle.exchange_day.specs.OnDisk.{ServesTogether}
 
 -- where the source tells its bytes, the first of them are a line of this roster's, and what comes behind it
 abbrev pub ComesBehind : Roster → Option Tape → Option Tape → Type 0
-ComesBehind r tape behind = WhereTold tape behind (λ before rest. (line : List ℕ) × HasNoNewline line × IsShortRoster line r × (before.left ≡ ended line ++ rest.left))
+ComesBehind r tape behind =
+    WhereTold tape behind (λ before rest. (line : List ℕ) × HasNoNewline line × IsShortRoster line r
+    × (before.left ≡ ended line ++ rest.left))
 
 -- the ends of a connection that was read to its end
 abbrev pub IsReadOut : ConnEnd → Type 0
@@ -76,9 +78,11 @@ Answered r lanes course before now end =
     EndsWith (AnswersOn WorksByTexts (IsMomentOf (Some r.now)) r) (GivesUpOn WorksByTexts (IsMomentOf (Some r.now)) r) REQUEST_LIMIT
     before.tape now.tape before.held now.held (begun lanes) course end
 
-module _ {D : Type 0} (faults : D → ℕ) (reads : D → Option (List ℕ)) (may_leave : D → List ℕ → Type 0) (moment : D → ℕ) (left_since : D → ℕ → List ℕ → Type 0) where
+module _ {D : Type 0} (faults : D → ℕ) (reads : D → Option (List ℕ)) (may_leave : D → List ℕ → Type 0) (moment : D → ℕ)
+    (left_since : D → ℕ → List ℕ → Type 0) where
   -- A roster's day was opened on a disk, and the connection that comes behind its line was served on it.
-  pub record ServesBehind (r : Roster) (behind tape_now : Option Tape) (held held_now : Option (List ℕ)) (old new : D) (result : Result (Unit {0}) Ending) : Type 0 where
+  pub record ServesBehind (r : Roster) (behind tape_now : Option Tape) (held held_now : Option (List ℕ)) (old new : D)
+      (result : Result (Unit {0}) Ending) : Type 0 where
     pub start : List Entry
     pub lanes : List (Lane RosterLink)
     pub course : Course RosterLink

@@ -23,7 +23,9 @@ abbrev pub StandsAmong : DeskTerms → (List ℕ → Type 0) → Option (List �
 StandsAmong terms images reads start told file = StandsAsRead terms images reads file ⊎ StandsInRunFrom terms start [] told file
 
 -- A day that was served on a disk, from a history, with these calls, whose notices may have been written together.
-pub record ServesTogether {D : Type 0} (faults : D → ℕ) (reads : D → Option (List ℕ)) (may_leave : D → List ℕ → Type 0) (moment : D → ℕ) (left_since : D → ℕ → List ℕ → Type 0) (terms : DeskTerms) (start : List Entry) (told : List Told) (old new : D) : Type 0 where
+pub record ServesTogether {D : Type 0} (faults : D → ℕ) (reads : D → Option (List ℕ)) (may_leave : D → List ℕ → Type 0)
+    (moment : D → ℕ) (left_since : D → ℕ → List ℕ → Type 0) (terms : DeskTerms) (start : List Entry) (told : List Told)
+    (old new : D) : Type 0 where
   -- It began with the history that the file stood for, where the disk tells what it reads.
   pub begins : (file : List ℕ) → reads old ≡ Some file → IsHistoryOf terms file start
   -- The calls are some that a day takes, and their books are those of the headline.
@@ -37,4 +39,5 @@ pub record ServesTogether {D : Type 0} (faults : D → ℕ) (reads : D → Optio
   pub keeps : (file : List ℕ) → reads old ≡ Some file → KeepsHistory (may_leave new) terms start told
   -- and a crash at any moment leaves an image from before, the history that was read, or one of the run, with at most one
   -- record.
-  pub any_moment : (file : List ℕ) → reads old ≡ Some file → LeavesOnly moment left_since old new (StandsAmong terms (may_leave old) (reads old) start told)
+  pub any_moment : (file : List ℕ) → reads old ≡ Some file
+      → LeavesOnly moment left_since old new (StandsAmong terms (may_leave old) (reads old) start told)

@@ -31,7 +31,9 @@ EndsConn ConnEnd.Spent faults result = EndsReadOut faults result
 EndsConn ConnEnd.OutOfMemory faults result = result ≡ Err (Ending.Stopped Stop.OutOfMemory)
 
 -- the connection behind a roster's line was served on a desk, and the run ended so
-pub record ServesDesk {D L : Type 0} (d : DiskGhosts D) (l : LinkGhosts L) (r : Roster) (behind tape_now : Option Tape) (held held_now : Option (List ℕ)) (lanes lanes_now : List (Lane L)) (old new : OnDisk D) (result : Result (Unit {0}) Ending) : Type 0 where
+pub record ServesDesk {D L : Type 0} (d : DiskGhosts D) (l : LinkGhosts L) (r : Roster) (behind tape_now : Option Tape)
+    (held held_now : Option (List ℕ)) (lanes lanes_now : List (Lane L)) (old new : OnDisk D)
+    (result : Result (Unit {0}) Ending) : Type 0 where
   pub end : ConnEnd
   pub behind_now : Option Tape
   pub serves : ServesConnection d l (IsMomentOf (Some r.now)) r (talked behind held) (talked behind_now held_now) lanes lanes_now old new end
@@ -39,7 +41,8 @@ pub record ServesDesk {D L : Type 0} (d : DiskGhosts D) (l : LinkGhosts L) (r : 
   pub ends : EndsConn end new.desk.faults result
 
 -- memory was refused before a day was opened
-pub record WantsMemory {D : Type 0} (behind tape_now : Option Tape) (held held_now : Option (List ℕ)) (old new : D) (result : Result (Unit {0}) Ending) : Type 0 where
+pub record WantsMemory {D : Type 0} (behind tape_now : Option Tape) (held held_now : Option (List ℕ)) (old new : D)
+    (result : Result (Unit {0}) Ending) : Type 0 where
   pub untouched : new ≡ old
   pub left : WhereTold behind tape_now (λ rest now. LeftBehind rest.left now.left)
   pub unwritten : held_now ≡ held
@@ -47,7 +50,9 @@ pub record WantsMemory {D : Type 0} (behind tape_now : Option Tape) (held held_n
 
 -- what came of a roster's day: the connection behind its line was served, or the day wasn't opened, or memory was refused
 -- before
-abbrev pub EndsRoster : {D : Type 0} → (D → ℕ) → (D → Option (List ℕ)) → (D → List ℕ → Type 0) → (D → ℕ) → (D → ℕ → List ℕ → Type 0) → Roster → Option Tape → Option Tape → Option (List ℕ) → Option (List ℕ) → D → D → Result (Unit {0}) Ending → Type 0
+abbrev pub EndsRoster : {D : Type 0} → (D → ℕ) → (D → Option (List ℕ)) → (D → List ℕ → Type 0) → (D → ℕ)
+    → (D → ℕ → List ℕ → Type 0) → Roster → Option Tape → Option Tape → Option (List ℕ) → Option (List ℕ) → D → D
+    → Result (Unit {0}) Ending → Type 0
 EndsRoster faults reads may_leave moment left_since r behind tape_now held held_now old new result =
     ServesBehind faults reads may_leave moment left_since r behind tape_now held held_now old new result
     ⊎ (GivesUpBehind faults reads may_leave moment left_since r behind tape_now held held_now old new result

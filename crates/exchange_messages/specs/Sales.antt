@@ -67,6 +67,11 @@ expanded values t = with_markup values t (text_in (member_in (codes "adm") t))
 abbrev pub HasTree : List ℕ → Tree → Type 0
 HasTree body t = IsJson body t ⊎ ((f : JsonFault) × (f ≢ JsonFault.OutOfMemory) × IsFault body f × (t ≡ null))
 
+-- the body of an awarded offer at a place, as the exchange's answer passes it on
+abbrev pub IsBodySold : Ask → Offer → ℕ → Tree → Type 0
+IsBodySold a offer place sold =
+    (t : Tree) × HasTree (texts_at a.kept place).body t × (sold ≡ expanded (markup_values a offer (texts_at a.kept place)) t)
+
 -- an award with its number, of an offer at a place: what the exchange's answer tells of it
 pub record IsSold (campaigns : List Campaign) (a : Ask) (award : ℕ × (ℕ × Offer)) (s : Sold) : Type 0 where
   pub number : s.award ≡ award.0

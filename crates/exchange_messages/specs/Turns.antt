@@ -156,7 +156,9 @@ module _ {L : Type 0} (Works : List ℕ → List ℕ → Lane L → Lane L → O
       × (((later ≡ []) × ((new ≡ old) ⊎ WereWorked (Works (spelling (request_for_bidders t)) asked.id) old new))
       ⊎ ((answers : List BidderAnswer) × Gathers Works (seen_in looked_at asked.id asked.digest) t asked old new answers
       × (now : ℕ) × IsMoment now × (ticked : Called) × (ticked.call ≡ tick now)
-      × ((later ≡ took ticked ∷ []) ⊎ ((ticked.ended ≡ was_done) × (c : Called) × (c.call ≡ ask (ask_by r asked answers now)) × (later ≡ took ticked ∷ took c ∷ [])))))
+      × ((later ≡ took ticked ∷ [])
+      ⊎ ((ticked.ended ≡ was_done) × (c : Called) × (c.call ≡ ask (ask_by r asked answers now))
+      × (later ≡ took ticked ∷ took c ∷ [])))))
 
   -- the call of a change of a budget whose reply wasn't made, for want of memory
   abbrev pub LeavesChange : List (Lane L) → Request → List Step → List (Lane L) → Type 0

@@ -7,7 +7,7 @@ ghost use Rattle.adx_units.specs.declared.offer.Offer.{Offer as Bid};
 ghost use Rattle.answer_lines.specs.Answers.{campaign_text};
 ghost use Rattle.day_rules.specs.declared.limits.TheConstants.{MAX_OFFERS};
 ghost use Rattle.script_lines.specs.declared.limits.TheConstants.{LAST_AWARD};
-ghost use Rattle.exchange_messages.specs.Sales.{HasTree, IsSale, IsSold, expanded, imp_sold, is_award_for, markup_values, sold_bids, texts_at};
+ghost use Rattle.exchange_messages.specs.Sales.{HasTree, IsSale, IsSold, expanded, imp_sold, is_award_for, sold_bids, texts_at, IsBodySold};
 ghost use Rattle.exchange_messages.specs.Selling.{AreSold, MayBeTold};
 
 use adx_json::{Json, JsonFault, read};
@@ -98,7 +98,7 @@ fn body_sold(
     offer: &Offer,
 ) -> Result<Json, OutOfMemory>
     requires { imp.now ≡ imp_sold ask.now offer.now }
-    ensures { IfOk result (λ j. (t : Tree) × HasTree (texts_at ask.entry.now.kept place).body t × (tree_of j ≡ expanded (markup_values ask.entry.now offer.entry.now (texts_at ask.entry.now.kept place)) t)) }
+    ensures { IfOk result (λ j. IsBodySold ask.entry.now offer.entry.now place (tree_of j)) }
 {
     let texts = texts_in(ask.kept.as_slice(), place);
     let values = Values {

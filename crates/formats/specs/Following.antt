@@ -6,10 +6,12 @@ use Rattle.formats.specs.Parts.{ended, IsOneLine}
 -- lines that follow one another, each with what it makes of all that the lines before it told
 pub data Leads {T : Type 0} (Follows : T → List ℕ → T → Type 0) : T → List (List ℕ) → T → Type 0 where
   no_line : (told : T) → Leads Follows told [] told
-  line_then : (told next last : T) (line : List ℕ) (lines : List (List ℕ)) → Follows told line next → Leads Follows next lines last → Leads Follows told (line ∷ lines) last
+  line_then : (told next last : T) (line : List ℕ) (lines : List (List ℕ)) → Follows told line next
+      → Leads Follows next lines last → Leads Follows told (line ∷ lines) last
 
 -- the line with this number, from 1, fails, and those before it follow one another and aren't a whole document
-pub record FailsAt {T : Type 0} (Follows : T → List ℕ → T → Type 0) (start : T) (IsWhole : T → Type 0) (Fails : T → List ℕ → Type 0) (bytes : List ℕ) (n : ℕ) : Type 0 where
+pub record FailsAt {T : Type 0} (Follows : T → List ℕ → T → Type 0) (start : T) (IsWhole : T → Type 0)
+    (Fails : T → List ℕ → Type 0) (bytes : List ℕ) (n : ℕ) : Type 0 where
   pub lines : List (List ℕ)
   pub told : T
   pub line : List ℕ

@@ -44,7 +44,8 @@ unopened_end DeskFault.OutOfMemory = Err Stop.OutOfMemory
 abbrev pub tells : Prints → Roster → Opening → Judging
 tells prints r (opened history) rest bytes outcome out = (rest ≡ Rest.Whole) × (outcome ≡ Outcome.Done) × prints r history out
 tells prints r (given_up why) rest bytes outcome out = (rest ≡ Rest.Whole) × (unopened_end why ≡ Ok outcome) × (out ≡ unopened_line why)
-tells prints r unopened rest bytes outcome out = (rest ≡ Rest.PastLimit) × (outcome ≡ Outcome.Refused) × (out ≡ roster_refused_line RosterRefusal.Long)
+tells prints r unopened rest bytes outcome out =
+    (rest ≡ Rest.PastLimit) × (outcome ≡ Outcome.Refused) × (out ≡ roster_refused_line RosterRefusal.Long)
 
 -- What the command prints of a history was put; where the sink failed, a prefix of it; and where memory was refused,
 -- nothing or a prefix of it.
@@ -52,7 +53,8 @@ abbrev pub Printed : Prints → Roster → List Entry → Option (List ℕ) → 
 Printed prints r history held held_now (Ok done) = (out : List ℕ) × prints r history out × Took held held_now out
 Printed prints r history held held_now (Err Stop.ReadFault) = ⊥
 Printed prints r history held held_now (Err Stop.WriteFault) = (out : List ℕ) × prints r history out × TookPrefix held held_now out
-Printed prints r history held held_now (Err Stop.OutOfMemory) = (held_now ≡ held) ⊎ ((out : List ℕ) × prints r history out × TookPrefix held held_now out)
+Printed prints r history held held_now (Err Stop.OutOfMemory) =
+    (held_now ≡ held) ⊎ ((out : List ℕ) × prints r history out × TookPrefix held held_now out)
 
 -- the run may end as was wanted, or cut short by the sink or for want of memory
 abbrev pub MayEndAs : Result Outcome Stop → Result Outcome Stop → Type 0
@@ -68,7 +70,8 @@ module _ {D : Type 0} (d : disk.Ghosts D) where
     -- each image stands for it afterwards,
     pub keeps : (file : List ℕ) → d.reads old ≡ Some file → Each (d.may_leave new) (λ image. IsHistoryOf (desk_terms r) image history)
     -- and a crash at any moment of the run leaves an image from before it, or a file of the same history.
-    pub any_moment : (file : List ℕ) → d.reads old ≡ Some file → LeavesOnly d.moment d.left_since old new (StandsAsRead (desk_terms r) (d.may_leave old) (d.reads old))
+    pub any_moment : (file : List ℕ) → d.reads old ≡ Some file
+        → LeavesOnly d.moment d.left_since old new (StandsAsRead (desk_terms r) (d.may_leave old) (d.reads old))
 
   -- What became of the disk, by what came of the day, and how the run ended. Where the day wasn't to be opened, the disk
   -- is as it was.
@@ -88,8 +91,15 @@ PutsNothing held held_now result = (held_now ≡ held) × (result ≡ Err Stop.O
 -- what is written once the input was read was put, or a prefix of it
 abbrev pub PutsTold : Prints → Roster → Opening → Option (List ℕ) → Option (List ℕ) → Result Outcome Stop → Type 0
 PutsTold prints r o held held_now result =
-    ((outcome : Outcome) × (out : List ℕ) × ((bytes : List ℕ) → tells prints r o Rest.Whole bytes outcome out) × PutsEnd outcome held held_now out result)
+    ((outcome : Outcome) × (out : List ℕ) × ((bytes : List ℕ) → tells prints r o Rest.Whole bytes outcome out)
+    × PutsEnd outcome held held_now out result)
     ⊎ PutsNothing held held_now result
+
+-- The roster's day was opened so, or not, which left the disk so, and what is printed of that was put.
+abbrev pub PrintsDay : {D : Type 0} → disk.Ghosts D → Prints → Roster → (old new : D)
+    → (held held_now : Option (List ℕ)) → Result Outcome Stop → Type 0
+PrintsDay d prints r old new held held_now result =
+    (o : Opening) × LeavesDay d r o old new result × PutsTold prints r o held held_now result
 
 -- the same of a day that wasn't opened
 abbrev pub PutsUnopened : DeskFault → Option (List ℕ) → Option (List ℕ) → Result Outcome Stop → Type 0

@@ -19,7 +19,8 @@ abbrev pub history_command : Prints → Option (Roster × Opening) → Meaning
 history_command prints = by_first roster_heads INPUT_LIMIT (λ r allowed o. document allowed (tells prints r o))
 
 -- Such a command ran so.
-pub record RunsHistory {S K D : Type 0} (s : source.Ghosts S) (k : sink.Ghosts K) (d : disk.Ghosts D) (prints : Prints) (old new : S) (sink_old sink_new : K) (disk_old disk_new : D) (result : Result Outcome Stop) : Type 0 where
+pub record RunsHistory {S K D : Type 0} (s : source.Ghosts S) (k : sink.Ghosts K) (d : disk.Ghosts D) (prints : Prints)
+    (old new : S) (sink_old sink_new : K) (disk_old disk_new : D) (result : Result Outcome Stop) : Type 0 where
   pub course : Option (Roster × Opening)
   -- what became of the disk,
   pub leaves : LeavesFirst (λ before now r o. LeavesDay d r o before now) disk_old disk_new course result

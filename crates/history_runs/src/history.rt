@@ -1,15 +1,15 @@
 //! What is printed of a day's history.
 ghost use Rattle.std.specs.Prelude.{◌≡◌, ◌≤◌, [], length};
-ghost use Rattle.adx_io.specs.Streams.{WhereTold};
 ghost use Rattle.adx_io.specs.Talk.{HasCauses};
 ghost use Rattle.adx_io.specs.TalkState.{place_of, state_of};
 ghost use Rattle.adx_io.specs.declared.line_buffer.TheConstants.{CHUNK};
 ghost use Rattle.adx_desk.specs.Rosters.{desk_terms};
 ghost use Rattle.command_runs.specs.Documents.{document};
-ghost use Rattle.command_runs.specs.Meanings.{PutsEnd, Wrote};
+ghost use Rattle.command_runs.specs.Meanings.{PutsEnd};
+ghost use Rattle.command_runs.specs.Talks.{TalkWrote};
 ghost use Rattle.command_runs.specs.declared.outcome.Outcome.TheVariants.{Refused};
 ghost use Rattle.day_rules.specs.DayState.{IsDay};
-ghost use Rattle.history_runs.specs.Histories.{LeavesDay, Opening, PutsTold, PutsUnopened, tells, unopened_end};
+ghost use Rattle.history_runs.specs.Histories.{LeavesDay, Opening, PrintsDay, PutsTold, PutsUnopened, tells, unopened_end};
 ghost use Rattle.history_runs.specs.Histories.Opening.{opened};
 ghost use Rattle.history_runs.specs.Runs.{RunsHistory};
 ghost use Rattle.script_day.specs.Output.{roster_refused_line};
@@ -119,7 +119,7 @@ fn print_day<P: Print, S: Source, K: Sink, D: Disk>(
     talk: &mut Talk<'_, S, K>,
 ) -> Result<Outcome, Stop>
     requires unwritten { (state_of talk.old).out ≡ [] }
-    ensures puts { (o : Opening) × LeavesDay D.Disk roster.entry.now o disk.old disk.new result × PutsTold P.prints roster.entry.now o (state_of talk.old).held (state_of talk.new).held result }
+    ensures puts { PrintsDay D.Disk P.prints roster.entry.now disk.old disk.new (state_of talk.old).held (state_of talk.new).held result }
     ensures lasts { D.lasts disk.old disk.new }
     ensures rest { talk.new.source ≡ talk.old.source }
     ensures causes { HasCauses (state_of talk.old) (state_of talk.new) result }
@@ -162,7 +162,8 @@ fn print_rest<P: Print, S: Source, K: Sink, D: Disk>(
 ) -> Result<Outcome, Stop>
     requires unwritten { (state_of talk.old).out ≡ [] }
     requires ahead { length talk.old.buffer.now.pending ≤ CHUNK }
-    ensures ran { (o : Opening) × LeavesDay D.Disk roster.entry.now o disk.old disk.new result × WhereTold (state_of talk.old).tape (S.tape talk.new.source.now) (λ before now. Wrote (document (state_of talk.old).allowed (tells P.prints roster.entry.now o)) before.left now.left (K.held talk.old.sink.now) (K.held talk.new.sink.now) result) }
+    ensures ran { (o : Opening) × LeavesDay D.Disk roster.entry.now o disk.old disk.new result
+        × TalkWrote (document (state_of talk.old).allowed (tells P.prints roster.entry.now o)) talk.old talk.new result }
     ensures lasts { D.lasts disk.old disk.new }
     ensures causes { HasCauses (state_of talk.old) (state_of talk.new) result }
     ensures same { place_of talk.new ≡ place_of talk.old }

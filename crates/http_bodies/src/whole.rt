@@ -29,7 +29,8 @@ fn chunk_line_in(bytes: &[u8]) -> Option<(u64, &[u8])>
 /// The bytes behind a chunk's data and its end; None where they aren't there.
 fn behind_data(bytes: &[u8], size: usize) -> Option<&[u8]>
     requires { size < 2 ^ 32 }
-    ensures { MatchOption result (EndsBadly size bytes.now ⊎ (length bytes.now < size + 2)) (λ rest. (b : List ℕ) × (length b ≡ size) × (bytes.now ≡ (b ++ crlf_bytes) ++ rest.now)) }
+    ensures { MatchOption result (EndsBadly size bytes.now ⊎ (length bytes.now < size + 2))
+        (λ rest. (b : List ℕ) × (length b ≡ size) × (bytes.now ≡ (b ++ crlf_bytes) ++ rest.now)) }
 {
     if bytes.len() < size + 2 {
         return None;
@@ -43,7 +44,8 @@ fn behind_data(bytes: &[u8], size: usize) -> Option<&[u8]>
 
 /// Whether the bytes begin with a whole trailer.
 fn has_trailer(bytes: &[u8]) -> bool
-    ensures { MatchBool result ((trailer rest : List ℕ) × IsTrailer trailer × (bytes.now ≡ trailer ++ rest)) (IsBadTrailer bytes.now ⊎ IsOpenTrailer bytes.now) }
+    ensures { MatchBool result ((trailer rest : List ℕ) × IsTrailer trailer × (bytes.now ≡ trailer ++ rest))
+        (IsBadTrailer bytes.now ⊎ IsOpenTrailer bytes.now) }
 {
     let mut at = 0;
     let mut lines = 0;

@@ -97,7 +97,11 @@ impl Buffer {
     /// over since the last ones were joined.
     pub fn keep(&mut self, count: usize)
         requires { count ≤ length self.old.pending }
-        ensures { self.new ≡ record self.old { kept = self.old.kept ++ take count self.old.pending; pending = drop count self.old.pending } }
+        ensures { self.new ≡ record self.old {
+          kept = self.old.kept
+              ++ take count self.old.pending;
+          pending = drop count self.old.pending;
+        } }
     {
         self.offsets = join(&mut self.bytes, self.offsets, count);
     }

@@ -21,7 +21,8 @@ pub enum Line {
 
 /// The place of the first line feed.
 fn feed_in(bytes: &[u8]) -> Option<usize>
-    ensures { MatchOption result (IsLine bytes.now) (λ n. (n < length bytes.now) × IsLine (take n bytes.now) × (bytes.now ≡ take n bytes.now ++ 10 ∷ drop (n + 1) bytes.now)) }
+    ensures { MatchOption result (IsLine bytes.now)
+        (λ n. (n < length bytes.now) × IsLine (take n bytes.now) × (bytes.now ≡ take n bytes.now ++ 10 ∷ drop (n + 1) bytes.now)) }
 {
     memchr(b'\n', bytes)
 }

@@ -43,7 +43,9 @@ pub record AnswersMessage (before now : ConnState) (old new : Option Tape) (resu
   pub failed : before.failed ≡ true → (result ≡ Err HttpFault.Cut) × (now ≡ before) × (new ≡ old)
   pub sound : before.failed ≡ false → now.failed ≡ is_err result
   pub told : before.failed ≡ false → WhereTold old new (λ o n. GivesMessage before.limit (before.held ++ o.left) result (now.held ++ n.left))
-  pub unread : result ≡ Err HttpFault.ReadFault → WhereTold old new (λ o n. (given : List ℕ) × (o.left ≡ given ++ n.left) × IsUnfinishedRequest before.limit (before.held ++ given))
+  pub unread : result ≡ Err HttpFault.ReadFault
+      → WhereTold old new (λ o n. (given : List ℕ) × (o.left ≡ given ++ n.left)
+      × IsUnfinishedRequest before.limit (before.held ++ given))
   pub fits : (m : Message) → result ≡ Ok (Some m) → length now.held ≤ room_of before.limit
   pub advances : Advances old new
 
@@ -61,5 +63,7 @@ pub record AnswersResponse (before now : ConnState) (old new : Option Tape) (res
   pub failed : before.failed ≡ true → (result ≡ Err HttpFault.Cut) × (now ≡ before) × (new ≡ old)
   pub sound : before.failed ≡ false → now.failed ≡ is_err result
   pub told : before.failed ≡ false → WhereTold old new (λ o n. GivesResponse before.limit (before.held ++ o.left) result (now.held ++ n.left))
-  pub unread : result ≡ Err HttpFault.ReadFault → WhereTold old new (λ o n. (given : List ℕ) × (o.left ≡ given ++ n.left) × IsUnfinishedResponse before.limit (before.held ++ given))
+  pub unread : result ≡ Err HttpFault.ReadFault
+      → WhereTold old new (λ o n. (given : List ℕ) × (o.left ≡ given ++ n.left)
+      × IsUnfinishedResponse before.limit (before.held ++ given))
   pub advances : Advances old new

@@ -39,12 +39,18 @@ RequestStays = (limit : ℕ) (front more : List ℕ) (m : Request) (rest : List 
 
 -- a fault of the front is one of all bytes, but for the front's own end
 abbrev pub RequestFaultStays : Type 0
-RequestFaultStays = (limit : ℕ) (front more : List ℕ) (fault : HttpFault) → (fault ≢ HttpFault.Cut) → RefusesRequest limit front fault → RefusesRequest limit (front ++ more) fault
+RequestFaultStays =
+    (limit : ℕ) (front more : List ℕ) (fault : HttpFault) → (fault ≢ HttpFault.Cut) → RefusesRequest limit front fault
+    → RefusesRequest limit (front ++ more) fault
 
 -- the same for a response whose body doesn't go to the end of the bytes
 abbrev pub ResponseStays : Type 0
-ResponseStays = (limit : ℕ) (front more : List ℕ) (m : ResponseRead) (rest : List ℕ) → (r : IsResponseThen limit front m rest) → (body_of_response (IsResponseThen.framing r) ≢ Body.ToEnd)
+ResponseStays =
+    (limit : ℕ) (front more : List ℕ) (m : ResponseRead) (rest : List ℕ) → (r : IsResponseThen limit front m rest)
+    → (body_of_response (IsResponseThen.framing r) ≢ Body.ToEnd)
     → IsResponseThen limit (front ++ more) m (rest ++ more)
 
 abbrev pub ResponseFaultStays : Type 0
-ResponseFaultStays = (limit : ℕ) (front more : List ℕ) (fault : HttpFault) → (fault ≢ HttpFault.Cut) → RefusesResponse limit front fault → RefusesResponse limit (front ++ more) fault
+ResponseFaultStays =
+    (limit : ℕ) (front more : List ℕ) (fault : HttpFault) → (fault ≢ HttpFault.Cut)
+    → RefusesResponse limit front fault → RefusesResponse limit (front ++ more) fault

@@ -24,7 +24,8 @@ pub(crate) fn field<'a>(head: &'a [u8], spans: &[HeaderSpan], i: usize) -> (&'a 
     requires inside { i < length spans.now }
     requires within { AreWithin head.now spans.now }
     ensures next { take (i + 1) (pairs_at head.now spans.now) ≡ take i (pairs_at head.now spans.now) ++ (result.0.now, result.1.now) ∷ [] }
-    ensures among { pairs_at head.now spans.now ≡ take i (pairs_at head.now spans.now) ++ (result.0.now, result.1.now) ∷ drop (i + 1) (pairs_at head.now spans.now) }
+    ensures among { pairs_at head.now spans.now ≡ take i (pairs_at head.now spans.now)
+        ++ (result.0.now, result.1.now) ∷ drop (i + 1) (pairs_at head.now spans.now) }
 {
     let span = spans[i];
     (span.name.of(head), span.value.of(head))

@@ -64,7 +64,8 @@ pub(crate) fn request_framing(
     limit: u32,
 ) -> Result<Framing, HttpFault>
     requires { AreWithin head.now spans.now }
-    ensures { MatchResult result (IsSoundRequest limit minor is_post (pairs_at head.now spans.now)) (FailsRequest limit minor is_post (pairs_at head.now spans.now)) }
+    ensures { MatchResult result (IsSoundRequest limit minor is_post (pairs_at head.now spans.now))
+        (FailsRequest limit minor is_post (pairs_at head.now spans.now)) }
 {
     let form = match form_of(head, spans) {
         Some(form) if has_host(minor, head, spans) => form,
@@ -93,7 +94,8 @@ pub(crate) fn response_framing(
     limit: u32,
 ) -> Result<Option<Framing>, HttpFault>
     requires { AreWithin head.now spans.now }
-    ensures { MatchResult result (IsSoundResponse limit status (pairs_at head.now spans.now)) (FailsResponse limit status (pairs_at head.now spans.now)) }
+    ensures { MatchResult result (IsSoundResponse limit status (pairs_at head.now spans.now))
+        (FailsResponse limit status (pairs_at head.now spans.now)) }
 {
     let Some(form) = form_of(head, spans) else {
         return Err(HttpFault::BadHead);

@@ -80,7 +80,8 @@ pub(crate) fn number_within(digits: &[u8], limit: u32) -> Option<usize>
 fn lengths_with<'a>(found: Lengths<'a>, is_one: bool, value: &'a [u8]) -> Lengths<'a>
     requires { FirstIsDigits found }
     ensures first { FirstIsDigits result }
-    ensures after { (values : List (List ℕ)) → AreLengths found.entry values → AreLengths result (values ++ cond is_one (value.now ∷ []) []) }
+    ensures after { (values : List (List ℕ)) → AreLengths found.entry values
+        → AreLengths result (values ++ cond is_one (value.now ∷ []) []) }
 {
     if !is_one {
         return found;

@@ -83,7 +83,8 @@ fn parts_at(
 /// The request's head that the bytes begin with, for bodies of at most `limit` bytes; None where
 /// they begin with no head of the grammar that has at most as many fields as there are `spans`.
 pub fn first_request(bytes: &[u8], spans: &mut [HeaderSpan], limit: u32) -> Option<FirstRequest>
-    ensures exact { MatchOption result (BeginsWithNoRequest (length spans.old) bytes.now) (BeginsWithRequest (length spans.old) limit bytes.now) }
+    ensures exact { MatchOption result (BeginsWithNoRequest (length spans.old) bytes.now)
+        (BeginsWithRequest (length spans.old) limit bytes.now) }
     ensures within { IfSome result (λ f. f.len ≤ length bytes.now) }
     ensures target { IfSome result (λ f. IfOk f.parts (λ p. (p.target.start ≤ p.target.end) × (p.target.end ≤ f.len))) }
 {

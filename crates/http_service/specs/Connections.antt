@@ -78,7 +78,8 @@ abbrev pub TookWithFront : Option (List ℕ) → Option (List ℕ) → List ℕ 
 TookWithFront held held_now out bytes = (front back : List ℕ) × (bytes ≡ front ++ back) × Took held held_now (out ++ front)
 
 -- a message is refused for this fault, and its reply is written behind those to the messages before it
-pub record Refuses {S : Type 0} (answers : Answering S) (limit : ℕ) (tape tape_now : Option Tape) (held held_now : Option (List ℕ)) (s now : S) (fault : HttpFault) : Type 0 where
+pub record Refuses {S : Type 0} (answers : Answering S) (limit : ℕ) (tape tape_now : Option Tape)
+    (held held_now : Option (List ℕ)) (s now : S) (fault : HttpFault) : Type 0 where
   pub ms : List Request
   pub out : List ℕ
   pub status : ℕ
@@ -89,7 +90,8 @@ pub record Refuses {S : Type 0} (answers : Answering S) (limit : ℕ) (tape tape
   pub brings : Brings limit tape tape_now ms (λ rest. RefusesRequest limit rest fault)
 
 -- the sink failed within the reply to a message that is refused for this fault; it took the replies to all before it
-pub record FailsRefusing {S : Type 0} (answers : Answering S) (limit : ℕ) (tape tape_now : Option Tape) (held held_now : Option (List ℕ)) (s now : S) (fault : HttpFault) : Type 0 where
+pub record FailsRefusing {S : Type 0} (answers : Answering S) (limit : ℕ) (tape tape_now : Option Tape)
+    (held held_now : Option (List ℕ)) (s now : S) (fault : HttpFault) : Type 0 where
   pub ms : List Request
   pub out : List ℕ
   pub status : ℕ

@@ -13,7 +13,8 @@ use Rattle.http_service.specs.Replies.{fault_status, refusal_bytes, reply_to}
 use Rattle.http_service.specs.declared.answer.Answer.{Answer}
 
 -- a message was answered, and of its reply this was written
-pub record Answers {S : Type 0} (answers : Answering S) (Takes : Option (List ℕ) → Option (List ℕ) → List ℕ → Type 0) (held held_now : Option (List ℕ)) (s now : S) (m : Request) : Type 0 where
+pub record Answers {S : Type 0} (answers : Answering S) (Takes : Option (List ℕ) → Option (List ℕ) → List ℕ → Type 0)
+    (held held_now : Option (List ℕ)) (s now : S) (m : Request) : Type 0 where
   pub answer : Answer
   pub body : List ℕ
   pub answered : answers s m answer body now
@@ -61,7 +62,8 @@ abbrev pub FindsGiven : List ℕ → Option Tape → Option Tape → (List ℕ �
 FindsGiven ahead tape tape_now Rest = WhereTold tape tape_now (λ before now. (given : List ℕ) × (before.left ≡ given ++ now.left) × Rest (ahead ++ given))
 
 -- what came of the next message of a connection: it was replied, and more may come (None); or the connection ended so
-abbrev pub StepGives : {S : Type 0} → Answering S → GivingUp S → ℕ → List ℕ → List ℕ → Option Tape → Option Tape → Option (List ℕ) → Option (List ℕ) → S → S → Option ConnEnd → Type 0
+abbrev pub StepGives : {S : Type 0} → Answering S → GivingUp S → ℕ → List ℕ → List ℕ → Option Tape → Option Tape
+    → Option (List ℕ) → Option (List ℕ) → S → S → Option ConnEnd → Type 0
 StepGives answers gives_up limit ahead ahead_now tape tape_now held held_now s now None =
     (m : Request) × BringsOne limit ahead ahead_now tape tape_now m × MessageEnds answers gives_up held held_now s now m None
 StepGives answers gives_up limit ahead ahead_now tape tape_now held held_now s now (Some ConnEnd.Closed) =
@@ -81,7 +83,8 @@ StepGives answers gives_up limit ahead ahead_now tape tape_now held held_now s n
     (m : Request) × BringsOne limit ahead ahead_now tape tape_now m × MessageEnds answers gives_up held held_now s now m (Some ConnEnd.OutOfMemory)
 
 -- so many messages were served, and more may come
-pub record Runs {S : Type 0} (answers : Answering S) (limit count : ℕ) (ahead : List ℕ) (tape tape_now : Option Tape) (held held_now : Option (List ℕ)) (s now : S) : Type 0 where
+pub record Runs {S : Type 0} (answers : Answering S) (limit count : ℕ) (ahead : List ℕ) (tape tape_now : Option Tape)
+    (held held_now : Option (List ℕ)) (s now : S) : Type 0 where
   pub ms : List Request
   pub many : length ms ≡ count
   pub kept : All (λ (m : Request). is_kept m.head ≡ true) ms

@@ -23,7 +23,8 @@ fn serve_message<V: Service, K: Sink>(
     service: &mut V,
     sink: &mut K,
 ) -> Option<ConnEnd>
-    ensures ends { (m : Request) → Shows message.now m → MessageEnds V.answers V.gives_up (K.held sink.old) (K.held sink.new) service.old service.new m result }
+    ensures ends { (m : Request) → Shows message.now m
+        → MessageEnds V.answers V.gives_up (K.held sink.old) (K.held sink.new) service.old service.new m result }
     ensures causes { (faults : ℕ) → StepCauses faults faults (K.faults sink.old) (K.faults sink.new) result }
     ensures service { V.place service.new ≡ V.place service.old }
     ensures sink { K.place sink.new ≡ K.place sink.old }
@@ -88,7 +89,8 @@ fn serve_next<V: Service, S: Source, K: Sink>(
     sink: &mut K,
 ) -> Option<ConnEnd>
     requires sound { conn.old.failed ≡ false }
-    ensures gives { StepGives V.answers V.gives_up conn.old.limit conn.old.held conn.new.held (S.tape source.old) (S.tape source.new) (K.held sink.old) (K.held sink.new) service.old service.new result }
+    ensures gives { StepGives V.answers V.gives_up conn.old.limit conn.old.held conn.new.held (S.tape source.old)
+        (S.tape source.new) (K.held sink.old) (K.held sink.new) service.old service.new result }
     ensures causes { StepCauses (S.faults source.old) (S.faults source.new) (K.faults sink.old) (K.faults sink.new) result }
     ensures limit { conn.new.limit ≡ conn.old.limit }
     ensures sound { IsNone result → conn.new.failed ≡ false }
@@ -114,7 +116,8 @@ pub fn serve_messages<V: Service, S: Source, K: Sink>(
     source: &mut S,
     sink: &mut K,
 ) -> ConnEnd
-    ensures ends { EndsWith V.answers V.gives_up request_limit (S.tape source.old) (S.tape source.new) (K.held sink.old) (K.held sink.new) service.old service.new result }
+    ensures ends { EndsWith V.answers V.gives_up request_limit (S.tape source.old) (S.tape source.new)
+        (K.held sink.old) (K.held sink.new) service.old service.new result }
     ensures causes { HasCauses (S.faults source.old) (S.faults source.new) (K.faults sink.old) (K.faults sink.new) result }
     ensures service { V.place service.new ≡ V.place service.old }
     ensures source { S.place source.new ≡ S.place source.old }

@@ -75,7 +75,8 @@ fn push_pieces(
     behind: &str,
     values: &Values<'_>,
 ) -> Result<(), OutOfMemory>
-    ensures { OnOk result (string_bytes out.new ≡ string_bytes out.old ++ flat_map (behind_dollar place values.now) (slice_split is_dollar behind.now)) }
+    ensures { OnOk result (string_bytes out.new ≡ string_bytes out.old
+        ++ flat_map (behind_dollar place values.now) (slice_split is_dollar behind.now)) }
 {
     let mut left = behind;
     'pieces: loop {

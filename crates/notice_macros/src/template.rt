@@ -9,7 +9,9 @@ use memchr::memchr;
 /// What stands before and behind the first such byte, a character of ASCII.
 pub(crate) fn cut_at(text: &str, mark: u8) -> Option<(&str, &str)>
     requires { mark < 128 }
-    ensures { MatchOption result (list_any (λ b. b == mark) text.now ≡ false) (λ x. (list_any (λ b. b == mark) text.now ≡ true) × (x.0.now ≡ before_first (λ b. b == mark) text.now) × (x.1.now ≡ after_first (λ b. b == mark) text.now)) }
+    ensures { MatchOption result (list_any (λ b. b == mark) text.now ≡ false)
+        (λ x. (list_any (λ b. b == mark) text.now ≡ true) × (x.0.now ≡ before_first (λ b. b == mark) text.now)
+        × (x.1.now ≡ after_first (λ b. b == mark) text.now)) }
 {
     let at = memchr(mark, text.as_bytes())?;
     Some((&text[..at], &text[at + 1..]))
@@ -17,7 +19,8 @@ pub(crate) fn cut_at(text: &str, mark: u8) -> Option<(&str, &str)>
 
 /// What stands before the first `$`, and what behind it.
 pub(crate) fn cut_at_dollar(text: &str) -> Option<(&str, &str)>
-    ensures pieces { MatchOption result (slice_split is_dollar text.now ≡ text.now ∷ []) (λ x. slice_split is_dollar text.now ≡ x.0.now ∷ slice_split is_dollar x.1.now) }
+    ensures pieces { MatchOption result (slice_split is_dollar text.now ≡ text.now ∷ [])
+        (λ x. slice_split is_dollar text.now ≡ x.0.now ∷ slice_split is_dollar x.1.now) }
     ensures shorter { IfSome result (λ x. length x.1.now < length text.now) }
 {
     cut_at(text, b'$')

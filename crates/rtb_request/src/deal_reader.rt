@@ -36,8 +36,10 @@ pub(crate) fn deals_of(alloc: Global, trees: &[Json]) -> Result<Vec<Deal>, Reque
 /// Adds a deal where it counts, or tells its first fault. Memory is asked for once every test holds.
 #[tactic(auto, using(crate::proofs::DealSteps::among_seen, crate::proofs::DealSteps::pushed_seen, crate::proofs::DealSteps::pushed_distinct))]
 fn add_deal(alloc: Global, deals: &mut Vec<Deal>, tree: &Json) -> Result<(), RequestFault>
-    ensures gives { Gives lacks_memory (λ _. map seen_deal deals.new.items) result (judged (deal_checks (tree_of tree.now)) (with_deal (map seen_deal deals.old.items) (tree_of tree.now))) }
-    ensures distinct { all_distinct (map (λ d. d.id) deals.old.items) ≡ true → OnOk result (all_distinct (map (λ d. d.id) deals.new.items) ≡ true) }
+    ensures gives { Gives lacks_memory (λ _. map seen_deal deals.new.items) result
+        (judged (deal_checks (tree_of tree.now)) (with_deal (map seen_deal deals.old.items) (tree_of tree.now))) }
+    ensures distinct { all_distinct (map (λ d. d.id) deals.old.items) ≡ true
+        → OnOk result (all_distinct (map (λ d. d.id) deals.new.items) ≡ true) }
 {
     let found = deal_members(tree);
     let Some(id) = text_in(found.id) else {

@@ -26,7 +26,8 @@ pub(crate) fn imps_of(
     dollars: bool,
     trees: &[Json],
 ) -> Result<Vec<Imp>, RequestFault>
-    ensures gives { Gives lacks_memory (λ imps. map seen_imp imps.items) result (judged (imps_checks [] (trees_of trees.now)) (map (imp_view dollars) (trees_of trees.now))) }
+    ensures gives { Gives lacks_memory (λ imps. map seen_imp imps.items) result
+        (judged (imps_checks [] (trees_of trees.now)) (map (imp_view dollars) (trees_of trees.now))) }
     ensures distinct { IfOk result (λ imps. all_distinct (map (λ i. i.id) imps.items) ≡ true) }
     ensures count { IfOk result (λ imps. length imps.items ≡ length trees.now) }
 {
@@ -47,8 +48,11 @@ fn add_imp(
     dollars: bool,
     tree: &Json,
 ) -> Result<(), RequestFault>
-    ensures gives { Gives lacks_memory (λ _. map seen_imp imps.new.items) result (judged (imp_checks (map (λ i. i.id) imps.old.items) (tree_of tree.now)) (map seen_imp imps.old.items ++ imp_view dollars (tree_of tree.now) ∷ [])) }
-    ensures distinct { all_distinct (map (λ i. i.id) imps.old.items) ≡ true → OnOk result (all_distinct (map (λ i. i.id) imps.new.items) ≡ true) }
+    ensures gives { Gives lacks_memory (λ _. map seen_imp imps.new.items) result
+        (judged (imp_checks (map (λ i. i.id) imps.old.items) (tree_of tree.now))
+        (map seen_imp imps.old.items ++ imp_view dollars (tree_of tree.now) ∷ [])) }
+    ensures distinct { all_distinct (map (λ i. i.id) imps.old.items) ≡ true
+        → OnOk result (all_distinct (map (λ i. i.id) imps.new.items) ≡ true) }
     ensures count { OnOk result (length imps.new.items ≡ length imps.old.items + 1) }
 {
     let found = imp_members(tree);

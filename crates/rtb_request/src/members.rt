@@ -101,7 +101,8 @@ pub(crate) struct PmpMembers<'a> {
 }
 
 fn pmp_members(tree: &Json) -> PmpMembers<'_>
-    ensures private_auction { option_map (λ t. tree_of t.now) result.private_auction ≡ given_in (codes "private_auction") (tree_of tree.now) }
+    ensures private_auction { option_map (λ t. tree_of t.now) result.private_auction
+        ≡ given_in (codes "private_auction") (tree_of tree.now) }
     ensures deals { option_map (λ t. tree_of t.now) result.deals ≡ given_in (codes "deals") (tree_of tree.now) }
 {
     let mut private_auction = None;
@@ -118,8 +119,10 @@ fn pmp_members(tree: &Json) -> PmpMembers<'_>
 
 /// The members of a pmp that may be absent.
 pub(crate) fn members_of_pmp(pmp: Option<&Json>) -> PmpMembers<'_>
-    ensures private_auction { option_map (λ t. tree_of t.now) result.private_auction ≡ given_within (codes "private_auction") (option_map (λ t. tree_of t.now) pmp.entry) }
-    ensures deals { option_map (λ t. tree_of t.now) result.deals ≡ given_within (codes "deals") (option_map (λ t. tree_of t.now) pmp.entry) }
+    ensures private_auction { option_map (λ t. tree_of t.now) result.private_auction
+        ≡ given_within (codes "private_auction") (option_map (λ t. tree_of t.now) pmp.entry) }
+    ensures deals { option_map (λ t. tree_of t.now) result.deals
+        ≡ given_within (codes "deals") (option_map (λ t. tree_of t.now) pmp.entry) }
 {
     match pmp {
         Some(tree) => pmp_members(tree),

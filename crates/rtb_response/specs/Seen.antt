@@ -7,7 +7,23 @@ use Rattle.rtb_response.specs.declared.bid_answer.SeatBid.{SeatBid}
 use Rattle.rtb_response.specs.declared.bid_answer.BidAnswer.{BidAnswer}
 
 abbrev pub seen_bid : Bid → BidView
-seen_bid b = record { whole = b.whole; id = b.id; impid = b.impid; price = b.price; nurl = b.nurl; burl = b.burl; lurl = b.lurl; adid = b.adid; adomain = b.adomain; cid = b.cid; cat = b.cat; dealid = b.dealid; exp = b.exp; body = b.body }
+seen_bid b =
+    record {
+      whole = b.whole;
+      id = b.id;
+      impid = b.impid;
+      price = b.price;
+      nurl = b.nurl;
+      burl = b.burl;
+      lurl = b.lurl;
+      adid = b.adid;
+      adomain = b.adomain;
+      cid = b.cid;
+      cat = b.cat;
+      dealid = b.dealid;
+      exp = b.exp;
+      body = b.body;
+    }
 
 abbrev pub seen_seat : SeatBid → SeatView
 seen_seat s = record { seat = s.seat; all_or_none = s.all_or_none; bids = map seen_bid s.bids }

@@ -34,7 +34,9 @@ fn place_of(name: &str) -> usize
 /// Keeps a member's value at the place of its name. The first member of a name counts.
 pub(crate) fn keep<'a>(found: &mut [Option<&'a Json>], member: &'a Member)
     requires { length found.old ≡ KNOWN_NAMES }
-    ensures { (k : ℕ) → k < KNOWN_NAMES → option_map (λ t. tree_of t.now) (slice_index_or found.new k None) ≡ with_member (slice_index_or bid_names k []) (option_map (λ t. tree_of t.now) (slice_index_or found.old k None)) (member_of member.now) }
+    ensures { (k : ℕ) → k < KNOWN_NAMES → option_map (λ t. tree_of t.now) (slice_index_or found.new k None)
+        ≡ with_member (slice_index_or bid_names k [])
+        (option_map (λ t. tree_of t.now) (slice_index_or found.old k None)) (member_of member.now) }
 {
     let place = place_of(member.name.as_str());
     if place < KNOWN_NAMES && found[place].is_none() {

@@ -40,7 +40,8 @@ pub(crate) fn push_passed_on(
     first: bool,
     members: &[Member],
 ) -> Result<(), OutOfMemory>
-    ensures { OnOk result (string_bytes out.new ≡ string_bytes out.old ++ left_members first (passed_on (members_of (members_view members.now)))) }
+    ensures { OnOk result (string_bytes out.new ≡ string_bytes out.old
+        ++ left_members first (passed_on (members_of (members_view members.now)))) }
 {
     let mut is_first = first;
     for member in members {

@@ -59,7 +59,8 @@ fn push_seats(
     to: &Addressed<'_>,
     sold: &[Sold],
 ) -> Result<(), OutOfMemory>
-    ensures { OnOk result (string_bytes out.new ≡ string_bytes out.old ++ items_spelling (items_of (map (seat_tree (url_of to.now.base.now to.now.auction.now)) sold.now))) }
+    ensures { OnOk result (string_bytes out.new ≡ string_bytes out.old
+        ++ items_spelling (items_of (map (seat_tree (url_of to.now.base.now to.now.auction.now)) sold.now))) }
 {
     let mut url = String::new(alloc);
     let mut first = true;
@@ -78,7 +79,8 @@ fn push_seat(
     to: &Addressed<'_>,
     award: &Sold,
 ) -> Result<(), OutOfMemory>
-    ensures { OnOk result (string_bytes out.new ≡ string_bytes out.old ++ spelling (seat_tree (url_of to.now.base.now to.now.auction.now) award.now)) }
+    ensures { OnOk result (string_bytes out.new ≡ string_bytes out.old
+        ++ spelling (seat_tree (url_of to.now.base.now to.now.auction.now) award.now)) }
 {
     out.push_str("{\"seat\":")?;
     push_text(out, award.seat.as_str())?;
@@ -95,7 +97,8 @@ fn push_bid(
     to: &Addressed<'_>,
     award: &Sold,
 ) -> Result<(), OutOfMemory>
-    ensures { OnOk result (string_bytes out.new ≡ string_bytes out.old ++ spelling (bid_tree (url_of to.now.base.now to.now.auction.now) award.now)) }
+    ensures { OnOk result (string_bytes out.new ≡ string_bytes out.old
+        ++ spelling (bid_tree (url_of to.now.base.now to.now.auction.now) award.now)) }
 {
     out.push_str("{")?;
     push_own(out, award)?;
@@ -126,7 +129,8 @@ fn push_notices(
     to: &Addressed<'_>,
     award: u32,
 ) -> Result<(), OutOfMemory>
-    ensures { OnOk result (string_bytes out.new ≡ string_bytes out.old ++ more_members_spelling (notice_members (url_of to.now.base.now to.now.auction.now award))) }
+    ensures { OnOk result (string_bytes out.new ≡ string_bytes out.old
+        ++ more_members_spelling (notice_members (url_of to.now.base.now to.now.auction.now award))) }
 {
     push_notice(out, url, to, award, Notice::Win)?;
     push_notice(out, url, to, award, Notice::Bill)?;

@@ -73,7 +73,8 @@ pub(crate) fn push_notice(
     award: u32,
     notice: Notice,
 ) -> Result<(), OutOfMemory>
-    ensures { OnOk result (string_bytes out.new ≡ string_bytes out.old ++ (front_by notice ++ text_spelling (url_of to.now.base.now to.now.auction.now award notice))) }
+    ensures { OnOk result (string_bytes out.new ≡ string_bytes out.old
+        ++ (front_by notice ++ text_spelling (url_of to.now.base.now to.now.auction.now award notice))) }
 {
     set_url(url, to, award, notice)?;
     out.push_str(front_of(notice))?;

@@ -82,7 +82,8 @@ module _ (r : Roster) (t : Tree) where
       m ≡ notice_meaning (kind_in kind) (text_in (member_in (codes "auction") t)) (award_in (member_in (codes "bid") t))
   MeansBy None None (Some moment) budget m = m ≡ tick_meaning (moment_in (Some moment))
   MeansBy None None None (Some budget) m =
-      m ≡ change_meaning (change_in r.campaigns (text_in (member_in (codes "seat") t)) (text_in (member_in (codes "cid") t)) (number_in (member_in (codes "change") t)) (number_in (Some budget)))
+      m ≡ change_meaning (change_in r.campaigns (text_in (member_in (codes "seat") t))
+      (text_in (member_in (codes "cid") t)) (number_in (member_in (codes "change") t)) (number_in (Some budget)))
   MeansBy None None None None m = m ≡ refused NoCall
 
   -- what a line's value means

@@ -1,7 +1,6 @@
 -- What came of the connection is what the run wrote.
-use Rattle.std.proofs.Common.{◌≡◌, sym, subst, arith, Result}
+use Rattle.std.proofs.Common.{sym, subst, arith, Result}
 use Rattle.adx_io.specs.declared.stop.Stop.{Stop}
-use Rattle.adx_io.specs.Lines.{tape_behind}
 use Rattle.adx_io.specs.Streams.{WhereTold}
 use Rattle.adx_io.specs.TalkState.{state_of}
 use Rattle.bidder_http.specs.Messages.{BidderAnswers, BidderGivesUp}

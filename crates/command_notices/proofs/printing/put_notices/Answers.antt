@@ -1,5 +1,5 @@
 -- The lines of the pending posts are those of the history.
-use Rattle.std.proofs.Common.{◌∙◌, List, ap, inl, refl, subst}
+use Rattle.std.proofs.Common.{◌∙◌, List, inl, refl, subst}
 use Rattle.outbox.specs.declared.post.Post.{Post}
 use Rattle.history_runs.specs.Putting.{PutsBytes}
 use Rattle.history_runs.proofs.Putting.{printed_by}
