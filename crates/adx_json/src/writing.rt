@@ -1,6 +1,6 @@
 //! The one compact spelling of a tree.
 ghost use Rattle.std.specs.Prelude.{◌≡◌, ◌≤◌, ◌++◌, ◌∷◌, [], IfOk, OnOk, string_bytes, decimal, if◌then◌else◌};
-ghost use Rattle.adx_json.specs.Tree.{items_of, members_of, levels};
+ghost use Rattle.adx_json.specs.Tree.{Tree, items_of, members_of, levels};
 ghost use Rattle.adx_json.specs.Grammar.{IsJson};
 ghost use Rattle.adx_json.specs.WellFormed.{IsWellFormed, HasUtf8, AllHaveUtf8, MembersHaveUtf8};
 ghost use Rattle.adx_json.specs.Spelling.{spelling, items_spelling, members_spelling};
@@ -13,10 +13,12 @@ use itoa::Buffer;
 use std::alloc::Global;
 
 /// The compact spelling of a tree: the one JSON text (RFC 8259) of it with no white space and no needless escape.
-/// What is written of a well-formed tree of at most 64 levels is read back as that tree.
+/// What is written of a well-formed tree of at most 64 levels is read back as that tree, and is no text of another.
 pub fn write(alloc: Global, tree: &Json) -> Result<Text, OutOfMemory>
     ensures spelled { IfOk result (λ t. t ≡ spelling (tree_of tree.now)) }
     ensures back { IsWellFormed (tree_of tree.now) → levels (tree_of tree.now) ≤ 64 → IfOk result (λ t. IsJson t (tree_of tree.now)) }
+    ensures only { IsWellFormed (tree_of tree.now) → levels (tree_of tree.now) ≤ 64
+        → IfOk result (λ t. (u : Tree) → IsJson t u → u ≡ tree_of tree.now) }
 {
     let mut out = String::new(alloc);
     push_value(&mut out, tree)?;
