@@ -8,9 +8,9 @@ use Rattle.day_journal.specs.Places.{IsClosed, IsFormat, IsPayload, StandsFor, o
 use Rattle.day_journal.specs.Tails.{JournalState, Keeps, WithAtMostOne as WithOnePayload}
 use Rattle.day_journal.proofs.Moments.{joined, weaker}
 use Rattle.day_rules.specs.declared.entry.Entry.{Entry}
-use Rattle.adx_desk.specs.Histories.{AreRecords, DeskTerms, SameHistories}
+use Rattle.adx_desk.specs.Histories.{AreRecords, DeskTerms, StandsSame}
 use Rattle.adx_desk.specs.Loading.{HasOpened, HasReadAll}
-use Rattle.adx_desk.proofs.OpenedDays.{empty_same}
+use Rattle.adx_desk.proofs.OpenedDays.{empty_stands}
 use Rattle.adx_desk.proofs.Records.{no_empty, no_records}
 
 -- before and behind the first payload
@@ -50,13 +50,13 @@ module _ {D : Type 0} (reads : D → Option (List ℕ)) (may_leave : D → List 
   still_durable old mid only durable c left = only.same ∙ durable c (only.crash c left)
 
   pub read_moments : (terms : DeskTerms) (old mid : D) (file : List ℕ) → OnlyReads reads may_leave moment left_since old mid → AsRead (reads old) (may_leave old) → reads old ≡ Some file
-      → LeavesOnly moment left_since old mid (SameHistories terms file)
+      → LeavesOnly moment left_since old mid (StandsSame terms file)
   read_moments terms old mid file only durable told =
-      weaker moment left_since old mid (may_leave old) (SameHistories terms file) only.moments
-      (λ c left. subst (SameHistories terms file) (same_Some file c (sym told ∙ durable c left)) (λ history is. is))
+      weaker moment left_since old mid (may_leave old) (StandsSame terms file) only.moments
+      (λ c left. inl (sym (same_Some file c (sym told ∙ durable c left))))
 
   pub begin_moments : (terms : DeskTerms) (format : ℕ) (old mid new : D) (file : List ℕ) → IsFormat format → OnlyReads reads may_leave moment left_since old mid → AsRead (reads old) (may_leave old) → reads old ≡ Some file → IsClosed (opened format []) file
-      → LeavesOnly moment left_since mid new (λ c. StandsFor format c [] ⊎ StandsFor format c (terms.digest ∷ [])) → LeavesOnly moment left_since old new (SameHistories terms file)
+      → LeavesOnly moment left_since mid new (λ c. StandsFor format c [] ⊎ StandsFor format c (terms.digest ∷ [])) → LeavesOnly moment left_since old new (StandsSame terms file)
   begin_moments terms format old mid new file known only durable told closed run =
-      joined moment left_since old mid new (SameHistories terms file) (λ c. StandsFor format c [] ⊎ StandsFor format c (terms.digest ∷ [])) (SameHistories terms file)
-      (read_moments terms old mid file only durable told) run (λ c same. same) (λ c now. empty_same terms format format file c (none_there format file known closed) now)
+      joined moment left_since old mid new (StandsSame terms file) (λ c. StandsFor format c [] ⊎ StandsFor format c (terms.digest ∷ [])) (StandsSame terms file)
+      (read_moments terms old mid file only durable told) run (λ c same. same) (λ c now. empty_stands terms format format file c (none_there format file known closed) now)

@@ -11,7 +11,7 @@ use Rattle.day_journal.specs.declared.fault.OpeningFault.{OpeningFault}
 use Rattle.day_journal.specs.declared.start.TheConstants.{NEW_FORMAT}
 use Rattle.day_journal.specs.Faults.{EndsAppend, EndsOpening, Refuses, greatest_size}
 use Rattle.day_journal.specs.Places.{IsPayload, IsUnfinished, StandsFor, new_file, open_place, opened}
-use Rattle.day_journal.specs.Starts.{KeptOrMade, StandsAs, StandsAsRead as StandsAsPayloads}
+use Rattle.day_journal.specs.Starts.{IsAsBefore, KeptOrMade, StandsAsRead as StandsAsPayloads}
 use Rattle.day_journal.specs.Tails.{JournalState, size_of}
 use Rattle.day_journal.proofs.Apart.{stands_or_bad, stands_or_no_head}
 use Rattle.day_journal.proofs.Keeping.{place_after}
@@ -22,11 +22,12 @@ use Rattle.day_rules.specs.Legal.{IsLegal}
 use Rattle.adx_desk.specs.declared.fault.DeskFault.{DeskFault}
 use Rattle.adx_desk.specs.Desks.{DeskKeeps}
 use Rattle.notice_batches.specs.Held.{held}
-use Rattle.adx_desk.specs.Histories.{AreRecords, DeskTerms, IsHistoryOf, SameHistories, Spells}
+use Rattle.adx_desk.specs.Histories.{DeskTerms, IsHistoryOf, Spells, StandsSame}
 use Rattle.day_entries.specs.Entries.{entries_bytes}
 use Rattle.adx_desk.specs.Loading.{HasOpened}
 use Rattle.adx_desk.specs.Openings.{HasDiskCause, HasNoRoom, IsRefusal, RefusesDesk, StandsAsRead, append_fault_of, fault_of}
 use Rattle.adx_desk.proofs.Keeping.{sure_by_none}
+use Rattle.day_rules.proofs.Histories.{legal_none}
 use Rattle.notice_batches.proofs.OpenAwards.{none_held}
 use Rattle.adx_desk.proofs.Records.{no_records}
 
@@ -46,33 +47,39 @@ new_stands = inr (record { known = inr refl; each = All-nil IsPayload; closed = 
 new_unfinished : IsUnfinished new_file
 new_unfinished = inr (inr (record { format = NEW_FORMAT; known = inr refl; marked = record { gate = 1; split = refl } }))
 
--- A file without payloads stands for no entry, and so does one with the digest alone, in whichever format.
-pub empty_same : (terms : DeskTerms) (format other : ℕ) (file c : List ℕ) → StandsFor format file [] → StandsFor other c [] ⊎ StandsFor other c (terms.digest ∷ []) → SameHistories terms file c
-empty_same terms format other file c empty now history is = by now
-  where
-    none : history ≡ []
-    none = none_spelled is.format terms.digest is.payloads history (stands_once is.format format file is.payloads [] is.stands empty) is.spells
+-- A file without payloads stands for no entry, and so does one with the digest alone, in whichever format: each stands for
+-- the history without entries.
+empty_history : (terms : DeskTerms) (format : ℕ) (file : List ℕ) → StandsFor format file [] → IsHistoryOf terms file []
+empty_history terms format file stands =
+    record { format = format; payloads = []; stands = stands; spells = inl (refl, refl); legal = legal_none terms.day; room = omega (arith, none_held format) }
 
-    held_none : held other history ≡ 0
-    held_none = ap (held other) none ∙ none_held other
+first_history : (terms : DeskTerms) (format : ℕ) (file : List ℕ) → StandsFor format file (terms.digest ∷ []) → IsHistoryOf terms file []
+first_history terms format file (inl un) = absurd (cc un.1)
+first_history terms format file (inr open_) = record {
+  format = format;
+  payloads = terms.digest ∷ [];
+  stands = inr open_;
+  spells = inr ([], refl, no_records format);
+  legal = legal_none terms.day;
+  room = omega (arith, none_held format, opened_one format terms.digest, (All-head IsPayload terms.digest [] open_.each).fits);
+}
 
-    first_fits : StandsFor other c (terms.digest ∷ []) → length terms.digest ≤ 67108864
-    first_fits (inl un) = absurd (cc un.1)
-    first_fits (inr open_) = (All-head IsPayload terms.digest [] open_.each).fits
+pub empty_stands : (terms : DeskTerms) (format other : ℕ) (file c : List ℕ) → StandsFor format file [] → StandsFor other c [] ⊎ StandsFor other c (terms.digest ∷ []) → StandsSame terms file c
+empty_stands terms format other file c empty (inl alone) = inr ([], empty_history terms format file empty, empty_history terms other c alone)
+empty_stands terms format other file c empty (inr first) = inr ([], empty_history terms format file empty, first_history terms other c first)
 
-    by : StandsFor other c [] ⊎ StandsFor other c (terms.digest ∷ []) → IsHistoryOf terms c history
-    by (inl alone) = record { format = other; payloads = []; stands = alone; spells = inl (refl, none); legal = is.legal; room = omega (arith, held_none) }
-    by (inr first) = record {
-      format = other;
-      payloads = terms.digest ∷ [];
-      stands = first;
-      spells = inr ([], refl, subst (λ (h : List Entry). AreRecords other [] h) (sym none) (no_records other));
-      legal = is.legal;
-      room = omega (arith, held_none, opened_one other terms.digest, first_fits first);
-    }
+-- a file is as before in payloads, and so in its history
+payloads_same : (terms : DeskTerms) (before after : List ℕ) → IsAsBefore before after → StandsSame terms before after
+payloads_same terms before after (inl same) = inl same
+payloads_same terms before after (inr new) =
+    inr ([], empty_history terms NEW_FORMAT before (new.0 NEW_FORMAT), empty_history terms NEW_FORMAT after (new.1 NEW_FORMAT))
+
+-- a file stands for all that another one stands for
+abbrev StandsAs : (before after : List ℕ) → Type 0
+StandsAs before after = (format : ℕ) (payloads : List (List ℕ)) → StandsFor format before payloads → StandsFor format after payloads
 
 -- the same payloads are the same history
-pub payloads_histories : (terms : DeskTerms) (a b : List ℕ) → StandsAs a b → SameHistories terms a b
+payloads_histories : (terms : DeskTerms) (a b : List ℕ) → StandsAs a b → (history : List Entry) → IsHistoryOf terms a history → IsHistoryOf terms b history
 payloads_histories terms a b same history is = record {
   format = is.format;
   payloads = is.payloads;
@@ -171,13 +178,6 @@ new_fine terms (DeskFault.NotAJournal at) deny is = stands_or_no_head NEW_FORMAT
 new_fine terms (DeskFault.BadLength at) deny is = stands_or_bad NEW_FORMAT new_file [] at new_stands deny.bad
 new_fine terms DeskFault.OutOfMemory deny is = is
 
--- what a file stood for, it stands for when it was perhaps made anew
-history_made : (terms : DeskTerms) (file mid : List ℕ) → KeptOrMade file (Some mid) → SameHistories terms file mid
-history_made terms file mid (inl kept) history is = subst (λ (f : List ℕ). IsHistoryOf terms f history) (sym (same_Some mid file kept)) is
-history_made terms file mid (inr made) history is =
-    subst (λ (f : List ℕ). IsHistoryOf terms f history) (sym (same_Some mid new_file made.1))
-    (empty_same terms is.format NEW_FORMAT file new_file (subst (StandsFor is.format file) (stands_once is.format is.format file is.payloads [] is.stands (inl (made.0, refl))) is.stands) (inl new_stands) history is)
-
 -- Where a file was perhaps made anew: what was found of the file that was then there is found of the one before.
 module _ (terms : DeskTerms) (file mid : List ℕ) where
   pub history_before : KeptOrMade file (Some mid) → (history : List Entry) → IsHistoryOf terms mid history → IsHistoryOf terms file history
@@ -193,12 +193,20 @@ module _ (terms : DeskTerms) (file mid : List ℕ) where
   untouched_before now (inl kept) why deny same is = same ∙ kept
   untouched_before now (inr made) why deny same is = absurd (new_fine terms why (subst (λ (f : List ℕ). RefusesDesk terms f why) (same_Some mid new_file made.1) deny) is)
 
+-- what is as the file that was then there is as the one before
+same_before : (terms : DeskTerms) (file mid c : List ℕ) → KeptOrMade file (Some mid) → StandsSame terms mid c → StandsSame terms file c
+same_before terms file mid c (inl kept) same = subst (λ (f : List ℕ). StandsSame terms f c) (same_Some mid file kept) same
+same_before terms file mid c (inr made) (inl is) =
+    let new : new_file ≡ c = sym (is ∙ same_Some mid new_file made.1) in
+    inr ([], empty_history terms NEW_FORMAT file (inl (made.0, refl)), empty_history terms NEW_FORMAT c (subst (λ (f : List ℕ). StandsFor NEW_FORMAT f []) new new_stands))
+same_before terms file mid c (inr made) (inr (history, was, now)) = inr (history, history_before terms file mid (inr made) history was, now)
+
 -- the moments of an opening
 module _ {D : Type 0} (reads : D → Option (List ℕ)) (may_leave : D → List ℕ → Type 0) (moment : D → ℕ) (left_since : D → ℕ → List ℕ → Type 0) (terms : DeskTerms) where
   -- in terms of payloads, and so of histories
   stands_as_read : (old : D) (c : List ℕ) → StandsAsPayloads (may_leave old) (reads old) c → StandsAsRead terms (may_leave old) (reads old) c
   stands_as_read old c (inl left) = inl left
-  stands_as_read old c (inr made) = inr (made.0, made.1, payloads_histories terms made.0 c made.2)
+  stands_as_read old c (inr made) = inr (made.0, made.1, payloads_same terms made.0 c made.2)
 
   pub begun_moments : (old new : D) → LeavesOnly moment left_since old new (StandsAsPayloads (may_leave old) (reads old)) → LeavesOnly moment left_since old new (StandsAsRead terms (may_leave old) (reads old))
   begun_moments old new run =
@@ -206,11 +214,11 @@ module _ {D : Type 0} (reads : D → Option (List ℕ)) (may_leave : D → List 
 
   -- the first part of an opening, and what is done to the file that it read
   pub opened_moments : (old mid new : D) (file mid_file : List ℕ) → LeavesOnly moment left_since old mid (StandsAsPayloads (may_leave old) (reads old)) → reads old ≡ Some file → KeptOrMade file (Some mid_file)
-      → LeavesOnly moment left_since mid new (SameHistories terms mid_file) → LeavesOnly moment left_since old new (StandsAsRead terms (may_leave old) (reads old))
+      → LeavesOnly moment left_since mid new (StandsSame terms mid_file) → LeavesOnly moment left_since old new (StandsAsRead terms (may_leave old) (reads old))
   opened_moments old mid new file mid_file first told kept second =
-      joined moment left_since old mid new (StandsAsPayloads (may_leave old) (reads old)) (SameHistories terms mid_file) (StandsAsRead terms (may_leave old) (reads old)) first second
+      joined moment left_since old mid new (StandsAsPayloads (may_leave old) (reads old)) (StandsSame terms mid_file) (StandsAsRead terms (may_leave old) (reads old)) first second
       (stands_as_read old)
-      (λ c same. inr (file, told, λ history is. same history (history_made terms file mid_file kept history is)))
+      (λ c same. inr (file, told, same_before terms file mid_file c kept same))
 
 -- how a step of the journal ends
 pub append_cause : (before now size : ℕ) (why : AppendFault) → EndsAppend before now size (Err why) → HasDiskCause before now (append_fault_of why)

@@ -10,7 +10,7 @@ use Rattle.day_journal.proofs.Moments.{started}
 use Rattle.day_rules.specs.declared.entry.Entry.{Entry}
 use Rattle.adx_desk.specs.declared.fault.DeskFault.{DeskFault}
 use Rattle.adx_desk.specs.Desks.{DeskKeeps, DeskState}
-use Rattle.adx_desk.specs.Histories.{DeskTerms, IsHistoryOf, SameHistories}
+use Rattle.adx_desk.specs.Histories.{DeskTerms, IsHistoryOf, StandsSame}
 use Rattle.adx_desk.specs.Opened.{GivesUp, Opens}
 use Rattle.adx_desk.specs.Openings.{IsRefusal, RefusesDesk, StandsAsRead, fault_of}
 use Rattle.adx_desk.proofs.OpenedDays.{begun_moments, head_refused, head_untouched, history_before, opened_moments, refused_before, untouched_before}
@@ -43,15 +43,15 @@ module _ {D : Type 0} (reads : D → Option (List ℕ)) (may_leave : D → List 
   found : (old mid : D) (opening : OpeningState) (P : List ℕ → Type 0) → Began old mid opening → AtMid mid opening P → (file : List ℕ) → reads old ≡ Some file → Found file mid P
   found old mid opening P b at_mid file told = found_by file old mid opening P b at_mid (b.reading file told)
 
-  run_on : (old mid new : D) (opening : OpeningState) → Began old mid opening → AtMid mid opening (λ f. LeavesOnly moment left_since mid new (SameHistories terms f))
+  run_on : (old mid new : D) (opening : OpeningState) → Began old mid opening → AtMid mid opening (λ f. LeavesOnly moment left_since mid new (StandsSame terms f))
       → (file : List ℕ) → reads old ≡ Some file → LeavesOnly moment left_since old new (StandsAsRead terms (may_leave old) (reads old))
   run_on old mid new opening b moments file told =
-      let at = found old mid opening (λ f. LeavesOnly moment left_since mid new (SameHistories terms f)) b moments file told in
+      let at = found old mid opening (λ f. LeavesOnly moment left_since mid new (StandsSame terms f)) b moments file told in
       opened_moments reads may_leave moment left_since terms old mid new file at.mid_file b.run told at.kept at.holds
 
   pub opens_on : (old mid new : D) (opening : OpeningState) (desk : DeskState) → Began old mid opening → desk.terms ≡ terms → desk.faults ≡ 0
       → AtMid mid opening (λ f. IsHistoryOf terms f desk.history) → AtMid mid opening (λ f. (tail : List Entry) → DeskKeeps (may_leave new) desk tail)
-      → AtMid mid opening (λ f. LeavesOnly moment left_since mid new (SameHistories terms f)) → Opens reads may_leave moment left_since terms old new desk
+      → AtMid mid opening (λ f. LeavesOnly moment left_since mid new (StandsSame terms f)) → Opens reads may_leave moment left_since terms old new desk
   opens_on old mid new opening desk b same none history keeps moments = record {
     same_terms = same;
     no_fault = none;
@@ -65,7 +65,7 @@ module _ {D : Type 0} (reads : D → Option (List ℕ)) (may_leave : D → List 
 
   pub gives_up_on : (old mid new : D) (opening : OpeningState) (why : DeskFault) → Began old mid opening
       → AtMid mid opening (λ f. RefusesDesk terms f why) → AtMid mid opening (λ f. IsRefusal why → reads new ≡ Some f)
-      → AtMid mid opening (λ f. LeavesOnly moment left_since mid new (SameHistories terms f)) → GivesUp reads may_leave moment left_since terms old new why
+      → AtMid mid opening (λ f. LeavesOnly moment left_since mid new (StandsSame terms f)) → GivesUp reads may_leave moment left_since terms old new why
   gives_up_on old mid new opening why b refused untouched moments = record {
     refused = λ file told.
         let at = found old mid opening (λ f. RefusesDesk terms f why) b refused file told in

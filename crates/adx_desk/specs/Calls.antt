@@ -16,7 +16,7 @@ use Rattle.day_rules.specs.Replies.{Reply, ask_reply, budget_reply, notice_reply
 use Rattle.adx_desk.specs.declared.fault.DeskFault.{DeskFault}
 use Rattle.adx_desk.specs.Desks.{DeskState, OnDisk}
 use Rattle.adx_desk.specs.Endings.{EndsAsk, EndsNotice}
-use Rattle.adx_desk.specs.Histories.{DeskTerms, IsHistoryOf, SameHistories}
+use Rattle.adx_desk.specs.Histories.{DeskTerms, IsHistoryOf, StandsSame}
 use Rattle.adx_desk.specs.Journaled.{JournaledState, on_disk}
 use Rattle.adx_desk.specs.Openings.{IsRefusal, RefusesDesk}
 use Rattle.adx_desk.specs.Opened.{GivesUp, Opens}
@@ -75,9 +75,9 @@ OfWholeFile d old opening P =
 abbrev pub terms_of : Terms → List ℕ → DeskTerms
 terms_of day digest = record { day = day; digest = digest }
 
--- A crash at any moment of the call leaves a file that stands for every history that this one stands for.
+-- A crash at any moment of the call leaves this file, or one that stands for the history that it stands for.
 abbrev pub LeavesSame : {D : Type 0} → disk.Ghosts D → DeskTerms → (old new : D) → List ℕ → Type 0
-LeavesSame d terms old new file = LeavesOnly d.moment d.left_since old new (SameHistories terms file)
+LeavesSame d terms old new file = LeavesOnly d.moment d.left_since old new (StandsSame terms file)
 
 -- what a call of a day with its journal leaves beside a disk, with that entry, if any
 abbrev pub DayServes : {D T : Type 0} → disk.Ghosts D → (old new : JournaledState) → (disk_old disk_new : D) → Option Entry → Result T DeskFault → Type 0

@@ -59,6 +59,7 @@ abbrev pub WithAtMostOne : DeskTerms → List Entry → List Entry → List Entr
 WithAtMostOne terms history tail new file =
     IsHistoryOf terms file history ⊎ IsHistoryOf terms file (history ++ tail) ⊎ IsHistoryOf terms file (history ++ new)
 
--- every history that one file stood for, the other stands for
-abbrev pub SameHistories : DeskTerms → List ℕ → List ℕ → Type 0
-SameHistories terms before after = (history : List Entry) → IsHistoryOf terms before history → IsHistoryOf terms after history
+-- a file is another one, or both stand for one history
+abbrev pub StandsSame : DeskTerms → (before after : List ℕ) → Type 0
+StandsSame terms before after =
+    (after ≡ before) ⊎ ((history : List Entry) × IsHistoryOf terms before history × IsHistoryOf terms after history)

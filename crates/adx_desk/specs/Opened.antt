@@ -16,8 +16,8 @@ pub record Opens {D : Type 0} (reads : D → Option (List ℕ)) (may_leave : D �
   pub history : (file : List ℕ) → reads old ≡ Some file → IsHistoryOf terms file desk.history
   -- which every image stands for now, with no record in doubt,
   pub keeps : (file : List ℕ) → reads old ≡ Some file → (tail : List Entry) → DeskKeeps (may_leave new) desk tail
-  -- and a crash at any moment of the call leaves what a crash before it might have left, or a file that stands for all that
-  -- what was read stood for.
+  -- and a crash at any moment of the call leaves what a crash before it might have left, the file that was read, or one that
+  -- stands for the history that it stood for.
   pub any_moment : (file : List ℕ) → reads old ≡ Some file → LeavesOnly moment left_since old new (StandsAsRead terms (may_leave old) (reads old))
 
 -- An opening that gave up. Where the disk tells what it reads:
@@ -27,6 +27,6 @@ pub record GivesUp {D : Type 0} (reads : D → Option (List ℕ)) (may_leave : D
   pub refused : (file : List ℕ) → reads old ≡ Some file → RefusesDesk terms file why
   -- and leaves the file as it reads;
   pub untouched : (file : List ℕ) → reads old ≡ Some file → IsRefusal why → reads new ≡ Some file
-  -- a crash at any moment of the call leaves what a crash before it might have left, or a file that stands for all that
-  -- what was read stood for.
+  -- a crash at any moment of the call leaves what a crash before it might have left, the file that was read, or one that
+  -- stands for the history that it stood for.
   pub any_moment : (file : List ℕ) → reads old ≡ Some file → LeavesOnly moment left_since old new (StandsAsRead terms (may_leave old) (reads old))

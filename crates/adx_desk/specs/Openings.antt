@@ -11,7 +11,7 @@ use Rattle.day_rules.specs.Legal.{IsLegal, MayFollow}
 use Rattle.day_entries.specs.Entries.{BeginsWith, Fits, entries_bytes}
 use Rattle.adx_desk.specs.declared.fault.DeskFault.{DeskFault}
 use Rattle.notice_batches.specs.Held.{held}
-use Rattle.adx_desk.specs.Histories.{AreRecords, DeskTerms, SameHistories, Spells}
+use Rattle.adx_desk.specs.Histories.{AreRecords, DeskTerms, Spells, StandsSame}
 
 -- what is told of a first payload that isn't the roster's digest
 abbrev pub told_of : List ℕ → List ℕ
@@ -118,6 +118,6 @@ abbrev pub append_fault_of : AppendFault → DeskFault
 append_fault_of AppendFault.DiskFault = DeskFault.DiskFault
 append_fault_of (AppendFault.Full size) = DeskFault.JournalFull size
 
--- an image from before, or a file that stands for every history that what was read stood for
+-- an image from before, what was read, or a file that stands for the history that it stood for
 abbrev pub StandsAsRead : DeskTerms → (List ℕ → Type 0) → Option (List ℕ) → List ℕ → Type 0
-StandsAsRead terms images reads file = images file ⊎ ((before : List ℕ) × (reads ≡ Some before) × SameHistories terms before file)
+StandsAsRead terms images reads file = images file ⊎ ((before : List ℕ) × (reads ≡ Some before) × StandsSame terms before file)

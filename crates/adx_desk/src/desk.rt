@@ -14,6 +14,7 @@ ghost use Rattle.adx_desk.specs.Calls.{batch_bytes, DeskEndsAsk, DeskEndsNotice,
 ghost use Rattle.adx_desk.specs.Asked.{ask_for};
 ghost use Rattle.adx_desk.specs.Desks.{StandsOnDisk};
 ghost use Rattle.notice_batches.specs.Batches.{answers_in_turn, entries_in_turn};
+ghost use Rattle.notice_batches.specs.declared.batch.TheConstants.{BATCH_LIMIT};
 ghost use Rattle.adx_desk.specs.Histories.{longest_size};
 ghost use Rattle.adx_desk.specs.Endings.{IsWithinRise};
 ghost use Rattle.adx_desk.specs.Openings.{HasDiskCause};
@@ -204,7 +205,7 @@ impl<D: Disk> Desk<D> {
     }
 
     /// Answers the calls of a batch that didn't run: each as a notice is answered behind the entries of the calls before
-    /// it. All their entries go into the journal as one record, which grows by five bytes and those of the entries;
+    /// it. All their entries, at most 32, go into the journal as one record, which grows by five bytes and those of the entries;
     /// where there is none, the disk isn't touched. Takes no memory; its only fault is the disk's, after which the batch didn't run.
     pub fn batch(&mut self, batch: &mut Batch) -> Result<(), DeskFault>
         requires { batch.old.answers ≡ None }
@@ -213,6 +214,7 @@ impl<D: Disk> Desk<D> {
         ensures serves { DeskServesAll D.Disk self.old self.new (entries_in_turn self.old.desk.history batch.old.calls) result }
         ensures ends { DeskEndsNotice D.Disk self.old self.new result }
         ensures unmoved { entries_in_turn self.old.desk.history batch.old.calls ≡ [] → self.new ≡ self.old }
+        ensures few { length (entries_in_turn self.old.desk.history batch.old.calls) ≤ BATCH_LIMIT }
         ensures grown { OnOk result (0 < length (entries_in_turn self.old.desk.history batch.old.calls)
             → size_of self.new.desk.journal ≡ size_of self.old.desk.journal + (length (batch_bytes self.old.desk batch.old.calls) + 5)) }
         ensures lasts { D.lasts self.old.disk self.new.disk }

@@ -19,6 +19,7 @@ ghost use Rattle.notice_batches.specs.Held.{held};
 ghost use Rattle.adx_desk.specs.Histories.{longest_size};
 ghost use Rattle.adx_desk.specs.Journaled.{EndsRecord, beside, day_in};
 ghost use Rattle.adx_desk.specs.declared.fault.DeskFault.{DeskFault as Fault};
+ghost use Rattle.notice_batches.specs.declared.batch.TheConstants.{BATCH_LIMIT};
 ghost use Rattle.notice_batches.specs.declared.held.TheConstants.{NOTICE_ROOM};
 
 use crate::copying::{copy_for, copy_in, fitted, swapped};
@@ -516,6 +517,7 @@ impl JournaledDay {
         ensures serves { DayServesAll D.Disk self.old self.new disk.old disk.new (entries_in_turn self.old.desk.history batch.old.calls) result }
         ensures ends { EndsNotice (D.faults disk.old) (D.faults disk.new) self.old.desk self.new.desk result }
         ensures unmoved { entries_in_turn self.old.desk.history batch.old.calls ≡ [] → IsUnmoved self.old self.new disk.old disk.new }
+        ensures few { length (entries_in_turn self.old.desk.history batch.old.calls) ≤ BATCH_LIMIT }
         ensures grown { OnOk result (0 < length (entries_in_turn self.old.desk.history batch.old.calls)
             → size_of self.new.desk.journal ≡ size_of self.old.desk.journal + (length (batch_bytes self.old.desk batch.old.calls) + 5)) }
         ensures frame { NOTICE_ROOM ≤ frame.new.spare + length frame.new.payload }

@@ -1,13 +1,12 @@
 -- What opening leaves of a file.
-use Rattle.std.proofs.Common.{◌≡◌, ◌⊎◌, inl, inr, ℕ, ◌≤◌, List, [], length, take, Option, Some, None, is_some, ⊎_elim, refl, sym, ◌∙◌, ap, subst, arith}
+use Rattle.std.proofs.Common.{◌≡◌, ◌⊎◌, inl, inr, ℕ, ◌≤◌, List, length, take, Option, Some, None, is_some, ⊎_elim, refl, sym, ◌∙◌, ap, subst, arith}
 use Rattle.adx_io.specs.Disks.{AsRead, Each, LeavesOnly}
-use Rattle.day_journal.specs.Places.{IsCleared, IsMarked, IsUnfinished, StandsFor, new_file}
+use Rattle.day_journal.specs.Places.{IsCleared, IsMarked, IsUnfinished, new_file}
 use Rattle.day_journal.specs.Starts.{BeginsJournal, HasSome, IsStart, LeavesNoMore, Looked, StandsAsRead, StandsNew}
 use Rattle.day_journal.specs.declared.start.TheConstants.{NEW_FORMAT}
 use Rattle.day_journal.specs.declared.start.Start.{Start}
 use Rattle.day_journal.proofs.Moments.{joined, weaker}
 use Rattle.day_journal.proofs.NewFile.{stands_empty}
-use Rattle.day_journal.proofs.Once.{stands_once}
 use Rattle.day_journal.proofs.Reading.{small_start}
 
 pub cleared_file : (file : List ℕ) → IsStart (take 11 file) Start.Cleared → IsCleared file
@@ -28,11 +27,7 @@ unfinished file (inr marked) = inr (inr marked)
 pub made_as : (reads : Option (List ℕ)) (images : List ℕ → Type 0) (c : List ℕ) → AsRead reads images → Each images IsUnfinished → StandsNew c → HasSome images → StandsAsRead images reads c
 made_as reads images c durable un empty some =
     let d : List ℕ = some.image in
-    inr (
-      d,
-      durable d some.there,
-      λ format ps s. subst (StandsFor format c) (stands_once format format d [] ps (stands_empty d (un d some.there) format) s) (empty format),
-    )
+    inr (d, durable d some.there, inr (stands_empty d (un d some.there), empty))
 
 pub as_before : (reads : Option (List ℕ)) (old : List ℕ → Type 0) (c : List ℕ) → old c → StandsAsRead old reads c
 as_before reads old c left = inl left

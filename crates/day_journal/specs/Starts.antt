@@ -16,17 +16,17 @@ pub record LeavesNoMore {D : Type 0} (may_leave : D → List ℕ → Type 0) (mo
   pub crash : Within (may_leave old) (may_leave new)
   pub moments : LeavesOnly moment left_since old new (may_leave old)
 
--- a file stands for all that another one stands for
-abbrev pub StandsAs : (before after : List ℕ) → Type 0
-StandsAs before after = (format : ℕ) (payloads : List (List ℕ)) → StandsFor format before payloads → StandsFor format after payloads
-
--- an image from before, or one that stands for all that what was read stood for
-abbrev pub StandsAsRead : (List ℕ → Type 0) → Option (List ℕ) → List ℕ → Type 0
-StandsAsRead images reads file = images file ⊎ ((before : List ℕ) × (reads ≡ Some before) × StandsAs before file)
-
 -- a file stands for no payload, in any format
 abbrev pub StandsNew : List ℕ → Type 0
 StandsNew file = (format : ℕ) → StandsFor format file []
+
+-- a file is another one, or both stand for no payload
+abbrev pub IsAsBefore : (before after : List ℕ) → Type 0
+IsAsBefore before after = (after ≡ before) ⊎ (StandsNew before × StandsNew after)
+
+-- an image from before; or what was read; or, where that stood for no payload, a file that stands for none
+abbrev pub StandsAsRead : (List ℕ → Type 0) → Option (List ℕ) → List ℕ → Type 0
+StandsAsRead images reads file = images file ⊎ ((before : List ℕ) × (reads ≡ Some before) × IsAsBefore before file)
 
 -- there is an image
 pub record HasSome (images : List ℕ → Type 0) : Type 0 where

@@ -71,8 +71,8 @@ impl Journal {
         ensures no_place { (at : ℕ) → result ≡ Err (OpeningFault.BadLength at) → ⊥ }
         ensures start { IfOk result (λ opening. opening.window.at ≡ length (opened opening.format [])) }
 
-        // A crash at any moment of the call leaves what a crash before it might have left, or a file that stands
-        // for all that the file that was read stood for.
+        // A crash at any moment of the call leaves what a crash before it might have left, the file that was read, or, where
+        // that had no payload, one that has none.
         ensures any_moment { LeavesOnly D.moment D.left_since disk.old disk.new (StandsAsRead (D.may_leave disk.old) (D.reads disk.old)) }
 
         ensures ends { EndsOpening (D.faults disk.old) (D.faults disk.new) result }

@@ -97,6 +97,18 @@ in_turn terms history (x ∷ xs) legal apart =
       ap (λ (l : List Entry). added_by (arrival_reply history x).entry ++ l) (rest.1 ∙ same.1),
     )
 
+-- each adds at most one entry
+added_few : (o : Option Entry) → length (added_by o) ≤ 1
+added_few None = omega arith
+added_few (Some e) = omega arith
+
+pub entries_few : (history : List Entry) (xs : List Arrival) → length (entries_in_turn history xs) ≤ length xs
+entries_few history [] = omega arith
+entries_few history (x ∷ xs) =
+    let entry = (arrival_reply history x).entry in
+    let rest = entries_in_turn (after_arrival history x) xs in
+    omega (arith, length-append (added_by entry) rest, added_few entry, entries_few (after_arrival history x) xs)
+
 -- the history behind them
 with_is : (history : List Entry) (o : Option Entry) → with_entry history o ≡ history ++ added_by o
 with_is history None = sym (append-nil history)

@@ -123,6 +123,7 @@ impl Batch {
         requires waits { self.old.answers ≡ None }
         requires frame { notice_room ≤ frame.old.spare + length frame.old.payload }
         ensures apart { AreApart self.old.calls }
+        ensures few { length self.old.calls ≤ BATCH_LIMIT }
         ensures answers { self.new ≡ record self.old { answers = Some (map (λ x. (arrival_reply day.now.history x).answer) self.old.calls) } }
         ensures payload { frame.new.payload ≡ entries_bytes format (flat_map (λ x. added_by (arrival_reply day.now.history x).entry) self.old.calls) }
         ensures fits { All (Fits format) (flat_map (λ x. added_by (arrival_reply day.now.history x).entry) self.old.calls) }

@@ -1,10 +1,11 @@
 -- By the day with its journal.
-use Rattle.std.proofs.Common.{◌≡◌, ◌+◌, ◌<◌, length, Some, ◌∙◌, ap, subst}
+use Rattle.std.proofs.Common.{◌≡◌, ◌+◌, ◌<◌, ◌≤◌, length, Some, ◌∙◌, ap, subst}
 use Rattle.adx_desk.specs.Journaled.{unopened}
 use Rattle.std.specs.Prelude.{is_some, OnOk}
 use Rattle.day_entries.specs.Entries.{entries_bytes}
 use Rattle.day_journal.specs.Tails.{size_of}
 use Rattle.notice_batches.specs.Batches.{BatchState, answers_in_turn, entries_in_turn}
+use Rattle.notice_batches.specs.declared.batch.TheConstants.{BATCH_LIMIT}
 use Rattle.adx_desk.specs.Desks.{OnDisk}
 use Rattle.adx_desk.specs.Endings.{EndsNotice}
 use Rattle.adx_desk.specs.Serving.{ServesAll}
@@ -31,6 +32,9 @@ returns-clause-ends g c =
 pub returns-clause-unmoved : goal.returns-clause-unmoved
 returns-clause-unmoved g c = λ none.
     ap (λ (o : OnDisk _). record o { since = record { count = g.D.Disk.faults c.self.inside.opened.value; tells = is_some (g.D.Disk.reads c.self.inside.began.value) } }) (c.batch.ensures.unmoved (ap (λ (o : OnDisk _). entries_in_turn o.desk.history c.args.batch.now.calls) c.self.view_is ∙ none)) ∙ c.self.view_is
+
+pub returns-clause-few : goal.returns-clause-few
+returns-clause-few g c = subst (λ (o : OnDisk _). length (entries_in_turn o.desk.history c.args.batch.now.calls) ≤ BATCH_LIMIT) c.self.view_is c.batch.ensures.few
 
 pub returns-clause-grown : goal.returns-clause-grown
 returns-clause-grown g c =

@@ -9,7 +9,7 @@ use Rattle.day_rules.specs.Laws.{Arrival}
 use Rattle.notice_batches.specs.Batches.{BatchState, entries_in_turn}
 use Rattle.adx_desk.specs.Journaled.{JournaledState, on_disk}
 use Rattle.adx_desk.specs.Serving.{ServesAll}
-use Rattle.notice_batches.proofs.InTurn.{none_added, some_added}
+use Rattle.notice_batches.proofs.InTurn.{entries_few, none_added, some_added}
 use Rattle.adx_desk.proofs.Batching.{ran_in_turn}
 use Rattle.adx_desk.proofs.Serving.{serves_unmoved}
 use Rattle.adx_desk.proofs.journaled_day.JournaledDay.batch.Goals as goal
@@ -113,3 +113,12 @@ returns-in-Err-clause-unmoved g c = λ none.
     let b = ran_in_turn c.self.inside.day c.self.inside.digest c.self.inside.journal c.self.inside.faults c.self.inside.without_end s xs c.day.result.now.history c.format.result c.run.new.frame.payload c.self.invariant c.self.view_is c.run.ensures.apart c.day.ensures.history c.format.ensures c.run.ensures.payload c.run.ensures.fits in
     let some = some_added s.desk.journal.format (entries_in_turn s.desk.history xs) c.run.new.frame.payload b.bytes (λ empty. false≢true (sym c.if-is_empty.false ∙ (c.is_empty.ensures ∙ eq-eqb (length c.payload.result.now) 0 (ap (λ (l : List ℕ). length l) c.payload.ensures ∙ empty)))) in
     absurd (omega (arith, some, ap length none))
+
+pub returns-then-is_empty-clause-few : goal.returns-then-is_empty-clause-few
+returns-then-is_empty-clause-few g c = omega (arith, entries_few c.args.self.now.desk.history c.args.batch.now.calls, c.run.ensures.few)
+
+pub returns-in-Ok-clause-few : goal.returns-in-Ok-clause-few
+returns-in-Ok-clause-few g c = omega (arith, entries_few c.args.self.now.desk.history c.args.batch.now.calls, c.run.ensures.few)
+
+pub returns-in-Err-clause-few : goal.returns-in-Err-clause-few
+returns-in-Err-clause-few g c = omega (arith, entries_few c.args.self.now.desk.history c.args.batch.now.calls, c.run.ensures.few)
