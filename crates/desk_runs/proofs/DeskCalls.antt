@@ -17,7 +17,9 @@ use Rattle.day_rules.specs.Runs.{IsCall}
 use Rattle.adx_desk.specs.Lines.{told_as}
 use Rattle.desk_runs.specs.Answering.{IsOfCall, LeavesCall, MayBeLeft, ServesCall}
 use Rattle.adx_desk.specs.Histories.{longest_size}
-use Rattle.desk_runs.specs.OnDisk.{FullOnly}
+use Rattle.desk_calls.specs.Calls.{IsRoomy}
+use Rattle.desk_runs.specs.OnDisk.{FullOnly, MayWantRoom}
+use Rattle.desk_runs.proofs.Roomy.{roomy_wants}
 
 -- what may be in doubt behind a call that was done: nothing where it added an entry, else what was
 left_done : (entry : Option Entry) (P : List Entry → Type 0) (tail : List Entry) → P tail → IfSome entry (λ e. (any : List Entry) → P any) → (next : List Entry) × MayBeLeft None (added_by entry) tail next × P next
@@ -74,27 +76,28 @@ call_failed faults may_leave moment left_since old new call taken s fails =
 told_between : (most size told longest last : ℕ) → most < size → told ≡ min size last → most < last → size ≤ longest → (most < told) × (told ≤ longest)
 told_between most size told longest last passes is small fits = (omega (arith, passes, is, small), omega (arith, is, fits))
 
-full_only : (desk : DeskState) (size : ℕ) (entry : Option Entry) → greatest_size < last_count → size_of desk.journal ≤ longest_size desk.terms desk.history → PassesJournal desk size entry
+full_only : (desk : DeskState) (size : ℕ) (entry : Option Entry) → greatest_size < last_count → size_of desk.journal ≤ longest_size desk.terms desk.history → PassesJournal desk size entry → IfSome entry MayWantRoom
     → FullOnly desk.terms desk.history entry (Some (Fault.JournalFull size))
-full_only desk size None small short passes = passes
-full_only desk size (Some e) small short passes =
+full_only desk size None small short passes wants = passes
+full_only desk size (Some e) small short passes wants =
     let longest = longest_size desk.terms desk.history + longest_record e + longest_held (desk.history ++ e ∷ []) in
     let fits : size_with desk e ≤ longest = omega (arith, short, record_longest desk.journal.format e, held_longest desk.journal.format (desk.history ++ e ∷ [])) in
-    told_between greatest_size (size_with desk e) size longest last_count passes.0 passes.1 small fits
+    let between = told_between greatest_size (size_with desk e) size longest last_count passes.0 passes.1 small fits in
+    (between.0, between.1, wants)
 
 -- a call for which the journal has no room; the desk's journal is no longer than the longest of its history
 pub call_full : {D T : Type 0} (faults : D → ℕ) (may_leave : D → List ℕ → Type 0) (moment : D → ℕ) (left_since : D → ℕ → List ℕ → Type 0) (old new : OnDisk D) (call : Call) (size : ℕ)
-    → IsCall (length old.desk.terms.day.budgets) call → Serves {T = T} may_leave moment left_since old new (reply old.desk.terms.day old.desk.history call).entry (Err (DeskFault.JournalFull size))
+    → IsCall (length old.desk.terms.day.budgets) call → IsRoomy call → Serves {T = T} may_leave moment left_since old new (reply old.desk.terms.day old.desk.history call).entry (Err (DeskFault.JournalFull size))
     → PassesJournal old.desk size (reply old.desk.terms.day old.desk.history call).entry → NoFault (faults old.disk) (faults new.disk) old.desk new.desk → new ≡ old
     → greatest_size < last_count → size_of old.desk.journal ≤ longest_size old.desk.terms old.desk.history
     → ServesCall faults may_leave moment left_since old new (record { call = call; fault = Some (Fault.JournalFull size) })
-call_full faults may_leave moment left_since old new call size taken s passes none same small short = record {
+call_full faults may_leave moment left_since old new call size taken roomy s passes none same small short = record {
   taken = taken;
   terms = s.terms;
   history = s.same;
   counted = none.disk;
   known = none.desk;
-  full = full_only old.desk size (reply old.desk.terms.day old.desk.history call).entry small short passes;
+  full = full_only old.desk size (reply old.desk.terms.day old.desk.history call).entry small short passes (roomy_wants old.desk.terms.day old.desk.history call roomy);
   any_moment = s.any_moment;
   keeps = λ tail kept. (tail, refl, subst (λ (now : OnDisk _). DeskKeeps (may_leave now.disk) now.desk tail) (sym same) kept);
 }
@@ -131,18 +134,18 @@ same_fault faults may_leave moment left_since old new call f told is serves = su
 module _ {D T : Type 0} (faults : D → ℕ) (may_leave : D → List ℕ → Type 0) (moment : D → ℕ) (left_since : D → ℕ → List ℕ → Type 0) (old new : OnDisk D) (call : Call) where
   -- a call of an ask that was given up, by the fault that its line tells
   pub ask_given_up : (fault : DeskFault) (told : Fault) → told_as fault ≡ Some told
-      → IsCall (length old.desk.terms.day.budgets) call → Serves {T = T} may_leave moment left_since old new (reply old.desk.terms.day old.desk.history call).entry (Err fault)
+      → IsCall (length old.desk.terms.day.budgets) call → IsRoomy call → Serves {T = T} may_leave moment left_since old new (reply old.desk.terms.day old.desk.history call).entry (Err fault)
       → EndsAsk {T = T} (faults old.disk) (faults new.disk) old.desk new.desk (reply old.desk.terms.day old.desk.history call).entry (Err fault)
       → ((fault ≡ DeskFault.DiskFault → ⊥) → new ≡ old) → size_of old.desk.journal ≤ longest_size old.desk.terms old.desk.history
       → ServesCall faults may_leave moment left_since old new (record { call = call; fault = Some told })
-  ask_given_up DeskFault.DiskFault told is taken s ends same short = same_fault faults may_leave moment left_since old new call Fault.Disk told is (call_failed faults may_leave moment left_since old new call taken s ends.1)
-  ask_given_up (DeskFault.JournalFull size) told is taken s ends same short =
-      same_fault faults may_leave moment left_since old new call (Fault.JournalFull size) told is (call_full faults may_leave moment left_since old new call size taken s ends.0 ends.1 (same (λ disk. cc disk)) sizes_counted short)
-  ask_given_up (DeskFault.BadEntry at) told is taken s ends same short = absurd ends
-  ask_given_up (DeskFault.OtherRoster kept) told is taken s ends same short = absurd ends
-  ask_given_up (DeskFault.NotAJournal at) told is taken s ends same short = absurd ends
-  ask_given_up (DeskFault.BadLength at) told is taken s ends same short = absurd ends
-  ask_given_up DeskFault.OutOfMemory told is taken s ends same short = absurd (cc is)
+  ask_given_up DeskFault.DiskFault told is taken roomy s ends same short = same_fault faults may_leave moment left_since old new call Fault.Disk told is (call_failed faults may_leave moment left_since old new call taken s ends.1)
+  ask_given_up (DeskFault.JournalFull size) told is taken roomy s ends same short =
+      same_fault faults may_leave moment left_since old new call (Fault.JournalFull size) told is (call_full faults may_leave moment left_since old new call size taken roomy s ends.0 ends.1 (same (λ disk. cc disk)) sizes_counted short)
+  ask_given_up (DeskFault.BadEntry at) told is taken roomy s ends same short = absurd ends
+  ask_given_up (DeskFault.OtherRoster kept) told is taken roomy s ends same short = absurd ends
+  ask_given_up (DeskFault.NotAJournal at) told is taken roomy s ends same short = absurd ends
+  ask_given_up (DeskFault.BadLength at) told is taken roomy s ends same short = absurd ends
+  ask_given_up DeskFault.OutOfMemory told is taken roomy s ends same short = absurd (cc is)
 
   -- a notice or a tick that was given up
   pub notice_given_up : (fault : DeskFault) (told : Fault) → told_as fault ≡ Some told

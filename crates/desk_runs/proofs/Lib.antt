@@ -3,6 +3,7 @@ pub mod DeskCalls
 pub mod DeskRuns
 pub mod DiskCounts
 pub mod Lent
+pub mod Roomy
 pub mod RunsCalls
 pub mod RunsCounts
 pub mod RunsJoined

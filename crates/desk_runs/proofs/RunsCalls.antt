@@ -21,7 +21,7 @@ use Rattle.desk_runs.specs.OnDisk.{CountsOne, FullEach, FullOnly, history_after,
 use Rattle.desk_runs.proofs.Books.{run_books}
 use Rattle.desk_runs.proofs.DeskRuns.{split_more}
 use Rattle.desk_runs.specs.Records.{IsLeftInDoubt, IsRecordOfRun, MayBeLeftBy, RunsOn, StandsInRunFrom, count_after}
-use Rattle.desk_runs.proofs.RunsCounts.{counted_some, same_count}
+use Rattle.desk_runs.proofs.RunsCounts.{counted_some}
 use Rattle.desk_runs.proofs.RunsRecords.{if_any, record_along}
 
 -- no list has a place in an empty one
@@ -113,8 +113,8 @@ module _ {D : Type 0} (faults : D → ℕ) (may_leave : D → List ℕ → Type 
     legal = legal;
     taken = All-nil (λ (turn : Turn). IsCall (length old.desk.terms.day.budgets) turn.call);
     history = refl;
-    counted = same_count (faults old.disk);
-    known = (zero, refl);
+    counted = refl;
+    known = refl;
     passed = λ none. refl;
     risen = λ other. absurd (other refl);
     full = λ front one back split. absurd (no_place front one back split);
@@ -134,8 +134,8 @@ module _ {D : Type 0} (faults : D → ℕ) (may_leave : D → List ℕ → Type 
         legal = legal;
         taken = All-cons (λ (turn : Turn). IsCall (length d.day.budgets) turn.call) (turn_of t) [] c.taken (All-nil (λ (turn : Turn). IsCall (length d.day.budgets) turn.call));
         history = c.history;
-        counted = (faults old.disk, faults new.disk, same_count (faults old.disk), c.counted, same_count (faults new.disk));
-        known = (zero, (zero, c.known ∙ same_after t.fault old.desk.faults));
+        counted = (faults old.disk, faults new.disk, inl refl, c.counted, refl);
+        known = (zero, inl refl, c.known ∙ same_after t.fault old.desk.faults);
         passed = call_passed t.fault old.desk.faults new.desk.faults (faults old.disk) (faults new.disk) c.counted c.known;
         risen = call_risen t.fault old.desk.faults new.desk.faults (faults old.disk) (faults new.disk) c.counted c.known;
         full = full_one d start t c.full;

@@ -5,7 +5,8 @@ use Rattle.adx_io.specs.Streams.{Rises, last_count}
 use Rattle.answer_lines.specs.declared.faults.Fault.{Fault}
 use Rattle.desk_runs.specs.Meanings.{Told}
 use Rattle.desk_runs.specs.OnDisk.{CountsOne}
-use Rattle.desk_runs.specs.Records.{CountsAmong, RaisesAmong, count_after, raised}
+use Rattle.day_rules.specs.Replies.{Call}
+use Rattle.desk_runs.specs.Records.{CountsAmong, CountsBefore, MayWait, RaisesAmong, count_after, raised}
 
 -- the same count is no smaller
 pub no_less : (a b : ℕ) → b ≡ a → a ≤ b
@@ -20,19 +21,23 @@ one_later a m None one = no_less a m one
 one_later a m (Some Fault.Disk) one = one.0
 one_later a m (Some (Fault.JournalFull size)) one = no_less a m one
 
-pub among_later : (a b : ℕ) (told : List Told) → CountsAmong a told b → a ≤ b
-among_later a b [] later = later
-among_later a b (t ∷ told) (from, between, before, one, rest) =
-    no_less_by a between b (no_less_by a from between before (one_later from between t.fault one)) (among_later between b told rest)
+before_later : (a from : ℕ) (call : Call) → CountsBefore a call from → a ≤ from
+before_later a from call (inl same) = no_less a from same
+before_later a from call (inr waits) = waits.1
 
--- it may have been less before
-pub counts_from : (a m b : ℕ) (told : List Told) → a ≤ m → CountsAmong m told b → CountsAmong a told b
-counts_from a m b [] less later = no_less_by a m b less later
-counts_from a m b (t ∷ told) less (from, between, before, one, rest) = (from, between, no_less_by a m from less before, one, rest)
+pub among_later : (a b : ℕ) (told : List Told) → CountsAmong a told b → a ≤ b
+among_later a b [] same = no_less a b same
+among_later a b (t ∷ told) (from, between, before, one, rest) =
+    no_less_by a between b (no_less_by a from between (before_later a from t.call before) (one_later from between t.fault one)) (among_later between b told rest)
+
+-- it may have been less before a notice
+pub counts_from : (a m b : ℕ) (t : Told) (told : List Told) → MayWait t.call → a ≤ m → CountsAmong m (t ∷ told) b → CountsAmong a (t ∷ told) b
+counts_from a m b t told waits less (from, between, before, one, rest) =
+    (from, between, inr (waits, no_less_by a m from less (before_later m from t.call before)), one, rest)
 
 -- over two lists of calls
 pub counts_join : (a m b : ℕ) (told more : List Told) → CountsAmong a told m → CountsAmong m more b → CountsAmong a (told ++ more) b
-counts_join a m b [] more first rest = counts_from a m b more first rest
+counts_join a m b [] more same rest = subst (λ (n : ℕ). CountsAmong n more b) same rest
 counts_join a m b (t ∷ told) more (from, between, before, one, first) rest = (from, between, before, one, counts_join between m b told more first rest)
 
 -- a count that is raised, and raised again
@@ -42,17 +47,14 @@ raised_join (suc times) more n =
     let r = raised_join times more (counted n) in
     (suc r.0, r.1)
 
-pub raises_before : (a b times : ℕ) (told : List Told) → RaisesAmong (raised times a) told b → RaisesAmong a told b
-raises_before a b times [] (more, is) =
+pub raises_before : (a b times : ℕ) (t : Told) (told : List Told) → MayWait t.call → RaisesAmong (raised times a) (t ∷ told) b → RaisesAmong a (t ∷ told) b
+raises_before a b times t told waits (more, any, rest) =
     let r = raised_join times more a in
-    (r.0, is ∙ r.1)
-raises_before a b times (t ∷ told) (more, rest) =
-    let r = raised_join times more a in
-    (r.0, subst (λ (n : ℕ). RaisesAmong (count_after t.fault n) told b) r.1 rest)
+    (r.0, inr waits, subst (λ (n : ℕ). RaisesAmong (count_after t.fault n) told b) r.1 rest)
 
 pub raises_join : (a m b : ℕ) (told more : List Told) → RaisesAmong a told m → RaisesAmong m more b → RaisesAmong a (told ++ more) b
-raises_join a m b [] more (times, is) rest = raises_before a b times more (subst (λ (n : ℕ). RaisesAmong n more b) is rest)
-raises_join a m b (t ∷ told) more (times, first) rest = (times, raises_join (count_after t.fault (raised times a)) m b told more first rest)
+raises_join a m b [] more is rest = subst (λ (n : ℕ). RaisesAmong n more b) is rest
+raises_join a m b (t ∷ told) more (times, any, first) rest = (times, any, raises_join (count_after t.fault (raised times a)) m b told more first rest)
 
 -- a count that was raised isn't 0
 some_by : (n last : ℕ) → 0 < last → min (n + 1) last ≡ 0 → ⊥
@@ -74,8 +76,8 @@ after_none (Some Fault.Disk) n is = absurd (counted_some n is)
 after_none (Some (Fault.JournalFull size)) n is = is
 
 pub raises_none : (a b : ℕ) (told : List Told) → RaisesAmong a told b → b ≡ 0 → a ≡ 0
-raises_none a b [] (times, is) none = raised_none times a (sym is ∙ none)
-raises_none a b (t ∷ told) (times, rest) none =
+raises_none a b [] is none = sym is ∙ none
+raises_none a b (t ∷ told) (times, any, rest) none =
     raised_none times a (after_none t.fault (raised times a) (raises_none (count_after t.fault (raised times a)) b told rest none))
 
 -- a count that rose somewhere between
@@ -130,10 +132,14 @@ after_counts (Some Fault.Disk) n small =
     ((one.0, counted_rises n last_count small), one.1)
 after_counts (Some (Fault.JournalFull size)) n small = (refl, small)
 
+before_by : (times a : ℕ) (call : Call) → a ≤ raised times a → (times ≡ zero) ⊎ MayWait call → CountsBefore a call (raised times a)
+before_by times a call later (inl none) = inl (ap (λ (n : ℕ). raised n a) none)
+before_by times a call later (inr waits) = inr (waits, later)
+
 -- so the desk's own counts are counts such as the disk's
 pub known_counts : (a b : ℕ) (told : List Told) → a ≤ last_count → RaisesAmong a told b → CountsAmong a told b
-known_counts a b [] small (times, is) = subst (λ (n : ℕ). a ≤ n) (sym is) (raised_within times a small).0
-known_counts a b (t ∷ told) small (times, rest) =
+known_counts a b [] small is = is
+known_counts a b (t ∷ told) small (times, any, rest) =
     let so_far = raised_within times a small in
     let one = after_counts t.fault (raised times a) so_far.1 in
-    (raised times a, count_after t.fault (raised times a), so_far.0, one.0, known_counts (count_after t.fault (raised times a)) b told one.1 rest)
+    (raised times a, count_after t.fault (raised times a), before_by times a t.call so_far.0 any, one.0, known_counts (count_after t.fault (raised times a)) b told one.1 rest)

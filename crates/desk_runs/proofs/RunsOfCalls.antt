@@ -18,6 +18,7 @@ use Rattle.day_rules.specs.Replies.{Call, ask, ask_reply, reply, tick, tick_repl
 use Rattle.day_rules.specs.Runs.{IsCall}
 use Rattle.desk_runs.proofs.DeskCalls.{ask_given_up, call_done, call_failed}
 use Rattle.desk_runs.specs.Records.{RunsOn}
+use Rattle.desk_calls.specs.Calls.{IsRoomy}
 use Rattle.desk_calls.specs.Together.{call_by}
 use Rattle.desk_runs.specs.Told.{told_by}
 use Rattle.desk_runs.proofs.RunsCalls.{runs_call, runs_none}
@@ -79,14 +80,14 @@ module _ {D : Type 0} (faults : D → ℕ) (may_leave : D → List ℕ → Type 
 
   -- an ask or a change of a budget that was given up by a fault that its reply tells
   pub runs_given_up : {T : Type 0} (old new : OnDisk D) (call : Call) (fault : DeskFault) (told : Fault) → told_as fault ≡ Some told → IsLegal old.desk.terms.day old.desk.history
-      → IsCall (length old.desk.terms.day.budgets) call
+      → IsCall (length old.desk.terms.day.budgets) call → IsRoomy call
       → Serves {T = T} may_leave moment left_since old new (reply old.desk.terms.day old.desk.history call).entry (Err fault)
       → EndsAsk {T = T} (faults old.disk) (faults new.disk) old.desk new.desk (reply old.desk.terms.day old.desk.history call).entry (Err fault)
       → ((fault ≡ DeskFault.DiskFault → ⊥) → new ≡ old) → size_of old.desk.journal ≤ longest_size old.desk.terms old.desk.history
       → RunsOn faults may_leave moment left_since old new (record { call = call; fault = Some told } ∷ [])
-  runs_given_up old new call fault told is legal taken s ends same short =
+  runs_given_up old new call fault told is legal taken roomy s ends same short =
       runs_call faults may_leave moment left_since old new (record { call = call; fault = Some told }) legal s.since
-      (ask_given_up faults may_leave moment left_since old new call fault told is taken s ends same short)
+      (ask_given_up faults may_leave moment left_since old new call fault told is taken roomy s ends same short)
 
   -- one for which memory was refused: no call
   pub runs_refused : (old new : OnDisk D) (fault : DeskFault) → told_as fault ≡ None → IsLegal old.desk.terms.day old.desk.history → ((c : List ℕ) → left_since old.disk (moment old.disk) c → may_leave old.disk c)

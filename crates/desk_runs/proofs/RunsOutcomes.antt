@@ -1,5 +1,5 @@
 -- Notices with their outcomes, as calls of a run.
-use Rattle.std.proofs.Common.{◌≡◌, inr, ℕ, zero, ◌≤◌, List, [], ◌∷◌, ◌++◌, map, length, Option, Some, None, refl, sym, ap, ◌∙◌, subst, arith, append-nil}
+use Rattle.std.proofs.Common.{◌≡◌, inl, inr, ℕ, zero, ◌≤◌, List, [], ◌∷◌, ◌++◌, map, length, Option, Some, None, refl, sym, ap, ◌∙◌, subst, arith, append-nil}
 use Rattle.std.proofs.lemmas.List.Elements.{All-nil, All-cons}
 use Rattle.notice_batches.specs.Batches.{AreApart, answers_in_turn, entries_in_turn, added_by}
 use Rattle.adx_desk.specs.Histories.{DeskTerms}
@@ -17,7 +17,6 @@ use Rattle.desk_runs.specs.Records.{AreGivenUp, CountsAmong, IsLeftInDoubt, IsRe
 use Rattle.desk_calls.specs.Together.{call_by}
 use Rattle.desk_runs.specs.Told.{told_all, told_by}
 use Rattle.desk_runs.proofs.RunsCalls.{no_place}
-use Rattle.desk_runs.proofs.RunsCounts.{same_count}
 use Rattle.desk_runs.proofs.RunsRecords.{given_up_all, record_along}
 
 some_left : {X : Type 0} (x : X) (xs : List X) → 0 ≡ length (x ∷ xs) → ⊥
@@ -85,14 +84,14 @@ full_all terms start calls outcomes front one back split = full_among terms (his
 
 -- where they were all done no count moved
 pub counts_done : (n : ℕ) (calls : List Arrival) (answers : List Answer) → CountsAmong n (told_all calls (map Some answers)) n
-counts_done n [] answers = same_count n
-counts_done n (x ∷ calls) [] = same_count n
-counts_done n (x ∷ calls) (a ∷ answers) = (n, n, same_count n, refl, counts_done n calls answers)
+counts_done n [] answers = refl
+counts_done n (x ∷ calls) [] = refl
+counts_done n (x ∷ calls) (a ∷ answers) = (n, n, inl refl, refl, counts_done n calls answers)
 
 pub raises_done : (n : ℕ) (calls : List Arrival) (answers : List Answer) → RaisesAmong n (told_all calls (map Some answers)) n
-raises_done n [] answers = (zero, refl)
-raises_done n (x ∷ calls) [] = (zero, refl)
-raises_done n (x ∷ calls) (a ∷ answers) = (zero, raises_done n calls answers)
+raises_done n [] answers = refl
+raises_done n (x ∷ calls) [] = refl
+raises_done n (x ∷ calls) (a ∷ answers) = (zero, inl refl, raises_done n calls answers)
 
 -- their record is one of the run,
 pub record_of_all : (terms : Terms) (start : List Entry) (calls : List Arrival) (outcomes : List (Option Answer)) → length calls ≤ BATCH_LIMIT → AreApart calls → length outcomes ≡ length calls

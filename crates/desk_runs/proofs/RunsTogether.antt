@@ -1,6 +1,7 @@
 -- Notices that a desk answered together, or that the disk's fault made it answer one by one, are a run.
-use Rattle.std.proofs.Common.{◌≡◌, ◌⊎◌, inl, inr, ℕ, zero, suc, ◌<◌, ◌≤◌, List, [], ◌∷◌, ◌++◌, map, length, Option, Some, Ok, Err, refl, sym, ap, ◌∙◌, subst, arith, append-nil}
+use Rattle.std.proofs.Common.{◌≡◌, ◌⊎◌, inl, inr, ℕ, zero, suc, ◌<◌, ◌≤◌, List, [], ◌∷◌, ◌++◌, map, length, Option, Some, None, Ok, Err, refl, sym, ap, ◌∙◌, subst, arith, append-nil}
 use Rattle.adx_io.specs.Disks.{LeavesOnly}
+use Rattle.adx_io.specs.Fakes.{counted}
 use Rattle.notice_batches.specs.Batches.{AreApart, answers_in_turn, entries_in_turn}
 use Rattle.adx_desk.specs.Desks.{DeskKeeps, OnDisk}
 use Rattle.adx_desk.specs.Endings.{FailsDisk, NoFault}
@@ -18,7 +19,7 @@ use Rattle.day_rules.specs.Terms.{Terms}
 use Rattle.desk_runs.specs.Meanings.{Told}
 use Rattle.desk_runs.specs.OnDisk.{history_after}
 use Rattle.desk_runs.specs.Records.{CountsAmong, IsLeftInDoubt, IsRecordOfRun, MayBeInDoubtAt, MayBeLeftBy, RaisesAmong, RunsOn, StandsInRunFrom}
-use Rattle.desk_runs.specs.Told.{told_all}
+use Rattle.desk_runs.specs.Told.{told_all, told_by}
 use Rattle.desk_runs.proofs.RunsCalls.{stands_first}
 use Rattle.desk_runs.proofs.RunsCounts.{among_later, counted_some, counts_from, raises_before, raises_none, rises_within, same_count}
 use Rattle.desk_runs.proofs.RunsRecords.{record_along}
@@ -45,6 +46,23 @@ one_of_record terms start told tail entries history es r (inr (inr other)) = inr
 stands_of_record : (terms : DeskTerms) (start tail entries : List Entry) (told : List Told) (file : List ℕ) → IsRecordOfRun terms.day start told start entries → StandsInRunFrom terms start entries told file → StandsInRunFrom terms start tail told file
 stands_of_record terms start tail entries told file r s =
     record { front = s.front; back = s.back; split = s.split; more = s.more; is = one_of_record terms.day start told tail entries (history_after terms.day start s.front) s.more r s.is; stands = s.stands }
+
+-- the counts of notices that are asked one by one, behind a record of them that failed
+counts_behind : (a m b : ℕ) (calls : List Arrival) (outcomes : List (Option Answer)) → length outcomes ≡ length calls → (calls ≡ [] → m ≡ a) → a ≤ m
+    → CountsAmong m (told_all calls outcomes) b → CountsAmong a (told_all calls outcomes) b
+counts_behind a m b [] outcomes long none later counts = counts ∙ none refl
+counts_behind a m b (x ∷ calls) [] long none later counts = absurd (omega (arith, long))
+counts_behind a m b (x ∷ calls) (None ∷ outcomes) long none later counts = counts_from a m b (told_by x None) (told_all calls outcomes) tt later counts
+counts_behind a m b (x ∷ calls) (Some answer ∷ outcomes) long none later counts = counts_from a m b (told_by x (Some answer)) (told_all calls outcomes) tt later counts
+
+raises_behind : (a m b : ℕ) (calls : List Arrival) (outcomes : List (Option Answer)) → length outcomes ≡ length calls → (calls ≡ [] → m ≡ a) → m ≡ counted a
+    → RaisesAmong m (told_all calls outcomes) b → RaisesAmong a (told_all calls outcomes) b
+raises_behind a m b [] outcomes long none is raises = raises ∙ none refl
+raises_behind a m b (x ∷ calls) [] long none is raises = absurd (omega (arith, long))
+raises_behind a m b (x ∷ calls) (None ∷ outcomes) long none is raises =
+    raises_before a b (suc zero) (told_by x None) (told_all calls outcomes) tt (subst (λ (n : ℕ). RaisesAmong n (told_by x None ∷ told_all calls outcomes) b) is raises)
+raises_behind a m b (x ∷ calls) (Some answer ∷ outcomes) long none is raises =
+    raises_before a b (suc zero) (told_by x (Some answer)) (told_all calls outcomes) tt (subst (λ (n : ℕ). RaisesAmong n (told_by x (Some answer) ∷ told_all calls outcomes) b) is raises)
 
 module _ {D : Type 0} (faults : D → ℕ) (may_leave : D → List ℕ → Type 0) (moment : D → ℕ) (left_since : D → ℕ → List ℕ → Type 0) where
   -- notices that the desk answered together, by the clauses of `Desk::batch`
@@ -85,9 +103,10 @@ module _ {D : Type 0} (faults : D → ℕ) (may_leave : D → List ℕ → Type 
 
   -- notices whose record the disk's fault gave up, and that were then answered one by one
   pub batch_given_up : {T : Type 0} (old mid new : OnDisk D) (calls : List Arrival) (outcomes : List (Option Answer)) → length calls ≤ BATCH_LIMIT → AreApart calls → length outcomes ≡ length calls
+      → (entries_in_turn old.desk.history calls ≡ [] → mid ≡ old)
       → ServesAll {T = T} may_leave moment left_since old mid (entries_in_turn old.desk.history calls) (Err DeskFault.DiskFault) → FailsDisk (faults old.disk) (faults mid.disk) old.desk mid.desk
       → RunsOn faults may_leave moment left_since mid new (told_all calls outcomes) → RunsOn faults may_leave moment left_since old new (told_all calls outcomes)
-  batch_given_up old mid new calls outcomes few apart long s fails runs =
+  batch_given_up old mid new calls outcomes few apart long unmoved s fails runs =
       let d = old.desk.terms in
       let start = old.desk.history in
       let told = told_all calls outcomes in record {
@@ -96,8 +115,8 @@ module _ {D : Type 0} (faults : D → ℕ) (may_leave : D → List ℕ → Type 
         legal = along (λ (x : DeskTerms) (h : List Entry). IsLegal x.day h) runs.legal;
         taken = taken_all (length d.day.budgets) calls outcomes;
         history = runs.history ∙ (λ i. history_after (s.terms i).day (same i) told);
-        counted = counts_from (faults old.disk) (faults mid.disk) (faults new.disk) told fails.later runs.counted;
-        known = raises_before old.desk.faults new.desk.faults (suc zero) told (subst (λ (n : ℕ). RaisesAmong n told new.desk.faults) fails.counted runs.known);
+        counted = counts_behind (faults old.disk) (faults mid.disk) (faults new.disk) calls outcomes long (λ none. ap (λ (o : OnDisk _). faults o.disk) (still none)) fails.later runs.counted;
+        known = raises_behind old.desk.faults mid.desk.faults new.desk.faults calls outcomes long (λ none. ap (λ (o : OnDisk _). o.desk.faults) (still none)) fails.counted runs.known;
         passed = λ none. absurd (counted_some old.desk.faults (sym fails.counted ∙ raises_none mid.desk.faults new.desk.faults told runs.known none));
         risen = λ other.
             rises_within (faults old.disk) (faults old.disk) (faults mid.disk) (faults new.disk) (same_count (faults old.disk)) fails.later fails.risen
@@ -109,6 +128,10 @@ module _ {D : Type 0} (faults : D → ℕ) (may_leave : D → List ℕ → Type 
     where
       same : mid.desk.history ≡ old.desk.history
       same = s.same
+
+      -- where no notice waits the desk isn't touched
+      still : calls ≡ [] → mid ≡ old
+      still none = unmoved (ap (λ (xs : List Arrival). entries_in_turn old.desk.history xs) none)
 
       along : (P : DeskTerms → List Entry → Type 0) → P mid.desk.terms mid.desk.history → P old.desk.terms old.desk.history
       along P p = subst (λ (x : DeskTerms × List Entry). P x.0 x.1) (λ i. (s.terms i, same i)) p

@@ -80,14 +80,25 @@ abbrev pub CountsEach : ℕ → List Told → ℕ → Type 0
 CountsEach before [] now = now ≡ before
 CountsEach before (t ∷ told) now = (between : ℕ) × CountsOne before t.fault between × CountsEach between told now
 
--- A call that is told that the journal is full has an entry. The size that is told passes what a journal may have, and
--- is at most what the longest journal of the history comes to with that entry and all that is held then.
+-- an entry that the journal may have no room for: an ask's, or that of a change of a budget. Room for all others is held.
+abbrev pub MayWantRoom : Entry → Type 0
+MayWantRoom (Entry.Ask a) = Unit {0}
+MayWantRoom (Entry.Win n) = ⊥
+MayWantRoom (Entry.Bill n) = ⊥
+MayWantRoom (Entry.Loss n) = ⊥
+MayWantRoom (Entry.Expire now) = ⊥
+MayWantRoom (Entry.Budget campaign change budget) = Unit {0}
+
+-- A call that is told that the journal is full has an entry, which is an ask's or that of a change of a budget: a notice
+-- and a tick are never told so. The size that is told passes what a journal may have, and is at most what the longest
+-- journal of the history comes to with that entry and all that is held then.
 abbrev pub FullOnly : DeskTerms → List Entry → Option Entry → Option Fault → Type 0
 FullOnly terms history entry None = Unit {0}
 FullOnly terms history entry (Some Fault.Disk) = Unit {0}
 FullOnly terms history None (Some (Fault.JournalFull size)) = ⊥
 FullOnly terms history (Some e) (Some (Fault.JournalFull size)) =
     (greatest_size < size) × (size ≤ longest_size terms history + longest_record e + longest_held (history ++ e ∷ []))
+    × MayWantRoom e
 
 -- each call that was told so
 abbrev pub FullEach : DeskTerms → List Entry → List Told → Type 0

@@ -11,7 +11,7 @@ use Rattle.answer_lines.specs.declared.faults.Fault.{Fault}
 use Rattle.day_rules.specs.declared.entry.Entry.{Entry}
 use Rattle.day_rules.specs.Laws.{Arrival}
 use Rattle.day_rules.specs.Legal.{IsLegal}
-use Rattle.day_rules.specs.Replies.{Call, reply, with_entry}
+use Rattle.day_rules.specs.Replies.{Call, ask, notice, tick, set_budget, reply, with_entry}
 use Rattle.day_rules.specs.Runs.{AreTurns, run}
 use Rattle.day_rules.specs.Terms.{Terms}
 use Rattle.desk_calls.specs.Together.{call_by}
@@ -75,12 +75,23 @@ pub record StandsInRunFrom (terms : DeskTerms) (start tail : List Entry) (told :
   pub is : MayBeInDoubtAt terms.day start tail told (history_after terms.day start front) more
   pub stands : WithOrWithout terms (history_after terms.day start front) more file
 
--- The disk's counts from call to call: it rose in each call that its fault gave up. Before a call and behind the last it
--- may rise too, by the fault of a record of notices that waited together, one or more, which are then asked one by one.
+-- a call that may wait with others: a notice
+abbrev pub MayWait : Call → Type 0
+MayWait (ask a) = ⊥
+MayWait (notice kind auction award) = Unit {0}
+MayWait (tick now) = ⊥
+MayWait (set_budget x) = ⊥
+
+-- the disk's count where a call begins: as it was; or greater before a notice, by the fault of a record of notices that
+-- waited together, one or more, which are then asked one by one
+abbrev pub CountsBefore : ℕ → Call → ℕ → Type 0
+CountsBefore before call from = (from ≡ before) ⊎ (MayWait call × (before ≤ from))
+
+-- The disk's counts from call to call: it rose in each call that its fault gave up, and else before a notice alone.
 abbrev pub CountsAmong : ℕ → List Told → ℕ → Type 0
-CountsAmong before [] now = before ≤ now
+CountsAmong before [] now = now ≡ before
 CountsAmong before (t ∷ told) now =
-    (from between : ℕ) × (before ≤ from) × CountsOne from t.fault between × CountsAmong between told now
+    (from between : ℕ) × CountsBefore before t.call from × CountsOne from t.fault between × CountsAmong between told now
 
 -- the desk's own count behind a call
 abbrev pub count_after : Option Fault → ℕ → ℕ
@@ -93,11 +104,12 @@ abbrev pub raised : ℕ → ℕ → ℕ
 raised zero n = n
 raised (suc times) n = raised times (counted n)
 
--- The desk's own counts from call to call: the disk's fault raised it in each call that it gave up, and, before a call and
--- behind the last, for each record of notices that waited together, one or more, which are then asked one by one.
+-- The desk's own counts from call to call: the disk's fault raised it in each call that it gave up, and, before a notice,
+-- for each record of notices that waited together, one or more, which are then asked one by one.
 abbrev pub RaisesAmong : ℕ → List Told → ℕ → Type 0
-RaisesAmong before [] now = (times : ℕ) × (now ≡ raised times before)
-RaisesAmong before (t ∷ told) now = (times : ℕ) × RaisesAmong (count_after t.fault (raised times before)) told now
+RaisesAmong before [] now = now ≡ before
+RaisesAmong before (t ∷ told) now =
+    (times : ℕ) × ((times ≡ zero) ⊎ MayWait t.call) × RaisesAmong (count_after t.fault (raised times before)) told now
 
 -- A run of calls on a desk, whose notices may be written together.
 pub record RunsOn {D : Type 0} (faults : D → ℕ) (may_leave : D → List ℕ → Type 0) (moment : D → ℕ)

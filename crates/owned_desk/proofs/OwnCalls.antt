@@ -131,10 +131,10 @@ module _ {D : Type 0} (d : Ghosts D) where
         → IfErr result (λ (e : DeskFault). Takes (OwnRuns d) old new call (ended_by e) (λ at. Unit {0}))
     own_refused only_now (Ok done) s ends same short = tt
     own_refused {T = T} only_now (Err DeskFault.DiskFault) s ends same short =
-        own_told Fault.Disk tt (runs_given_up d.faults d.may_leave d.moment d.left_since {T = T} old new call DeskFault.DiskFault Fault.Disk refl legal taken s ends same short)
+        own_told Fault.Disk tt (runs_given_up d.faults d.may_leave d.moment d.left_since {T = T} old new call DeskFault.DiskFault Fault.Disk refl legal taken roomy s ends same short)
     own_refused {T = T} only_now (Err (DeskFault.JournalFull size)) s ends same short =
         let fault = Fault.JournalFull size in
-        let runs = runs_given_up d.faults d.may_leave d.moment d.left_since {T = T} old new call (DeskFault.JournalFull size) fault refl legal taken s ends same short in
+        let runs = runs_given_up d.faults d.may_leave d.moment d.left_since {T = T} old new call (DeskFault.JournalFull size) fault refl legal taken roomy s ends same short in
         own_told fault
         (roomy, full_may old.desk.terms old.desk.history (reply old.desk.terms.day old.desk.history call).entry size (runs.full [] (record { call = call; fault = Some fault }) [] refl)) runs
     own_refused only_now (Err (DeskFault.BadEntry at)) s ends same short = absurd ends
@@ -201,22 +201,24 @@ module _ {D : Type 0} (d : Ghosts D) where
 
     pub own_lost : {T : Type 0} (result : Result T DeskFault) → OnErr result (batch_now ≡ batch)
         → ServesAll d.may_leave d.moment d.left_since old new (entries_in_turn old.desk.history batch.calls) result → EndsNotice (d.faults old.disk) (d.faults new.disk) old.desk new.desk result
+        → (entries_in_turn old.desk.history batch.calls ≡ [] → new ≡ old)
         → OnErr result (OwnLost d old new batch.calls × (batch_now ≡ batch))
-    own_lost (Ok done) same s ends = tt
-    own_lost (Err DeskFault.DiskFault) same s ends = (
+    own_lost (Ok done) same s ends unmoved = tt
+    own_lost (Err DeskFault.DiskFault) same s ends unmoved = (
       record {
         serves = record { terms = s.terms; since = s.since; history = tt; same = s.same; any_moment = s.any_moment; done = tt; acknowledged = tt; doubted = s.doubted };
         fails = ends;
+        unmoved = unmoved;
         lasts = lasts;
       },
       same,
     )
-    own_lost (Err (DeskFault.JournalFull size)) same s ends = absurd ends
-    own_lost (Err (DeskFault.BadEntry at)) same s ends = absurd ends
-    own_lost (Err (DeskFault.OtherRoster kept)) same s ends = absurd ends
-    own_lost (Err (DeskFault.NotAJournal at)) same s ends = absurd ends
-    own_lost (Err (DeskFault.BadLength at)) same s ends = absurd ends
-    own_lost (Err DeskFault.OutOfMemory) same s ends = absurd ends
+    own_lost (Err (DeskFault.JournalFull size)) same s ends unmoved = absurd ends
+    own_lost (Err (DeskFault.BadEntry at)) same s ends unmoved = absurd ends
+    own_lost (Err (DeskFault.OtherRoster kept)) same s ends unmoved = absurd ends
+    own_lost (Err (DeskFault.NotAJournal at)) same s ends unmoved = absurd ends
+    own_lost (Err (DeskFault.BadLength at)) same s ends unmoved = absurd ends
+    own_lost (Err DeskFault.OutOfMemory) same s ends unmoved = absurd ends
 
 -- what was written behind nothing
 pub behind_none : {T E : Type 0} (result : Result T E) (before now table : List ℕ) → before ≡ [] → OnOk result (now ≡ before ++ table) → OnOk result (now ≡ table)

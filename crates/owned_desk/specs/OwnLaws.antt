@@ -89,7 +89,7 @@ module _ {D : Type 0} (d : Ghosts D) where
     on_disk = λ legal.
         subst (On old new) (sym (told_notices notices outcomes steps are))
         (batch_given_up d.faults d.may_leave d.moment d.left_since old mid new notices outcomes few apart
-        (as_many notices outcomes steps are) lost.serves lost.fails
+        (as_many notices outcomes steps are) lost.unmoved lost.serves lost.fails
         (subst (On mid new) (told_notices notices outcomes steps are)
         (ran.on_disk (subst (λ (x : DeskTerms × List Entry). IsLegal x.0.day x.1) (λ i. (sym lost.serves.terms i, sym same i)) legal))));
     lasts = lasts_on old.disk mid.disk new.disk lost.lasts ran.lasts;
