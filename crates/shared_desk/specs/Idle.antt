@@ -1,0 +1,10 @@
+-- A pass beside the first one of its desk, by which nothing was called. This project's own.
+use Rattle.std.specs.Prelude.{◌≡◌, [], false}
+use Rattle.shared_desk.specs.Callers.{DeskPass}
+
+-- the pass was split from the first one of its desk, and has no turns
+pub record IsIdle (first p : DeskPass) : Type 0 where
+  pub turnstile : p.turnstile ≡ first.turnstile
+  pub fixed : p.fixed ≡ first.fixed
+  pub split : p.is_first ≡ false
+  pub none : p.turns ≡ []
