@@ -1,18 +1,19 @@
 -- An empty file stands for no entry, and so a day on it begins with none.
-use Rattle.std.proofs.Common.{◌≡◌, inl, inr, refl, sym, ap, subst, ◌∙◌, ℕ, List, [], ◌∷◌, length, length-append, arith, Option, Some, None, Result, Ok, Err}
+use Rattle.std.proofs.Common.{◌≡◌, inl, inr, refl, sym, ap, subst, ◌∙◌, ℕ, List, [], ◌∷◌, length, length-append, arith, Option, Some, None, Ok}
 use Rattle.adx_io.specs.ByteDisks.{ByteDiskState}
 use Rattle.adx_io.specs.Streams.{Tape}
-use Rattle.adx_io.specs.declared.stop.Stop.{Stop}
-use Rattle.adx_books.specs.GeneratedEnds.{EndsGenerated}
+use Rattle.adx_desk.specs.declared.fault.DeskFault.{DeskFault}
+use Rattle.command_gen.specs.GeneratedEnds.{EndsGenerated}
+use Rattle.command_runs.specs.declared.outcome.Outcome.{Outcome}
 use Rattle.adx_desk.specs.Histories.{Spells}
 use Rattle.day_journal.specs.Places.{StandsFor, opened}
 use Rattle.day_rules.specs.declared.entry.Entry.{Entry}
 use Rattle.desk_runs.specs.Courses.{Course, given_up, served, unopened}
 use Rattle.desk_runs.specs.OnDisk.{CourseOn}
-use Rattle.script_day.specs.declared.ending.Ending.{Ending}
+use Rattle.history_runs.specs.Histories.{unopened_end}
 use Rattle.adx_commands.specs.Anew.{NothingStandsForNothing, RunsConnectionAnew, RunsDayAnew, RunsGeneratedAnew, TookGenerated, byte_disk, new_disk}
 use Rattle.adx_commands.specs.Commands.{RunsConnection, RunsDay, RunsGenerated}
-use Rattle.adx_commands.specs.Statuses.{status_of}
+use Rattle.adx_commands.proofs.Outcomes.{done_at}
 
 -- no payload stands in an empty file
 no_payload : (format : ℕ) (payloads : List (List ℕ)) → StandsFor format [] payloads → payloads ≡ []
@@ -28,31 +29,30 @@ no_entry format digest payloads history none (inr some) = absurd (cc (sym none �
 pub nothing_for_nothing : NothingStandsForNothing
 nothing_for_nothing terms history is = no_entry is.format terms.digest is.payloads history (no_payload is.format is.payloads is.stands) is.spells
 
--- the endings that have status 0
-done_only : (result : Result (Unit {0}) Ending) → 0 ≡ status_of result → result ≡ Ok tt
-done_only (Ok done) is = refl
-done_only (Err Ending.Refused) is = absurd (omega (arith, is))
-done_only (Err Ending.DiskFault) is = absurd (omega (arith, is))
-done_only (Err Ending.NoHistory) is = absurd (omega (arith, is))
-done_only (Err (Ending.Stopped Stop.ReadFault)) is = absurd (omega (arith, is))
-done_only (Err (Ending.Stopped Stop.WriteFault)) is = absurd (omega (arith, is))
-done_only (Err (Ending.Stopped Stop.OutOfMemory)) is = absurd (omega (arith, is))
+-- a day that wasn't opened isn't done
+not_done : (why : DeskFault) → unopened_end why ≡ Ok Outcome.Done → ⊥
+not_done DeskFault.DiskFault is = cc is
+not_done (DeskFault.JournalFull size) is = cc is
+not_done (DeskFault.BadEntry at) is = cc is
+not_done (DeskFault.OtherRoster kept) is = cc is
+not_done (DeskFault.NotAJournal at) is = cc is
+not_done (DeskFault.BadLength at) is = cc is
+not_done DeskFault.OutOfMemory is = cc is
 
 table_of : (seed asks : ℕ) (course : Course) (held held_now : Option (List ℕ)) (kept : ByteDiskState)
-    → EndsGenerated seed asks course held held_now (Ok tt)
+    → EndsGenerated seed asks course held held_now (Ok Outcome.Done)
     → CourseOn byte_disk.faults byte_disk.reads byte_disk.may_leave byte_disk.moment byte_disk.left_since course new_disk kept
     → TookGenerated seed asks held held_now
 table_of seed asks unopened held held_now kept ends on_disk = absurd (cc ends.0)
-table_of seed asks (given_up r why) held held_now kept ends on_disk = absurd ends.1
+table_of seed asks (given_up r why) held held_now kept ends on_disk = absurd (not_done why ends.1.0)
 table_of seed asks (served r start told (Some more)) held held_now kept ends on_disk = absurd ends
 table_of seed asks (served r start told None) held held_now kept ends on_disk =
     (r, ends.0, ends.2 (nothing_for_nothing _ start (on_disk.begins [] refl)) refl)
 
 pub table_anew : (seed asks : ℕ) (held held_now : Option (List ℕ)) (status : ℕ) → RunsGeneratedAnew seed asks held held_now status → status ≡ 0 → TookGenerated seed asks held held_now
 table_anew seed asks held held_now status (kept, runs) is =
-    let ending_is : runs.ending ≡ Ok tt = done_only runs.ending (sym is ∙ runs.told) in
-    let serves = runs.serves in
-    table_of seed asks serves.course held held_now kept (subst (EndsGenerated seed asks serves.course held held_now) ending_is serves.ends) serves.on_disk
+    let ran = runs.runs in
+    table_of seed asks ran.course held held_now kept (subst (EndsGenerated seed asks ran.course held held_now) (done_at runs.ended (sym runs.told ∙ is)) ran.ends) ran.on_disk
 
 -- a run on a disk that is new, whatever it is called
 pub day_anew : (old kept : ByteDiskState) (tape tape_now : Option Tape) (held held_now : Option (List ℕ)) (status : ℕ) → old ≡ new_disk

@@ -10,6 +10,8 @@ use Rattle.command_archive.proofs.Unbegun.{unkept, unlisted_days}
 use Rattle.command_check.proofs.Ended.{unbegun as unchecked}
 use Rattle.command_close.specs.ClosedDays.{IsClosedDay}
 use Rattle.command_close.specs.Guarantees.{IsGuarantee}
+use Rattle.command_day.specs.Days.{day_command}
+use Rattle.command_day.proofs.OneOutput.{took_told}
 use Rattle.command_notices.specs.PostLines.{AreNotices}
 use Rattle.command_reconcile.specs.Runs.{RunsReconciliation, reconcile_command}
 use Rattle.command_runs.specs.Statuses.{status_by}
@@ -23,10 +25,9 @@ use Rattle.history_runs.specs.Histories.{Prints}
 use Rattle.history_runs.specs.Runs.{history_command}
 use Rattle.desk_runs.specs.Courses.{unopened}
 use Rattle.script_day.specs.declared.ending.Ending.{Ending}
-use Rattle.script_day.proofs.Days.{unbegun as unserved}
-use Rattle.adx_books.specs.GeneratedEnds.{ServesGenerated}
+use Rattle.command_gen.specs.GeneratedEnds.{GeneratedRuns}
 use Rattle.exchange_day.proofs.Ends.{unbegun as unconnected}
-use Rattle.adx_commands.specs.Commands.{Does, DoesAsRead, IsCommand, Outside, Runs, RunsBidder, RunsPrint}
+use Rattle.adx_commands.specs.Commands.{Does, DoesAsRead, IsCommand, Outside, Runs, RunsBidder, RunsDay, RunsPrint}
 use Rattle.adx_commands.specs.Statuses.{status_of}
 
 -- ---- the status of words that are no command
@@ -86,7 +87,19 @@ module _ {S K D P : Type 0} (s : sources.Ghosts S) (k : sinks.Ghosts K) (d : dis
     wrote = unbegun_wrote (bidder_command None) (s.tape source) (k.held sink) (λ left. (refl, inr (([], All-nil (λ b. b ≢ 10), inl ([], zero-le, refl)), refl)));
   }
 
-  generated_untaken : (seed asks : ℕ) → ServesGenerated d.faults d.reads d.may_leave d.moment d.left_since seed asks (k.held sink) (k.held sink) disk disk no_memory
+  unserved : RunsDay d (s.tape source) (s.tape source) (k.held sink) (k.held sink) disk disk 12
+  unserved =
+      let wrote = unbegun_wrote (day_command unopened) (s.tape source) (k.held sink) (λ left. (refl, inr (([], All-nil (λ b. b ≢ 10), inl ([], zero-le, refl)), refl))) in record {
+        course = unopened;
+        ended = Err Stop.OutOfMemory;
+        told = refl;
+        ends = tt;
+        on_disk = refl;
+        wrote = wrote;
+        of_whole = took_told unopened (s.tape source) (s.tape source) (k.held sink) (k.held sink) (Err Stop.OutOfMemory) wrote;
+      }
+
+  generated_untaken : (seed asks : ℕ) → GeneratedRuns d seed asks (k.held sink) (k.held sink) disk disk (Err Stop.OutOfMemory)
   generated_untaken seed asks = record { course = unopened; ends = (refl, refl); on_disk = refl }
 
   unclosed : (prints : Prints) → RunsPrint d prints (s.tape source) (s.tape source) (k.held sink) (k.held sink) disk disk 12
@@ -112,13 +125,13 @@ module _ {S K D P : Type 0} (s : sources.Ghosts S) (k : sinks.Ghosts K) (d : dis
 
   -- whatever was to run ends so
   unstarted : (read : Option Command) → Runs s k d p (still source sink disk keeper) 12 read
-  unstarted (Some (Command.Day journal)) = record { ending = no_memory; told = refl; serves = unserved d.faults d.reads d.may_leave d.moment d.left_since (s.tape source) (k.held sink) disk }
+  unstarted (Some (Command.Day journal)) = unserved
   unstarted (Some (Command.Connection journal)) = record { ending = no_memory; told = refl; ends = unconnected d.faults d.reads d.may_leave d.moment d.left_since (s.tape source) (k.held sink) disk }
   unstarted (Some (Command.Notices journal)) = unclosed AreNotices
   unstarted (Some Command.Bidder) = bidder_unserved
   unstarted (Some (Command.Close journal false)) = unclosed IsClosedDay
   unstarted (Some (Command.Close journal true)) = unclosed IsGuarantee
-  unstarted (Some (Command.Generate seed asks)) = record { ending = no_memory; told = refl; serves = generated_untaken seed asks }
+  unstarted (Some (Command.Generate seed asks)) = record { ended = Err Stop.OutOfMemory; told = refl; runs = generated_untaken seed asks }
   unstarted (Some Command.Check) = unchecked (s.tape source) (k.held sink)
   unstarted (Some (Command.ArchivePut file)) = unkept s k p source sink keeper
   unstarted (Some (Command.ArchiveList file seat cid first last)) = unlisted_days p (record { seat = seat; cid = cid; first = first; last = last }) keeper (k.held sink)
@@ -154,13 +167,13 @@ reconciled s k d p o status read journal name asked ended is named kept told ran
 
 module _ {S K D P : Type 0} (s : sources.Ghosts S) (k : sinks.Ghosts K) (d : disks.Ghosts D) (p : keepers.Ghosts P) (o : Outside S K D P) where
   not_refused : (command : Command) → Runs s k d p o 2 (Some command) → ⊥
-  not_refused (Command.Day journal) runs = not_two runs.ending runs.told
+  not_refused (Command.Day journal) runs = not_two_by runs.ended runs.told
   not_refused (Command.Connection journal) runs = not_two runs.ending runs.told
   not_refused (Command.Notices journal) runs = not_two_by runs.ended runs.told
   not_refused Command.Bidder runs = not_two_by runs.ended runs.told
   not_refused (Command.Close journal false) runs = not_two_by runs.ended runs.told
   not_refused (Command.Close journal true) runs = not_two_by runs.ended runs.told
-  not_refused (Command.Generate seed asks) runs = not_two runs.ending runs.told
+  not_refused (Command.Generate seed asks) runs = not_two_by runs.ended runs.told
   not_refused Command.Check runs = not_two_by runs.ended runs.told
   not_refused (Command.ArchivePut file) runs = not_two_by runs.ended runs.told
   not_refused (Command.ArchiveList file seat cid first last) runs = not_two_by runs.ended runs.told

@@ -1,18 +1,26 @@
 -- The causes of a run that ended with an outcome, by its exit status.
-use Rattle.std.proofs.Common.{◌≡◌, ◌⊎◌, ◌∙◌, inl, inr, sym, ap, subst, refl, ℕ, Option, Result, Ok, Err, arith}
+use Rattle.std.proofs.Common.{◌≡◌, ◌≢◌, ◌≤◌, List, ◌⊎◌, ◌∙◌, inl, inr, sym, ap, subst, refl, ℕ, Option, Result, Ok, Err, arith}
+use Rattle.adx_io.specs.Streams.{Rises}
 use Rattle.adx_io.specs.declared.disk.Disk as disks
 use Rattle.adx_io.specs.declared.stop.Stop.{Stop}
 use Rattle.bidder_core.specs.Seen.{BidderState}
 use Rattle.command_bidder.specs.Bidders.{MayEnd}
 use Rattle.command_bidder.proofs.Bidders.{no_disk_fault}
+use Rattle.command_day.specs.Days.{EndsAs}
+use Rattle.command_day.proofs.DiskCounts.{disk_later as day_later, disk_rises as day_rises, disk_stays as day_stays}
+use Rattle.command_gen.specs.GeneratedEnds.{GeneratedRuns}
+use Rattle.command_gen.proofs.Serving.{day_risen, day_stayed, never_unread}
 use Rattle.command_reconcile.specs.Runs.{Course}
 use Rattle.command_reconcile.proofs.DiskCounts.{IsLeft as IsLedgerLeft, disk_later as ledger_later, disk_rises as ledger_rises, disk_stays as ledger_stays}
 use Rattle.command_runs.specs.Runs.{HasRunCauses}
 use Rattle.command_runs.specs.Statuses.{status_by}
 use Rattle.command_runs.specs.declared.outcome.Outcome.{Outcome}
 use Rattle.deal_floor.specs.declared.roster.Roster.{Roster}
+use Rattle.desk_runs.specs.Courses.{Course as DayCourse}
+use Rattle.desk_runs.specs.OnDisk.{CourseOn}
 use Rattle.history_runs.specs.Histories.{Opening}
 use Rattle.history_runs.proofs.DiskCounts.{IsLeft, disk_later, disk_rises, disk_stays}
+use Rattle.desk_runs.proofs.DiskCounts.{day_later as course_later}
 use Rattle.adx_commands.specs.Statuses.{HasCauses, HasDiskCauses}
 
 -- the ends that have these statuses
@@ -55,7 +63,7 @@ disk_failed (Err Stop.ReadFault) is = absurd (omega (arith, is))
 disk_failed (Err Stop.WriteFault) is = absurd (omega (arith, is))
 disk_failed (Err Stop.OutOfMemory) is = absurd (omega (arith, is))
 
-done_at : (result : Result Outcome Stop) → status_by result ≡ 0 → result ≡ Ok Outcome.Done
+pub done_at : (result : Result Outcome Stop) → status_by result ≡ 0 → result ≡ Ok Outcome.Done
 done_at (Ok Outcome.Done) is = refl
 done_at (Ok Outcome.Refused) is = absurd (omega (arith, is))
 done_at (Ok Outcome.DiskFault) is = absurd (omega (arith, is))
@@ -105,6 +113,15 @@ counted_print d course old new result status left told = record {
   disk_later = disk_later d old new result course left;
 }
 
+-- and where a day was served
+pub counted_day : {D : Type 0} (d : disks.Ghosts D) (course : DayCourse) (old new : D) (result : Result Outcome Stop) (status : ℕ) → EndsAs course result → CourseOn d.faults d.reads d.may_leave d.moment d.left_since course old new → status ≡ status_by result
+    → HasDiskCauses (d.faults old) (d.faults new) status
+counted_day d course old new result status ends left told = record {
+  disk_fault = λ is. day_rises d course old new result ends left (disk_failed result (sym told ∙ is));
+  disk_passed = λ is. day_stays d course old new result ends left (passed result (subst (λ n. (n ≡ 0) ⊎ (n ≡ 7)) told is));
+  disk_later = day_later d course old new left;
+}
+
 -- a bidder's run meets no disk
 pub counted_bidder : (count : ℕ) (course : Option (BidderState × BidderState)) (result : Result Outcome Stop) (status : ℕ) → MayEnd course result → status ≡ status_by result → HasDiskCauses count count status
 counted_bidder count course result status ends told = record {
@@ -120,4 +137,29 @@ counted_ledger d course old new result status left told = record {
   disk_fault = λ is. ledger_rises d old new result course left (disk_failed result (sym told ∙ is));
   disk_passed = λ is. ledger_stays d old new result course left (passed result (subst (λ n. (n ≡ 0) ⊎ (n ≡ 7)) told is));
   disk_later = ledger_later d old new result course left;
+}
+
+-- a generated day reads nothing
+pub caused_generated : {D : Type 0} (d : disks.Ghosts D) (seed asks : ℕ) (held held_now : Option (List ℕ)) (old new : D) (read write write_now : ℕ) (result : Result Outcome Stop) (status : ℕ)
+    → GeneratedRuns d seed asks held held_now old new result → (result ≡ Err Stop.WriteFault → Rises write write_now) → (result ≢ Err Stop.WriteFault → write_now ≡ write) → write ≤ write_now → status ≡ status_by result
+    → HasCauses read read write write_now status
+caused_generated d seed asks held held_now old new read write write_now result status runs failed passed_by later told = record {
+  read_fault = λ is. absurd (never_unread d seed asks held held_now old new result runs (read_failed result (sym told ∙ is)));
+  read_passed = λ other. refl;
+  write_fault = λ is. failed (write_failed result (sym told ∙ is));
+  write_passed = λ other. passed_by (λ is. other (told ∙ ap status_by is));
+  source_later = omega arith;
+  sink_later = later;
+}
+
+not_disk : (result : Result Outcome Stop) → (result ≡ Ok Outcome.Done) ⊎ (result ≡ Ok Outcome.NoHistory) → result ≡ Ok Outcome.DiskFault → ⊥
+not_disk result (inl done) is = cc (done, is)
+not_disk result (inr none) is = cc (none, is)
+
+pub counted_generated : {D : Type 0} (d : disks.Ghosts D) (seed asks : ℕ) (held held_now : Option (List ℕ)) (old new : D) (result : Result Outcome Stop) (status : ℕ)
+    → GeneratedRuns d seed asks held held_now old new result → status ≡ status_by result → HasDiskCauses (d.faults old) (d.faults new) status
+counted_generated d seed asks held held_now old new result status runs told = record {
+  disk_fault = λ is. day_risen d seed asks held held_now old new result runs (disk_failed result (sym told ∙ is));
+  disk_passed = λ is. day_stayed d seed asks held held_now old new result runs (not_disk result (passed result (subst (λ n. (n ≡ 0) ⊎ (n ≡ 7)) told is)));
+  disk_later = course_later d.faults d.reads d.may_leave d.moment d.left_since runs.course old new runs.on_disk;
 }

@@ -3,7 +3,7 @@ use Rattle.std.specs.Prelude.{◌≡◌, ℕ, List, [], Option, Some, length, �
 use Rattle.adx_io.specs.ByteDisks.{ByteDiskState, HeldSince}
 use Rattle.adx_io.specs.Streams.{Tape, Took}
 use Rattle.adx_io.specs.declared.disk.Disk as disks
-use Rattle.adx_books.specs.Generated.{generated_history, generated_line}
+use Rattle.command_gen.specs.Generated.{generated_history, generated_line}
 use Rattle.adx_desk.specs.Histories.{DeskTerms, IsHistoryOf}
 use Rattle.answer_lines.specs.Table.{closing_table}
 use Rattle.day_rules.specs.declared.entry.Entry.{Entry}

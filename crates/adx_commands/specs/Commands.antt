@@ -1,7 +1,6 @@
 -- What comes of a command, and what words that aren't one write. How words ask for a command stands in `command_words`.
 -- This project's own.
 use Rattle.std.specs.Prelude.{◌≡◌, ◌⊎◌, ℕ, List, codes, true, false, Option, Some, None, Result}
-use Rattle.adx_books.specs.GeneratedEnds.{ServesGenerated}
 use Rattle.adx_io.specs.Streams.{Tape, Took, WhereTold}
 use Rattle.adx_io.specs.declared.disk.Disk as disks
 use Rattle.adx_io.specs.declared.stop.Stop.{Stop}
@@ -15,6 +14,8 @@ use Rattle.command_archive.specs.declared.list.Query.{Query}
 use Rattle.command_check.specs.Runs.{ChecksInput}
 use Rattle.command_close.specs.ClosedDays.{IsClosedDay}
 use Rattle.command_close.specs.Guarantees.{IsGuarantee}
+use Rattle.command_day.specs.Days.{EndsAs, TookOfWhole, day_command}
+use Rattle.command_gen.specs.GeneratedEnds.{GeneratedRuns}
 use Rattle.command_notices.specs.PostLines.{AreNotices}
 use Rattle.command_reconcile.specs.Runs.{RunsReconciliation}
 use Rattle.command_runs.specs.Firsts.{LeavesFirst}
@@ -28,10 +29,11 @@ use Rattle.command_words.specs.declared.command.Command.{Command}
 use Rattle.command_words.specs.declared.command.Topic.{Topic}
 use Rattle.day_archive.specs.declared.keeper.Keeper as keepers
 use Rattle.deal_floor.specs.declared.roster.Roster.{Roster}
+use Rattle.desk_runs.specs.Courses.{Course, GoesOn}
+use Rattle.desk_runs.specs.OnDisk.{CourseOn}
 use Rattle.exchange_day.specs.Connecting.{EndsExchange}
 use Rattle.history_runs.specs.Histories.{LeavesDay, Opening, Prints}
 use Rattle.history_runs.specs.Runs.{history_command}
-use Rattle.script_day.specs.Days.{ServesDay}
 use Rattle.script_day.specs.Endings.{TookFront}
 use Rattle.script_day.specs.declared.ending.Ending.{Ending}
 use Rattle.adx_commands.specs.Statuses.{status_of}
@@ -94,12 +96,20 @@ IsVersion words = IsPlain Command.Version words
 abbrev pub IsCommand : List (List ℕ) → Type 0
 IsCommand words = (command : Command) × IsPlain command words
 
--- A day ended so over a source, a sink and a disk, told by the exit status.
+-- A day ran so over a source, a sink and a disk, told by the exit status. The course is how the day went; by it, how the
+-- run ended, what became of the disk, and what was written for the input. Whatever the sink took is a prefix of each whole
+-- output of a day that goes on from there.
 pub record RunsDay {D : Type 0} (d : disks.Ghosts D) (tape tape_now : Option Tape) (held held_now : Option (List ℕ))
     (old new : D) (status : ℕ) : Type 0 where
-  pub ending : Result (Unit {0}) Ending
-  pub told : status ≡ status_of ending
-  pub serves : ServesDay d.faults d.reads d.may_leave d.moment d.left_since tape tape_now held held_now old new ending
+  pub course : Course
+  pub ended : Result Outcome Stop
+  pub told : status ≡ status_by ended
+  pub ends : EndsAs course ended
+  pub on_disk : CourseOn d.faults d.reads d.may_leave d.moment d.left_since course old new
+  pub wrote : WhereTold tape tape_now
+      (λ before now. Wrote (day_command course) before.left now.left held held_now ended)
+  pub of_whole : WhereTold tape tape_now (λ before now.
+      (more : Course) → GoesOn course more → TookOfWhole (day_command more) before.left held held_now)
 
 -- A day on a connection ended so over a source, a sink and a disk, told by the exit status.
 pub record RunsConnection {D : Type 0} (d : disks.Ghosts D) (tape tape_now : Option Tape) (held held_now : Option (List ℕ))
@@ -121,9 +131,9 @@ pub record RunsBidder (tape tape_now : Option Tape) (held held_now : Option (Lis
 -- A generated day ended so over a sink and a disk, told by the exit status.
 pub record RunsGenerated {D : Type 0} (d : disks.Ghosts D) (seed asks : ℕ) (held held_now : Option (List ℕ))
     (old new : D) (status : ℕ) : Type 0 where
-  pub ending : Result (Unit {0}) Ending
-  pub told : status ≡ status_of ending
-  pub serves : ServesGenerated d.faults d.reads d.may_leave d.moment d.left_since seed asks held held_now old new ending
+  pub ended : Result Outcome Stop
+  pub told : status ≡ status_by ended
+  pub runs : GeneratedRuns d seed asks held held_now old new ended
 
 -- Something of the day that a journal keeps was printed over a source, a sink and a disk, told by the exit status. The course
 -- is what came of the roster and of its day; by it, what became of the disk, and what was written for the input.

@@ -8,29 +8,29 @@ ghost use Rattle.command_check.specs.Checks.{HasOneAnswer};
 ghost use Rattle.command_check.specs.Runs.{AcceptsInput, ChecksInput};
 ghost use Rattle.command_close.specs.ClosedDays.{HasOneDocument, IsClosedDay};
 ghost use Rattle.command_close.specs.Guarantees.{HasOneGuarantee, IsGuarantee};
+ghost use Rattle.command_day.specs.Days.{HasOneOutput, HasOutputs};
 ghost use Rattle.command_notices.specs.PostLines.{AreNotices};
 ghost use Rattle.command_words.specs.Helps.{help_text, version_text};
 ghost use Rattle.command_words.specs.Meanings.{HasFewAsks, IsPlain};
 ghost use Rattle.command_words.specs.declared.command.Command.{Command as Meaning};
 ghost use Rattle.command_words.specs.declared.command.Topic.{Topic as HelpTopic};
-ghost use Rattle.script_day.specs.Days.{HasOneOutput, HasOutputs};
 ghost use Rattle.adx_commands.specs.Statuses.{HasCauses, HasDiskCauses};
 ghost use Rattle.adx_commands.specs.Commands.{AsksNothing, Does, DoesAsRead, IsArchive, IsArchiveList, IsArchivePut, IsBidder, IsCheck, IsClose, IsCommand, IsConnection, IsDay, IsGenerated, IsHelp, IsNotices, IsRatio, IsReconcile, IsVersion, LeavesDisk, LeavesKeeper, Runs, RunsBidder, RunsConnection, RunsDay, RunsGenerated, RunsPrint, RunsReconcile, Tells};
 
 use crate::status::{DONE, NO_COMMAND, OUT_OF_MEMORY, WRITE_FAULT, status_of, status_of_outcome};
-use adx_books::{Generator, serve_generated};
 use adx_io::{Disk, Sink, Source, put_all};
 use adx_units::Text;
 use command_archive::{Query, keep_day, list_days_of};
 use command_bidder::run_bidder;
 use command_check::check_input;
 use command_close::{close_journal, measure_journal};
+use command_day::run_day;
+use command_gen::{Generator, run_generated};
 use command_notices::print_notices;
 use command_reconcile::reconcile_ledger;
 use command_words::{Command, VERSION, command_of, help_of};
 use day_archive::Keeper;
 use exchange_day::serve_exchange;
-use script_day::serve_day;
 use std::alloc::Global;
 
 /// What is written to the sink where the words aren't a command.
@@ -80,8 +80,8 @@ fn run<S: Source, K: Sink, D: Disk, P: Keeper>(
 {
     match read {
         Some(Command::Day { .. }) => {
-            let ended = serve_day(alloc, source, sink, disk);
-            status_of(ended)
+            let ended = run_day(alloc, source, sink, disk);
+            status_of_outcome(ended)
         }
         Some(Command::Connection { .. }) => {
             let ended = serve_exchange(alloc, source, sink, disk);
@@ -104,8 +104,8 @@ fn run<S: Source, K: Sink, D: Disk, P: Keeper>(
             status_of_outcome(ended)
         }
         Some(Command::Generate { seed, asks }) => {
-            let ended = serve_generated(alloc, Generator { seed, asks }, sink, disk);
-            status_of(ended)
+            let ended = run_generated(alloc, Generator { seed, asks }, sink, disk);
+            status_of_outcome(ended)
         }
         Some(Command::Check) => check_input(alloc, source, sink),
         Some(Command::ArchivePut { .. }) => keep_day(alloc, keeper, source, sink),
@@ -221,14 +221,15 @@ fn run_words<S: Source, K: Sink, D: Disk, P: Keeper>(
 /// `bidder` a price line, or where the input of `day`, `notices` or `close` passes 2^36 bytes, of which one more is taken,
 /// or where that of `check` is no document or passes 2^31 bytes; 4 where the source failed, and then the sink took the
 /// answers to all whole lines, or the replies to all whole messages, that the source gave, where it gave the first line; 5
-/// where the sink failed, and 12 out of memory, and then the sink took a prefix of the output; 6 where the disk failed
-/// while the day was opened or, for `gen`, at any time, and then the sink took nothing, or where the source was read to its
-/// end and the disk met a fault in a call that was given up by it, or, for `conn`, in the record of notices that waited,
-/// which were then taken one by one; 7 where the disk's file isn't a journal of the roster's day, and then the sink took a
-/// line that says why; 8 where `check` or `archive-put` doesn't accept the certificate; 9 where the keeper failed, and then
-/// the sink took nothing; 10 where the day is kept already, or a day isn't a date, or the first is after the last, and then the
-/// sink took a line that says which. The count of faults of the source rises exactly at 4 and that of the sink exactly at 5,
-/// except where a count is at its last value; that of the disk rises in just the calls that are answered so, and for `conn` in
+/// where the sink failed, and 12 out of memory, and then the sink took a prefix of the output, for `day` the answers to
+/// all lines that were taken up but at most one; 6 where the disk failed while the day was opened or, for `gen`, at any
+/// time, and then the sink took nothing, or where the source was read to its end and the disk met a fault in a call
+/// that was given up by it, or, for `conn`, in the record of notices that waited, which were then taken one by one; 7
+/// where the disk's file isn't a journal of the roster's day, and then the sink took a line that says why; 8 where
+/// `check` or `archive-put` doesn't accept the certificate; 9 where the keeper failed, and then the sink took nothing;
+/// 10 where the day is kept already, or a day isn't a date, or the first is after the last, and then the sink took a
+/// line that says which. The count of faults of the source rises exactly at 4 and that of the sink exactly at 5, except
+/// where a count is at its last value; that of the disk rises in just the calls that are answered so, and for `conn` in
 /// such records. Each input has one output for each history at the start and each choice of calls that are given up.
 pub fn adx<S: Source, K: Sink, D: Disk, P: Keeper>(
     alloc: Global,

@@ -2,8 +2,8 @@
 //!
 //! `adx` does what the words of a command line ask for, over a source, a sink, a disk and a keeper of closed days, and gives
 //! the exit status; its contract is the program's. `kept_by_words` says where the journal or the archive of a command is kept.
-//! Stands on `command_words`, which reads the words, and on the crates of the commands: `script_day`, `exchange_day`,
-//! `command_notices`, `command_bidder`, `adx_books`, `command_close`, `command_check` and `command_archive`.
+//! Stands on `command_words`, which reads the words, and on the crates of the commands: `command_day`, `exchange_day`,
+//! `command_notices`, `command_bidder`, `command_gen`, `command_close`, `command_check` and `command_archive`.
 #![tactic(auto)]
 
 mod anew;

@@ -1,9 +1,9 @@
 //! The notices of a day: what days owe, inputs that are refused, files of other kinds, and faults of each object.
 use adx_io::{Disk, MemoryDisk, MemorySink, MemorySource, Stop};
 use adx_units::OutOfMemory;
+use command_day::run_day;
 use command_notices::print_notices;
 use command_runs::Outcome;
-use script_day::serve_day;
 use std::alloc::{AllocError, Global};
 
 /// The roster's line.
@@ -88,7 +88,7 @@ fn day_of(alloc: Global, calls: &str) -> Result<Vec<u8>, OutOfMemory> {
 fn is_served(alloc: Global, input: &[u8], disk: &mut MemoryDisk) -> Result<bool, OutOfMemory> {
     let mut source = MemorySource::new(alloc, input, 0, &[])?;
     let mut sink = MemorySink::new(alloc, 0, &[])?;
-    Ok(serve_day(alloc, &mut source, &mut sink, disk).is_ok())
+    Ok(run_day(alloc, &mut source, &mut sink, disk) == Ok(Outcome::Done))
 }
 
 /// A disk that keeps a day of these calls; one that keeps nothing where the day isn't served.

@@ -14,11 +14,12 @@ use Rattle.day_journal.proofs.Moments.{joined}
 use Rattle.day_rules.specs.declared.entry.Entry.{Entry}
 use Rattle.day_rules.specs.Runs.{AreTurns}
 use Rattle.day_rules.specs.Terms.{Terms}
+use Rattle.desk_runs.proofs.RunsCounts.{among_later}
 use Rattle.desk_runs.specs.Records.{CountsAmong, MayBeLeftBy, IsLeftInDoubt, RaisesAmong, RunsOn, StandsInRunFrom, count_after, raised}
 use Rattle.desk_runs.specs.Calls.{HasBooks}
 use Rattle.desk_runs.specs.Courses.{HasNoDiskFault}
 use Rattle.desk_runs.specs.Meanings.{Told, turns_of}
-use Rattle.desk_runs.specs.OnDisk.{CountsOne, FullEach, history_after}
+use Rattle.desk_runs.specs.OnDisk.{FullEach, history_after}
 use Rattle.exchange_day.specs.OnDisk.{KeepsHistory, ServesTogether, StandsAmong}
 
 -- no record is in doubt behind a run, or one of the run, where none was before it
@@ -28,15 +29,8 @@ doubt_of terms start told next (inr (inl (same, still))) = inl same
 doubt_of terms start told next (inr (inr doubted)) = inr doubted
 
 -- the counts of a disk over calls never fall
-one_later : (fault : Option Fault) (before now : ℕ) → CountsOne before fault now → before ≤ now
-one_later None before now is = omega (arith, is)
-one_later (Some Fault.Disk) before now counts = counts.0
-one_later (Some (Fault.JournalFull size)) before now is = omega (arith, is)
-
 pub counts_later : (told : List Told) (before now : ℕ) → CountsAmong before told now → before ≤ now
-counts_later [] before now later = later
-counts_later (t ∷ told) before now (from, between, later, one, rest) =
-    omega (arith, later, one_later t.fault from between one, counts_later told between now rest)
+counts_later told before now counts = among_later before now told counts
 
 -- a desk that counted no fault answered none of its calls so
 more_by : (n last : ℕ) → 0 < last → 0 < min (n + 1) last
@@ -58,8 +52,8 @@ after_keeps (Some Fault.Disk) n some = counted_more n
 after_keeps (Some (Fault.JournalFull size)) n some = some
 
 among_keeps : (told : List Told) (before now : ℕ) → 0 < before → RaisesAmong before told now → 0 < now
-among_keeps [] before now some (times, is) = subst (λ (n : ℕ). 0 < n) (sym is) (raised_keeps times before some)
-among_keeps (t ∷ told) before now some (times, rest) =
+among_keeps [] before now some is = subst (λ (n : ℕ). 0 < n) (sym is) some
+among_keeps (t ∷ told) before now some (times, any, rest) =
     among_keeps told (count_after t.fault (raised times before)) now (after_keeps t.fault (raised times before) (raised_keeps times before some)) rest
 
 none_by_fault : (told : List Told) (t : Told) (fault : Option Fault) (n : ℕ) → t.fault ≡ fault → RaisesAmong (count_after fault n) told 0 → t.fault ≢ Some Fault.Disk
@@ -72,7 +66,7 @@ none_by_fault told t (Some (Fault.JournalFull size)) n is rest = λ disk. absurd
 
 pub none_among : (told : List Told) (before : ℕ) → RaisesAmong before told 0 → HasNoDiskFault told
 none_among [] before rest = All-nil (λ (t : Told). t.fault ≢ Some Fault.Disk)
-none_among (t ∷ told) before (times, rest) =
+none_among (t ∷ told) before (times, any, rest) =
     All-cons (λ (u : Told). u.fault ≢ Some Fault.Disk) t told (none_by_fault told t t.fault (raised times before) refl rest) (none_among told (count_after t.fault (raised times before)) rest)
 
 -- each loan is one of a disk

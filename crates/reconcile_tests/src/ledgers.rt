@@ -1,9 +1,9 @@
 //! Days and ledgers: what they come to, ledgers that are refused, and faults of the disk, the source and the sink.
 use adx_io::{MemoryDisk, MemorySink, MemorySource, Stop};
 use adx_units::OutOfMemory;
+use command_day::run_day;
 use command_reconcile::reconcile_ledger;
 use command_runs::Outcome;
-use script_day::serve_day;
 use std::alloc::{AllocError, Global};
 
 /// The roster's line: two bidders, and two campaigns of the first.
@@ -72,7 +72,7 @@ fn kept(alloc: Global, calls: &str) -> Result<MemoryDisk, OutOfMemory> {
     let mut disk = MemoryDisk::new(alloc, b"", &[], None)?;
     let mut source = MemorySource::new(alloc, &input, 0, &[])?;
     let mut sink = MemorySink::new(alloc, 0, &[])?;
-    if serve_day(alloc, &mut source, &mut sink, &mut disk).is_ok() {
+    if run_day(alloc, &mut source, &mut sink, &mut disk) == Ok(Outcome::Done) {
         return Ok(disk);
     }
     MemoryDisk::new(alloc, b"no day", &[], None)

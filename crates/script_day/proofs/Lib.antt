@@ -3,15 +3,8 @@ pub mod FirstReads
 pub mod OneMeaning
 pub mod AnswerLaws
 pub mod AnsweredCalls
-pub mod Lent
 pub mod Rosters
 pub mod Putting
 pub mod Told
-pub mod Runs
-pub mod OneOutput
-pub mod Days
-pub mod Outputs
-pub mod Further
-pub mod Scripts
 pub mod DiskCounts
 pub mod Unopened

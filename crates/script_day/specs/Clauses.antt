@@ -1,8 +1,7 @@
 -- What the clauses of a day's calls say in few words: the relations of other files, over a talk, a source, a sink and a disk
 -- with their ghosts. This project's own.
-use Rattle.std.specs.Prelude.{◌≡◌, ◌≤◌, ℕ, List, [], ◌++◌, length, Result}
+use Rattle.std.specs.Prelude.{◌≡◌, ◌≤◌, ℕ, List, length}
 use Rattle.adx_desk.specs.Desks.{OnDisk}
-use Rattle.adx_desk.specs.Rosters.{desk_terms}
 use Rattle.adx_io.specs.Lines.{Keeps}
 use Rattle.adx_io.specs.Streams.{WhereTold}
 use Rattle.adx_io.specs.TalkState.{state_of}
@@ -12,18 +11,12 @@ use Rattle.adx_io.specs.declared.sink.Sink as sinks
 use Rattle.adx_io.specs.declared.source.Source as sources
 use Rattle.adx_io.specs.declared.talk.Talk.{Talk}
 use Rattle.day_rules.specs.Replies.{Call, notice}
-use Rattle.day_rules.specs.declared.entry.Entry.{Entry}
 use Rattle.deal_floor.specs.declared.campaign.Campaign.{Campaign}
 use Rattle.deal_floor.specs.declared.roster.Roster.{Roster}
-use Rattle.desk_runs.specs.Answering.{DeskRuns, LeavesCall}
+use Rattle.desk_runs.specs.Answering.{LeavesCall}
 use Rattle.script_lines.specs.declared.notice.Notice.{Notice}
 use Rattle.script_day.specs.Answering.{AnswersCall, AnswersTo, LeavesUnwritten}
-use Rattle.script_day.specs.Days.{ServesDay}
 use Rattle.script_day.specs.Firsts.{ReadsLine}
-use Rattle.script_day.specs.Parts.{PutsEnd}
-use Rattle.script_day.specs.Running.{EndsDay, EndsOpened, EndsScript}
-use Rattle.script_day.specs.Script.{closing}
-use Rattle.script_day.specs.declared.ending.Ending.{Ending}
 use Rattle.script_day.specs.declared.limits.TheConstants.{LINE_LIMIT}
 
 -- this is a line's text, within the limit of a line
@@ -60,38 +53,3 @@ module _ {D : Type 0} (d : disks.Ghosts D) where
 -- a first line of which this is known was read on a talk
 abbrev pub LineRead : {S K : Type 0} {s : sources.Ghosts S} {k : sinks.Ghosts K} → (List ℕ → Type 0) → Talk S K s k → Talk S K s k → Type 0
 LineRead Known old new = WhereTold (state_of old).tape (state_of new).tape (ReadsLine Known (state_of old) (state_of new))
-
--- what closes a script was put behind what was written, and the run ended as was wanted, or it was aborted
-abbrev pub PutsClosing : {S K : Type 0} {s : sources.Ghosts S} {k : sinks.Ghosts K} → Roster → ℕ → List Entry → (old new : Talk S K s k)
-    → (wanted result : Result (Unit {0}) Ending) → Type 0
-PutsClosing r number history old new wanted result =
-    OfLine old.buffer.now (λ line.
-    PutsEnd (state_of old).held (state_of new).held ((state_of old).out ++ closing r number line history) wanted result)
-
-module _ {S K D : Type 0} {s : sources.Ghosts S} {k : sinks.Ghosts K} (d : disks.Ghosts D) where
-  -- a script ended so that was run on the desk of a day that begins
-  abbrev pub ScriptEnded : Roster → OnDisk D → D → (old new : Talk S K s k) → Result (Unit {0}) Ending → Type 0
-  ScriptEnded r desk disk_now old new result =
-      (disk : D) (start : List Entry) → DeskRuns d.faults d.reads d.may_leave d.moment d.left_since (desk_terms r) disk start [] desk
-      → EndsScript d.faults d.reads d.may_leave d.moment d.left_since r start (state_of old) (s.tape new.source.now)
-      (k.held new.sink.now) disk disk_now result
-
-  -- the day of a roster ended so
-  abbrev pub DayOpened : Roster → (disk disk_now : D) → (old new : Talk S K s k) → Result (Unit {0}) Ending → Type 0
-  DayOpened r disk disk_now old new result =
-      EndsOpened d.faults d.reads d.may_leave d.moment d.left_since r (state_of old) (s.tape new.source.now)
-      (k.held new.sink.now) disk disk_now result
-
-  -- and one whose roster's line was to be read
-  abbrev pub DayEnded : ℕ → (disk disk_now : D) → (old new : Talk S K s k) → Result (Unit {0}) Ending → Type 0
-  DayEnded limit disk disk_now old new result =
-      EndsDay d.faults d.reads d.may_leave d.moment d.left_since limit (state_of old) (s.tape new.source.now)
-      (k.held new.sink.now) disk disk_now result
-
--- a day of script lines was served from a source to a sink on a disk
-abbrev pub DayServed : {S K D : Type 0} → sources.Ghosts S → sinks.Ghosts K → disks.Ghosts D
-    → (old new : S) (sink_old sink_new : K) (disk_old disk_new : D)
-    → Result (Unit {0}) Ending → Type 0
-DayServed s k d old new sink_old sink_new disk_old disk_new result =
-    ServesDay d.faults d.reads d.may_leave d.moment d.left_since (s.tape old) (s.tape new) (k.held sink_old)
-    (k.held sink_new) disk_old disk_new result

@@ -6,14 +6,6 @@ use Rattle.desk_runs.specs.Meanings.{Told}
 use Rattle.script_day.specs.declared.ending.Ending.{Ending}
 use Rattle.desk_runs.specs.Courses.{Course, HasDiskFault, HasNoDiskFault, given_up, served, unopened}
 
--- how a day ends whose input was read to its end: with a fault exactly where a call was given up by the disk's
-abbrev pub EndsWhole : List Told → Result (Unit {0}) Ending → Type 0
-EndsWhole told (Ok done) = HasNoDiskFault told
-EndsWhole told (Err Ending.Refused) = ⊥
-EndsWhole told (Err Ending.DiskFault) = HasDiskFault told
-EndsWhole told (Err Ending.NoHistory) = ⊥
-EndsWhole told (Err (Ending.Stopped stop)) = ⊥
-
 -- how a day ends whose opening gave up, by the cause
 abbrev pub ending_by : DeskFault → Ending
 ending_by DeskFault.DiskFault = Ending.DiskFault

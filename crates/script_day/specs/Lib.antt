@@ -1,4 +1,3 @@
-pub mod Lines
 pub mod Endings
 pub mod Steps
 pub mod Output
@@ -6,8 +5,6 @@ pub mod Courses
 pub mod Script
 pub mod Parts
 pub mod Firsts
-pub mod Further
-pub mod Running
 pub mod Answering
-pub mod Days
 pub mod Clauses
+pub mod Finding

@@ -8,7 +8,7 @@ ghost use Rattle.script_day.specs.Clauses.{IsKept, LineRead, OfLine};
 ghost use Rattle.script_day.specs.Firsts.{EndsLineless, EndsRosterless};
 ghost use Rattle.script_day.specs.Output.{roster_refused_line};
 ghost use Rattle.script_day.specs.Parts.{CutFails, IsShortRoster, PutsEnd};
-ghost use Rattle.script_day.specs.Running.{FindsFirst};
+ghost use Rattle.script_day.specs.Finding.{FindsFirst};
 ghost use Rattle.script_day.specs.Steps.{EndsBy, HasCauses};
 
 use crate::ending::Ending;
@@ -75,7 +75,7 @@ fn cut_first(buffer: &LineBuffer) -> RosterRefusal
 /// Ends an input whose first line isn't a roster's: the line that says why is put into the sink, behind what was written
 /// before. The answer is `Refused`, or `Stopped` where the sink failed or memory was refused. Nothing is asked of the
 /// source.
-pub fn refuse_roster<S: Source, K: Sink>(
+fn refuse_roster<S: Source, K: Sink>(
     alloc: Global,
     talk: &mut Talk<'_, S, K>,
     why: RosterRefusal,
@@ -99,11 +99,8 @@ pub fn refuse_roster<S: Source, K: Sink>(
 ///
 /// `Refused`: the input ends before a newline, or passes the limit of the talk, of which one byte more is taken; the sink
 /// took the line that says why. `Stopped`: the source or the sink failed, or memory was refused; the sink took nothing, or
-/// a front of that line.
-pub fn read_first<S: Source, K: Sink>(
-    alloc: Global,
-    talk: &mut Talk<'_, S, K>,
-) -> Result<(), Ending>
+/// a prefix of that line.
+fn read_first<S: Source, K: Sink>(alloc: Global, talk: &mut Talk<'_, S, K>) -> Result<(), Ending>
     requires unwritten { (state_of talk.old).out ≡ [] }
     ensures reads { OnOk result (LineRead (IsKept talk.new.buffer.now) talk.old talk.new) }
     ensures unput { OnOk result ((state_of talk.new).held ≡ (state_of talk.old).held) }
@@ -129,7 +126,7 @@ pub fn read_first<S: Source, K: Sink>(
 ///
 /// `Refused`: the first line isn't a roster's, or the input ends before a newline, or passes the limit of the talk, of which
 /// one byte more is taken; the sink took the line that says why. `Stopped`: the source or the sink failed, or memory was
-/// refused; the sink took nothing, or a front of that line. Nothing more is asked of the source in any case.
+/// refused; the sink took nothing, or a prefix of that line. Nothing more is asked of the source in any case.
 pub fn first_roster<S: Source, K: Sink>(
     alloc: Global,
     talk: &mut Talk<'_, S, K>,

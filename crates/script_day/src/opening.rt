@@ -3,15 +3,14 @@ ghost use Rattle.std.specs.Prelude.{◌≡◌, ◌++◌, OnOk, codes, string_byt
 ghost use Rattle.adx_io.specs.TalkState.{state_of, place_of};
 ghost use Rattle.script_day.specs.Courses.{ending_by};
 ghost use Rattle.script_day.specs.Output.{otherroster_line, place_line, unopened_line};
-ghost use Rattle.script_day.specs.Parts.{PutsUnopened};
-ghost use Rattle.script_day.specs.Steps.{HasCauses};
+ghost use Rattle.script_day.specs.Parts.{PutsEnd, PutsUnopened};
+ghost use Rattle.script_day.specs.Steps.{HasCauses, IsAnswer};
 ghost use Rattle.answer_lines.specs.Answers.{fault_line};
 ghost use Rattle.answer_lines.specs.declared.faults.Fault.{Fault as FaultLine};
 ghost use Rattle.adx_io.specs.Talk.{ended};
 
 use crate::ending::Ending;
 use crate::refusals::push;
-use crate::script::put_end;
 use adx_desk::DeskFault;
 use adx_io::{Sink, Source, Stop, Talk};
 use adx_json::push_number;
@@ -78,6 +77,22 @@ pub fn ending_of(fault: &DeskFault) -> Ending
         | DeskFault::OtherRoster { .. }
         | DeskFault::JournalFull { .. } => Ending::NoHistory,
     }
+}
+
+/// Puts all that was written into the sink, and ends so; or `Stopped` where the sink failed, which took a prefix of it then.
+/// Nothing is asked of the source.
+fn put_end<S: Source, K: Sink>(
+    talk: &mut Talk<'_, S, K>,
+    ending: Result<(), Ending>,
+) -> Result<(), Ending>
+    requires { IsAnswer ending }
+    ensures ends { PutsEnd (state_of talk.old).held (state_of talk.new).held (state_of talk.old).out ending result }
+    ensures rest { (talk.new.source ≡ talk.old.source) × (talk.new.buffer ≡ talk.old.buffer) × (talk.new.room ≡ talk.old.room) }
+    ensures causes { HasCauses (state_of talk.old) (state_of talk.new) result }
+    ensures same { place_of talk.new ≡ place_of talk.old }
+{
+    talk.put_out()?;
+    ending
 }
 
 /// Ends a day that wasn't opened. After a refusal of the file the line that says why is put into the sink, behind what was

@@ -1,10 +1,10 @@
 //! The lines of what is refused.
 ghost use Rattle.std.specs.Prelude.{◌≡◌, ◌++◌, OnOk, string_bytes};
-ghost use Rattle.script_day.specs.Output.{refused_line, refusal_line, roster_refused_line};
+ghost use Rattle.script_day.specs.Output.{roster_refused_line};
 
-use adx_json::{push_number, push_text};
+use adx_json::push_text;
 use adx_units::OutOfMemory;
-use script_lines::{Refusal, RosterRefusal, push_roster_why, push_why};
+use script_lines::{RosterRefusal, push_roster_why};
 use std::alloc::Global;
 
 /// Writes a text as it is.
@@ -12,32 +12,6 @@ pub(crate) fn push(out: &mut String, text: &str) -> Result<(), OutOfMemory>
     ensures { OnOk result (string_bytes out.new ≡ string_bytes out.old ++ text.now) }
 {
     out.push_str(text)?;
-    Ok(())
-}
-
-/// Writes the line of a refused line, by its number and why.
-pub(crate) fn push_refusal(out: &mut String, number: u64, why: &str) -> Result<(), OutOfMemory>
-    ensures { OnOk result (string_bytes out.new ≡ string_bytes out.old ++ refused_line number why.now) }
-{
-    push(out, "{\"answer\":\"refused\",\"line\":")?;
-    push_number(out, number)?;
-    push(out, ",\"why\":")?;
-    push_text(out, why)?;
-    push(out, "}\n")
-}
-
-/// Writes the line of a script line that is refused.
-pub(crate) fn push_refused(
-    alloc: Global,
-    out: &mut String,
-    number: u64,
-    why: &Refusal,
-) -> Result<(), OutOfMemory>
-    ensures { OnOk result (string_bytes out.new ≡ string_bytes out.old ++ refusal_line number why.now) }
-{
-    let mut text = String::new(alloc);
-    push_why(&mut text, why)?;
-    push_refusal(out, number, text.as_str())?;
     Ok(())
 }
 

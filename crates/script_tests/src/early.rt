@@ -1,7 +1,7 @@
 //! Days that are cut short: how far a day is ahead of its output where its sink fails.
 use adx_io::{Disk, MemoryDisk, MemorySink, MemorySource};
 use adx_units::OutOfMemory;
-use script_day::serve_day;
+use command_day::run_day;
 use std::alloc::{AllocError, Global};
 
 /// The roster's line, and an ask with one bid, in which `@` stands for a number. `;` stands for a newline.
@@ -40,7 +40,7 @@ fn kept_by(alloc: Global, asks: u8, putting: &[u64]) -> Result<(u64, usize), Out
     let mut source = MemorySource::new(alloc, &input, 0, &[])?;
     let mut sink = MemorySink::new(alloc, 0, putting)?;
     let mut disk = MemoryDisk::new(alloc, b"", &[], None)?;
-    let _ = serve_day(alloc, &mut source, &mut sink, &mut disk);
+    let _ = run_day(alloc, &mut source, &mut sink, &mut disk);
     Ok((disk.size().unwrap_or(0), sink.taken().len()))
 }
 

@@ -6,11 +6,12 @@ use adx_links::{MemoryLink, Planned};
 use adx_units::{OutOfMemory, Text};
 use bidder_core::Bidder;
 use bidder_http::serve_bidder;
+use command_day::run_day;
 use command_reconcile::reconcile_ledger;
+use command_runs::Outcome;
 use day_rules::Entry;
 use deal_floor::Roster;
 use outbox::Outbox;
-use script_day::serve_day;
 use std::alloc::Global;
 use std::fmt::Write;
 
@@ -101,10 +102,10 @@ fn serve_line(alloc: Global, disk: &mut MemoryDisk, line: &str) -> Result<(), Ou
     let input = joined(alloc, &[ROSTER, "\n", line, "\n"])?;
     let mut source = MemorySource::new(alloc, input.as_bytes(), 0, &[])?;
     let mut sink = MemorySink::new(alloc, 0, &[])?;
-    match serve_day(alloc, &mut source, &mut sink, disk) {
-        Ok(()) => Ok(()),
-        Err(_) => Err(OutOfMemory),
+    if run_day(alloc, &mut source, &mut sink, disk) == Ok(Outcome::Done) {
+        return Ok(());
     }
+    Err(OutOfMemory)
 }
 
 /// A request for bids, as a message.

@@ -5,9 +5,9 @@ use Rattle.command_check.proofs.Ended.{accepted_input}
 use Rattle.command_check.proofs.OneAnswer.{one_answer}
 use Rattle.command_close.proofs.OneDocument.{one_document}
 use Rattle.command_close.proofs.OneGuarantee.{one_guarantee}
+use Rattle.command_day.proofs.OneOutput.{has_one_output}
+use Rattle.command_day.proofs.SomeOutput.{has_outputs}
 use Rattle.command_words.specs.declared.command.Command.{Command}
-use Rattle.script_day.proofs.OneOutput.{has_one_output}
-use Rattle.script_day.proofs.Outputs.{has_outputs}
 use Rattle.adx_commands.proofs.Commands.{plain_does, plain_taken}
 use Rattle.adx_commands.proofs.command.adx.Goals as goal
 

@@ -1,33 +1,32 @@
 -- The disk's count is that of the day that ran.
-use Rattle.std.proofs.Common.{arith, refl, rules, ◌≡◌, ◌⊎◌, ◌∙◌, Some, ap, sym, subst}
-use Rattle.desk_runs.proofs.DiskCounts.{day_later}
+use Rattle.std.proofs.Common.{arith, refl, ◌≡◌, ◌⊎◌, ◌∙◌, Some, ap, sym, subst}
 use Rattle.adx_commands.proofs.Commands.{reconciled}
-use Rattle.adx_commands.proofs.Outcomes.{caused, counted_bidder, counted_ledger}
-use Rattle.adx_commands.proofs.Statuses.{counted_day, is_faulted, is_passed, not_faulted}
+use Rattle.adx_commands.proofs.Outcomes.{caused, caused_generated, counted_bidder, counted_day, counted_generated, counted_ledger}
+use Rattle.adx_commands.proofs.Statuses.{is_faulted, is_passed}
 use Rattle.adx_commands.proofs.command.run.Goals as goal
 
 pub returns-in-Some-Day-clause-disk_causes : goal.returns-in-Some-Day-clause-disk_causes
 returns-in-Some-Day-clause-disk_causes g c =
-    let s = c.serve_day-ended.ensures.ends in
-    counted_day g.D.Disk.faults g.D.Disk.reads g.D.Disk.may_leave g.D.Disk.moment g.D.Disk.left_since s.course c.args.disk.now c.serve_day-ended.new.disk c.serve_day-ended.result c.status_of.result s.by_course s.on_disk c.status_of.ensures
+    let ran = c.run_day-ended.ensures.runs in
+    counted_day g.D.Disk ran.course c.args.disk.now c.run_day-ended.new.disk c.run_day-ended.result c.status_of_outcome.result ran.ends ran.on_disk c.status_of_outcome.ensures
 
 pub returns-in-Some-Connection-clause-disk_causes : goal.returns-in-Some-Connection-clause-disk_causes
 returns-in-Some-Connection-clause-disk_causes g c =
     let ended = c.serve_exchange-ended in record {
-      disk_fault = λ is. ended.ensures.disk_fault (is_faulted ended.result (sym c.status_of-in-Some-Connection.ensures ∙ is));
-      disk_passed = λ is. ended.ensures.disk_passed (is_passed ended.result (subst (λ n. (n ≡ 0) ⊎ (n ≡ 7)) c.status_of-in-Some-Connection.ensures is));
+      disk_fault = λ is. ended.ensures.disk_fault (is_faulted ended.result (sym c.status_of.ensures ∙ is));
+      disk_passed = λ is. ended.ensures.disk_passed (is_passed ended.result (subst (λ n. (n ≡ 0) ⊎ (n ≡ 7)) c.status_of.ensures is));
       disk_later = ended.ensures.disk_later;
     }
 
+pub returns-in-Some-Generate-clause-causes : goal.returns-in-Some-Generate-clause-causes
+returns-in-Some-Generate-clause-causes g c =
+    let ended = c.run_generated-ended in
+    caused_generated g.D.Disk _ _ _ _ _ _ (g.S.Source.faults c.args.source.now) (g.K.Sink.faults c.args.sink.now) (g.K.Sink.faults ended.new.sink) ended.result c.status_of_outcome-in-Some-Generate.result
+    ended.ensures.runs ended.ensures.write_fault ended.ensures.write_passed ended.ensures.write_later c.status_of_outcome-in-Some-Generate.ensures
+
 pub returns-in-Some-Generate-clause-disk_causes : goal.returns-in-Some-Generate-clause-disk_causes
 returns-in-Some-Generate-clause-disk_causes g c =
-    let s = c.serve_generated-ended.ensures.ends in record {
-      disk_fault = search rules;
-      disk_passed = λ is.
-          c.serve_generated-ended.ensures.disk_passed
-          (not_faulted c.serve_generated-ended.result (is_passed c.serve_generated-ended.result (subst (λ n. (n ≡ 0) ⊎ (n ≡ 7)) c.status_of-in-Some-Generate.ensures is)));
-      disk_later = day_later g.D.Disk.faults g.D.Disk.reads g.D.Disk.may_leave g.D.Disk.moment g.D.Disk.left_since s.course c.args.disk.now c.serve_generated-ended.new.disk s.on_disk;
-    }
+    counted_generated g.D.Disk _ _ _ _ _ _ c.run_generated-ended.result c.status_of_outcome-in-Some-Generate.result c.run_generated-ended.ensures.runs c.status_of_outcome-in-Some-Generate.ensures
 
 pub returns-in-Some-Check-clause-disk_causes : goal.returns-in-Some-Check-clause-disk_causes
 returns-in-Some-Check-clause-disk_causes g c = record {

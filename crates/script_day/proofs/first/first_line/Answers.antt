@@ -1,7 +1,7 @@
 -- The line that is kept is the line that was read.
 use Rattle.std.proofs.Common.{◌∙◌, ◌≤◌, inl, length, refl, sym, subst}
 use Rattle.script_day.specs.declared.limits.TheConstants.{LINE_LIMIT}
-use Rattle.script_day.specs.Running.{FindsFirst}
+use Rattle.script_day.specs.Finding.{FindsFirst}
 use Rattle.script_day.proofs.AnswerLaws.{kept_line, kept_short, dropped_line}
 use Rattle.script_day.proofs.first.first_line.Goals as goal
 

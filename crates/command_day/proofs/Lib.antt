@@ -1,0 +1,9 @@
+pub mod Within
+pub mod DayLines
+pub mod OneScript
+pub mod OneHead
+pub mod OneOutput
+pub mod SomeOutput
+pub mod Ends
+pub mod DiskCounts
+pub mod CutLines

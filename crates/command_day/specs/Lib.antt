@@ -1,0 +1,4 @@
+pub mod Within
+pub mod Days
+pub mod Runs
+pub mod Steps

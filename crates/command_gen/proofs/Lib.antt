@@ -1,0 +1,11 @@
+pub mod Taking
+pub mod DayCalls
+pub mod Line
+pub mod DeskTaken
+pub mod Formed
+pub mod Awarded
+pub mod Weight
+pub mod Room
+pub mod Table
+pub mod Serving
+pub mod Putting

@@ -1,0 +1,17 @@
+//! The command that generates a day.
+//!
+//! `run_generated` takes the calls of a generated day on a desk over a disk, and puts its closing table into a sink. The
+//! calls are a list over the words of a seed, that no loop defines. How it ends stands in `specs/GeneratedEnds`.
+//! Stands on `command_runs` for how a run ends, on `adx_desk` for the day, on `desk_runs` for its calls, on `script_lines`
+//! for the roster's line, and on the kit's `rand_xoshiro`. It reads nothing, and knows no words of a command.
+#![tactic(auto)]
+
+mod asks;
+mod calls;
+mod early;
+mod generated;
+mod generator;
+mod roster;
+
+pub use generated::run_generated;
+pub use generator::{Generator, MOST_ASKS};
