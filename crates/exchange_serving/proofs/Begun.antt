@@ -1,18 +1,12 @@
 -- How a day of serving begins: the first pass once two others were split from it, and an outbox that has followed nothing.
-use Rattle.std.proofs.Common.{◌≡◌, ℕ, ◌+◌, ◌<◌, List, [], ◌∷◌, length, All, Contains, true, false, refl, sym, ap, ◌∙◌, subst, arith}
-use Rattle.std.proofs.lemmas.List.Elements.{All-head}
+use Rattle.std.proofs.Common.{◌≡◌, ℕ, ◌+◌, List, [], length, true, sym, ap, ◌∙◌, subst}
 use Rattle.adx_desk.specs.declared.shared.OpenedWith.{OpenedWith}
 use Rattle.adx_links.specs.declared.link.Link as links
 use Rattle.day_rules.specs.declared.entry.Entry.{Entry}
-use Rattle.mail_room.specs.Rooms.{HasTended, IsIdle}
-use Rattle.mail_room.specs.Tending.{AreTended}
+use Rattle.mail_room.specs.Rooms.{HasTended}
 use Rattle.mail_room.specs.declared.mail.Mail.{Mail}
-use Rattle.outbox.specs.Posts.{posts_of}
-use Rattle.outbox.specs.Pumping.{AreTried}
-use Rattle.outbox.specs.declared.outbox.TheConstants.{ANSWER_LIMIT}
-use Rattle.outbox.specs.declared.post.Post.{Post}
-use Rattle.outbox.specs.declared.report.Outcome.{Outcome}
 use Rattle.shared_desk.specs.Callers.{DeskPass}
+use Rattle.shared_desk.specs.Idle.{IsIdle}
 use Rattle.turnstile.specs.Passes.{IsOf, TurnstileState, first_pass, split_from}
 use Rattle.exchange_serving.specs.Beginning.{IsBegun}
 
@@ -47,19 +41,6 @@ module _ (desk : TurnstileState OpenedWith) (history : List Entry) (faults : ℕ
         none = ap (λ (v : DeskPass). v.turns) y;
       }
 
-module _ {L : Type 0} (l : links.Ghosts L) where
-  -- of no history no post was tried
-  none_tried : (pending : List Post) (link now : L) → AreTended l [] pending link now → now ≡ link
-  none_tried pending link now t = go t.tried t.outcomes t.own t.tries
-    where
-      go : (ps : List Post) (os : List Outcome) → All (Contains (posts_of [])) ps → AreTried l.exchanges l.course l.faults l.place ANSWER_LIMIT ps os link now → now ≡ link
-      go [] [] own tries = tries
-      go [] (o ∷ os) own tries = absurd tries
-      go (p ∷ ps) os own tries = let h : Contains [] p = All-head (Contains (posts_of [])) p ps own in let lt = h.1 in absurd (omega arith)
-
-  -- the link of an outbox that has followed nothing is what it was
-  pub link_is : (link : L) (mail : Mail L) → HasTended l [] link mail → mail.link ≡ link
-  link_is link mail has = none_tried mail.outbox.pending link mail.link has.tended
-
-  pub has_own : (link : L) (mail : Mail L) → HasTended l [] link mail → HasTended l [] mail.link mail
-  has_own link mail has = subst (λ (x : L). HasTended l [] x mail) (sym (link_is link mail has)) has
+-- what has followed nothing did so over its link as it is
+pub has_own : {L : Type 0} (l : links.Ghosts L) (link : L) (mail : Mail L) → mail.link ≡ link → HasTended l [] link mail → HasTended l [] mail.link mail
+has_own {L} l link mail is has = subst (λ (x : L). HasTended l [] x mail) (sym is) has

@@ -1,15 +1,14 @@
 -- What a day of serving leaves, from what the lobby left and the desk that was closed.
-use Rattle.std.proofs.Common.{◌≡◌, ◌≢◌, ◌⊎◌, inl, inr, ⊎_elim, ℕ, ◌+◌, ◌<◌, ◌≤◌, List, [], ◌++◌, length, map, get_or, All, Bool, true, Option, Some, None, IfSome, refl, sym, ap, ◌∙◌, subst, arith}
+use Rattle.std.proofs.Common.{◌≡◌, ◌⊎◌, inl, inr, ⊎_elim, ℕ, ◌+◌, ◌<◌, ◌≤◌, List, [], length, map, get_or, All, Bool, true, false, Option, Some, None, IfSome, refl, sym, ap, ◌∙◌, subst, arith}
 use Rattle.std.proofs.lemmas.List.{length-map}
 use Rattle.std.proofs.lemmas.Bool.Decides.{leb_tells}
 use Rattle.std.specs.Prelude.{unwrap_or}
-use Rattle.std.specs.List.{flat_map}
 use mathlib.Core.List.{IsPrefix}
 use Rattle.adx_acceptors.specs.Pairs.{AcceptorTold, PairTold, PairsTold}
-use Rattle.adx_io.specs.Streams.{Rises, last_count}
+use Rattle.adx_io.specs.Streams.{last_count}
 use Rattle.adx_io.specs.declared.disk.Disk as disk
 use Rattle.adx_links.specs.declared.link.Link as links
-use Rattle.adx_desk.specs.Desks.{DeskState, OnDisk, StandsOnDisk}
+use Rattle.adx_desk.specs.Desks.{OnDisk, StandsOnDisk}
 use Rattle.adx_desk.specs.Endings.{IsWithinRise}
 use Rattle.adx_desk.specs.Histories.{DeskTerms, WithOrWithout}
 use Rattle.adx_desk.specs.Rosters.{desk_terms}
@@ -17,6 +16,7 @@ use Rattle.adx_desk.specs.Shared.{IsTurnAt, is_disk_fault, opened_with, terms_in
 use Rattle.adx_desk.specs.declared.shared.OpenedWith.{OpenedWith}
 use Rattle.adx_desk.specs.declared.turn.Turn.{Turn}
 use Rattle.day_rules.specs.declared.entry.Entry.{Entry}
+use Rattle.day_rules.specs.DayState.{IsDay}
 use Rattle.day_rules.specs.Legal.{IsLegal}
 use Rattle.deal_floor.specs.declared.roster.Roster.{Roster}
 use Rattle.desk_board.proofs.Meeting.{prefix_on}
@@ -25,20 +25,22 @@ use Rattle.fan_out.specs.declared.lane.Lane.{Lane}
 use Rattle.lobby.specs.Lobbies.{AllServed, IsIntake, WasServed}
 use Rattle.lobby.specs.Serving.{ServedPair}
 use Rattle.lobby.specs.declared.intake.Intake.{Intake}
-use Rattle.lobby.proofs.Keeping.{joins}
+use Rattle.lobby.proofs.Keeping.{joins, leaves, opens}
 use Rattle.mail_room.specs.Rooms.{HasTended, IsTendedTo}
+use Rattle.mail_room.specs.Tending.{AreTended}
 use Rattle.mail_room.specs.declared.mail.Mail.{Mail}
-use Rattle.shared_desk.specs.Callers.{DeskPass, entry_of}
+use Rattle.shared_desk.specs.Callers.{DeskPass, IsRightPass, entry_of}
 use Rattle.turnstile.specs.Passes.{joined}
-use Rattle.turnstile.specs.Places.{AreAllOnce, AreOneList, longer}
+use Rattle.turnstile.specs.Places.{AreAllOnce, AreOneList}
 use Rattle.turnstile.specs.Turns.{AreAllRight, Stand, faults_noted, places_of}
 use Rattle.turnstile.specs.declared.limits.TheConstants.{LAST_COUNT}
 use Rattle.turnstile.specs.declared.noted.Noted.{Noted}
 use Rattle.exchange_serving.specs.Finishing.{Closes, Tells}
 use Rattle.exchange_serving.specs.Rounds.{IsServedIn}
-use Rattle.exchange_serving.specs.Served.{ArePosted, AreServed, HasBack, IsServed, ServesDay, faults_in, turns_in}
+use Rattle.exchange_serving.specs.Served.{ArePosted, HasBack, IsServed, ServesDay, faults_in, turns_in}
 use Rattle.exchange_serving.specs.declared.ending.Ending.{Ending}
-use Rattle.exchange_serving.proofs.Meters.{prefix_short}
+use Rattle.exchange_serving.specs.Unserved.{LeavesPost}
+use Rattle.exchange_serving.proofs.Meters.{day_front, prefix_short}
 use Rattle.exchange_serving.proofs.Rounds.{served_longer}
 
 -- the turns that met a fault, by the desk's number of faults
@@ -77,16 +79,16 @@ has_back before now n rows intake short faults ending tells later said long out 
 module _ {L : Type 0} (l : links.Ghosts L) where
   -- the pairs were served in the whole history
   each_served : (moment : Option ℕ) (roster : Option Roster) (r : Roster) (workers : List (List (Lane L))) (opened history : List Entry) (rows : List (ServedPair Turn)) → roster ≡ Some r →
-      All (WasServed (IsServedIn l moment roster workers opened) history) rows → All (IsServed l (IsMomentOf moment) r workers opened history) rows
+      All (WasServed (IsServedIn l moment roster workers opened) history) rows → All (IsServed l (IsMomentOf moment) r opened workers history) rows
   each_served moment roster r workers opened history rows is each j d h =
       let s : ServedPair Turn = get_or rows j d in
       let t = each j d h in
       let same : t.2.0 ≡ r = ap (λ (o : Option Roster). unwrap_or o r) (sym t.2.1 ∙ is) in
-      served_longer l (IsMomentOf moment) r workers opened t.0 history s t.1
-      (subst (λ (x : Roster). IsServed l (IsMomentOf moment) x workers opened t.0 s) same t.2.2)
+      served_longer l (IsMomentOf moment) r opened workers t.0 history s t.1
+      (subst (λ (x : Roster). IsServed l (IsMomentOf moment) x opened workers t.0 s) same t.2.2)
 
   module _ (moment : Option ℕ) (roster : Option Roster) (workers : List (List (Lane L))) (first : DeskPass) where
-    abbrev Left : ℕ → ℕ → AcceptorTold → DeskPass → Intake → Bool → Type 0
+    abbrev pub Left : ℕ → ℕ → AcceptorTold → DeskPass → Intake → Bool → Type 0
     Left = AllServed (IsServedIn l moment roster workers first.seen) first
 
     -- once the two other passes were joined
@@ -95,6 +97,13 @@ module _ {L : Type 0} (l : links.Ghosts L) where
     both_joined before a pass one other mid last intake short none none' mid_is mid_one last_is last_one left =
         joins (IsServedIn l moment roster workers first.seen) first 1 before a mid last other intake short (omega arith) none' last_is last_one
         (joins (IsServedIn l moment roster workers first.seen) first 2 before a pass mid one intake short (omega arith) none mid_is mid_one left)
+
+    -- no worker began
+    pub none_served : (before : ℕ) (a : AcceptorTold) (p : DeskPass) → p ≡ first → p.is_first ≡ true → p.out ≡ 2 → p.turns ≡ [] → a.faults ≡ before →
+        IfSome a.pairs (λ t. (t.out ≡ []) × (t.back ≡ [])) → Left 2 before a p Intake.Open true
+    none_served before a p is f out none counts fresh =
+        let served = IsServedIn l moment roster workers first.seen in
+        leaves served first 2 before a p 0 0 Intake.Open false true refl (λ e. refl) (opens served first 2 before a p is f out none counts fresh)
 
   -- all of it
   pub day_served : {D : Type 0} (d : disk.Ghosts D) (moment : Option ℕ) (roster : Option Roster) (r : Roster) (workers : List (List (Lane L))) (first pass one other : DeskPass) (fixed : OpenedWith)
@@ -126,7 +135,7 @@ module _ {L : Type 0} (l : links.Ghosts L) where
         on_disk = λ e. let st = stands (same_tells ∙ e) in (st.0, λ file leaves. subst (λ (t : DeskTerms). WithOrWithout t history_now st.0 file) closed_terms (st.1 file leaves));
         rows = rows;
         served = record {
-          each = subst (λ (h : List Entry). All (IsServed l (IsMomentOf moment) r workers h history_now) rows) (sym history)
+          each = subst (λ (h : List Entry). All (IsServed l (IsMomentOf moment) r h workers history_now) rows) (sym history)
               (each_served moment roster r workers first.seen history_now rows roster_is (subst (λ (h : List Entry). All (WasServed (IsServedIn l moment roster workers first.seen) h) rows) is s.each));
           wanting = λ j x h e. tells.short_is (s.short j x h e);
           right = subst (λ (h : List Entry). AreAllRight (IsTurnAt (desk_terms r)) h (turns_in rows)) is
@@ -143,6 +152,18 @@ module _ {L : Type 0} (l : links.Ghosts L) where
         passed = λ e. (none_noted closed.desk.faults (faults_in rows) LAST_COUNT (omega arith) (tells.passed e) counted, zero (tells.passed e) ∙ same_since);
         posted = posted;
       }
+
+-- the posts of what a pass has seen
+pub leaves_post : {L : Type 0} (l : links.Ghosts L) (fixed : OpenedWith) (r : Roster) (link : Option L) (post : L) (p : DeskPass) (mail : Mail L) → terms_in fixed ≡ desk_terms r → link ≡ Some post →
+    IsRightPass fixed p → IsTendedTo l link p.seen mail → LeavesPost l r post mail.link
+leaves_post {L} l fixed r link post p mail terms is right t =
+    let day : IsDay (desk_terms r).day p.seen = subst (λ (d : DeskTerms). IsDay d.day p.seen) terms right.legal in
+    let same : t.before ≡ post = ap (λ (o : Option L). unwrap_or o post) (sym t.before_is ∙ is) in record {
+      history = t.history;
+      legal = (day_front (desk_terms r).day t.history p.seen t.begins day).legal;
+      pending = mail.outbox.pending;
+      tended = subst (λ (k : L). AreTended l t.history mail.outbox.pending k mail.link) same t.has.tended;
+    }
 
 -- what the second pass had seen begins the history
 pub begins_history : (fixed : OpenedWith) (first one other : DeskPass) (history : List Entry) (faults : ℕ) → Closes fixed first one other history faults → IsPrefix other.seen history

@@ -1,5 +1,5 @@
 -- What the ending of serving tells, and what became of the posts.
-use Rattle.std.proofs.Common.{◌≡◌, ◌≢◌, inl, inr, ⊎_elim, ℕ, ◌<◌, ◌≤◌, List, [], ◌∷◌, ◌++◌, length, drop, All, Contains, Bool, true, false, ◌||◌, ◌==◌, if◌then◌else◌, Result, Ok, Err, OnOk, refl, sym, ap, ◌∙◌, subst, arith, append_assoc}
+use Rattle.std.proofs.Common.{◌≡◌, ◌≢◌, ⊎_elim, ℕ, ◌<◌, List, [], ◌∷◌, ◌++◌, length, drop, Bool, true, false, ◌||◌, ◌==◌, if◌then◌else◌, Result, Ok, Err, OnOk, refl, sym, ap, ◌∙◌, subst, arith, append_assoc}
 use Rattle.std.proofs.lemmas.Bool.{eqb-true, eqb-false, ltb-true, ltb-false}
 use Rattle.std.specs.Prelude.{nat_lt}
 use mathlib.Core.List.{IsPrefix}
@@ -10,6 +10,7 @@ use Rattle.day_rules.specs.Terms.{Terms}
 use Rattle.day_rules.specs.declared.entry.Entry.{Entry}
 use Rattle.lobby.specs.declared.intake.Intake.{Intake}
 use Rattle.mail_room.specs.Rooms.{BringsUp, HasTended}
+use Rattle.mail_room.specs.Tending.{due_behind}
 use Rattle.mail_room.specs.declared.mail.Mail.{Mail}
 use Rattle.exchange_serving.specs.Finishing.{IsTendedAll, Tells, ending_at, ending_by}
 use Rattle.exchange_serving.specs.Served.{ArePosted}
@@ -121,15 +122,16 @@ module _ {A : Type 0} where
   front_on front more all p q = (q.0, append_assoc front more q.0 ∙ (ap (λ (l : List A). front ++ l) q.1 ∙ behind_front front all p))
 
 module _ {L : Type 0} (l : links.Ghosts L) where
-  -- the last entries were followed, and each pending post was tried
-  pub brought_all : (history whole entries : List Entry) (link : L) (mail : Mail L) (r : Result Unit OutOfMemory) (missed : Bool) → IsPrefix history whole → entries ≡ drop (length history) whole →
-      (missed ≡ false → r ≡ Ok tt) → BringsUp l history entries link mail r → IsTendedAll l whole link mail missed
-  brought_all history whole entries link mail r missed front are done b = record {
-    followed = history ++ b.more;
+  -- the last entries were followed, and the last round went over the posts
+  pub brought_all : (history whole entries : List Entry) (link : L) (old new : Mail L) (r : Result Unit OutOfMemory) (missed : Bool) → IsPrefix history whole → entries ≡ drop (length history) whole →
+      (missed ≡ false → r ≡ Ok tt) → BringsUp l history entries link old new r → IsTendedAll l whole history link old new missed
+  brought_all history whole entries link old new r missed front are done b = record {
+    more = b.more;
     begins = front_on history b.more whole front (subst (IsPrefix b.more) are b.begins);
+    round = b.round;
     tended = b.has.tended;
     all = λ e. ap (λ (es : List Entry). history ++ es) (all_of r (b.more ≡ entries) (done e) b.all ∙ are) ∙ behind_front history whole front;
-    each_tried = λ e. all_of r (All (Contains b.has.tended.tried) mail.outbox.pending) (done e) b.each_tried;
+    each_tried = λ e. all_of r (length b.round.outcomes ≡ length (due_behind old.outbox.pending history b.more)) (done e) b.each_tried;
   }
     where
       all_of : (r : Result Unit OutOfMemory) (P : Type 0) → r ≡ Ok tt → OnOk r P → P
@@ -139,18 +141,23 @@ module _ {L : Type 0} (l : links.Ghosts L) where
   -- the same by what the call says
   pub brought_in : (terms : Terms) (history whole entries : List Entry) (link : L) (old new : Mail L) (r : Result Unit OutOfMemory) (missed : Bool) → IsPrefix history whole → entries ≡ drop (length history) whole →
       (missed ≡ false → r ≡ Ok tt) → IsDay terms whole → HasTended l history link old →
-      ((terms : Terms) (history : List Entry) (link : L) → IsDay terms (history ++ entries) → HasTended l history link old → BringsUp l history entries link new r) → IsTendedAll l whole link new missed
+      ((terms : Terms) (history : List Entry) (link : L) → IsDay terms (history ++ entries) → HasTended l history link old → BringsUp l history entries link old new r) → IsTendedAll l whole history link old new missed
   brought_in terms history whole entries link old new r missed front are done day has brings =
       let all : history ++ entries ≡ whole = ap (λ (es : List Entry). history ++ es) are ∙ behind_front history whole front in
-      brought_all history whole entries link new r missed front are done (brings terms history link (subst (IsDay terms) (sym all) day) has)
+      brought_all history whole entries link old new r missed front are done (brings terms history link (subst (IsDay terms) (sym all) day) has)
 
   -- by how serving ended
-  pub posted : (history : List Entry) (link : L) (mail : Mail L) (short missed : Bool) (intake : Intake) (faults : ℕ) (none : Bool) → (none ≡ true → mail.outbox.pending ≡ []) → (none ≡ false → 0 < length mail.outbox.pending) →
-      IsTendedAll l history link mail missed → ArePosted l history link mail.link (ending_by (short || missed) intake faults none)
-  posted history link mail short missed intake faults none empty some t = record {
-    followed = t.followed;
+  pub posted : (whole history : List Entry) (link : L) (old new : Mail L) (short missed : Bool) (intake : Intake) (faults : ℕ) (none : Bool) → (none ≡ true → new.outbox.pending ≡ []) → (none ≡ false → 0 < length new.outbox.pending) →
+      HasTended l history link old → IsTendedAll l whole history link old new missed → ArePosted l whole link new.link (ending_by (short || missed) intake faults none)
+  posted whole history link old new short missed intake faults none empty some has t = record {
+    followed = history;
+    waiting = old.outbox.pending;
+    between = old.link;
+    earlier = has.tended;
+    more = t.more;
     begins = t.begins;
-    pending = mail.outbox.pending;
+    pending = new.outbox.pending;
+    round = t.round;
     tended = t.tended;
     all = λ e. t.all (not_missed short missed intake faults none e);
     each_tried = λ e. t.each_tried (not_missed short missed intake faults none e);

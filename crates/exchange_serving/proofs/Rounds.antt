@@ -16,6 +16,7 @@ use Rattle.adx_io.specs.declared.failed.Failed.{Failed}
 use Rattle.adx_links.specs.declared.link.Link as links
 use Rattle.day_meters.specs.DayMeters.{steps_of}
 use Rattle.day_rules.specs.DayState.{IsDay}
+use Rattle.day_rules.specs.Legal.{IsLegal}
 use Rattle.day_rules.specs.declared.entry.Entry.{Entry}
 use Rattle.deal_floor.specs.declared.roster.Roster.{Roster}
 use Rattle.desk_board.proofs.Meeting.{prefix_on}
@@ -38,7 +39,7 @@ use Rattle.shared_desk.proofs.Steps.{as_many}
 use Rattle.shared_serving.specs.Sharing.{ServesShared}
 use Rattle.turnstile.specs.Passes.{IsSamePass}
 use Rattle.turnstile.specs.declared.noted.Noted.{Noted}
-use Rattle.exchange_serving.specs.Served.{AreMetersIn, AreServedOver, Connection, IsServed, as_new, talk_of, untaken}
+use Rattle.exchange_serving.specs.Served.{AreServedOver, Connection, IsServed, IsServedOver, as_new, talk_of, untaken}
 use Rattle.exchange_serving.specs.Rounds.{AreOwn, IsRound, IsWhole, bytes_of, is_out_of_memory}
 use Rattle.exchange_serving.proofs.Meters.{day_front, meters_longer, meters_read_in, prefix_short}
 
@@ -100,14 +101,20 @@ module _ {L : Type 0} (l : links.Ghosts L) (IsMoment : ℕ → Type 0) (r : Rost
     inl (refl, refl, refl),
   )
 
-  pub unserved : (p q : DeskPass) (told : PairTold) (lanes : List (Lane L)) → IsSamePass p q → q.turns ≡ p.turns → IsPrefix p.seen q.seen → IsRound l IsMoment r p q told told lanes lanes true
-  unserved p q told lanes same turns later = record {
+  -- what a pass has seen is legal
+  day_by : (opened : OpenedWith) (q : DeskPass) → terms_in opened ≡ desk_terms r → IsRightPass opened q → IsDay (desk_terms r).day q.seen
+  day_by opened q terms right = subst (λ (t : DeskTerms). IsDay t.day q.seen) terms right.legal
+
+  pub unserved : (opened : OpenedWith) (p q : DeskPass) (told : PairTold) (lanes : List (Lane L)) → terms_in opened ≡ desk_terms r → IsRightPass opened q →
+      IsSamePass p q → q.turns ≡ p.turns → IsPrefix p.seen q.seen → IsRound l IsMoment r p q told told lanes lanes true
+  unserved opened p q told lanes terms right same turns later = record {
     course = begun lanes;
     end = ConnEnd.OutOfMemory;
     lanes_are = refl;
     ends = never_begun lanes (talk_of told);
     whole = refl;
     causes = no_causes told.read_faults told.write_faults;
+    legal = (day_by opened q terms right).legal;
     same = same;
     noted = [];
     turns = turns ∙ sym (append-nil p.turns);
@@ -128,7 +135,7 @@ module _ {L : Type 0} (l : links.Ghosts L) (IsMoment : ℕ → Type 0) (r : Rost
   served_between opened p p1 p2 q before now lanes lanes_now b1 b2 b3 end shown terms right same1 turns1 first serves whole causes same2 turns2 later read last =
       let g = serves.gains in
       let start : IsPrefix p.seen p1.seen = prefix_on p.seen first.history p1.seen first.begins first.front in
-      let day : IsDay (desk_terms r).day q.seen = subst (λ (t : DeskTerms). IsDay t.day q.seen) terms right.legal in
+      let day = day_by opened q terms right in
       record {
         course = serves.course;
         end = end;
@@ -136,6 +143,7 @@ module _ {L : Type 0} (l : links.Ghosts L) (IsMoment : ℕ → Type 0) (r : Rost
         ends = serves.ends;
         whole = whole;
         causes = causes;
+        legal = day.legal;
         same = same_again p p2 q (same_again p p1 p2 same1 g.same) same2;
         noted = g.noted;
         turns = turns2 ∙ (g.turns ∙ ap (λ (ts : List (Noted Turn)). ts ++ g.noted) turns1);
@@ -175,67 +183,83 @@ module _ {L : Type 0} (l : links.Ghosts L) (IsMoment : ℕ → Type 0) (r : Rost
   held_new None now bytes new took = sym (ap (λ (o : Option (List ℕ)). option_map (λ h. []) o) took)
   held_new (Some b) now bytes new took = ap (λ (h : List ℕ). Some h) new ∙ sym (ap (λ (o : Option (List ℕ)). option_map (λ h. []) o) took)
 
-  -- the pair that was served, over the lanes of its worker
-  pub served_of : (workers : List (List (Lane L))) (opened : List Entry) (p q : DeskPass) (before now : PairTold) (lanes lanes_now : List (Lane L)) (short : Bool) →
-      IsNew before → p.turns ≡ [] → IsPrefix opened p.seen → AreOwn l IsMoment r workers lanes → IsRound l IsMoment r p q before now lanes lanes_now short →
-      IsServed l IsMoment r workers opened q.seen (record { told = now; turns = q.turns; wanting = short })
-  served_of workers opened p q before now lanes lanes_now short new none begins own round =
-      let took = took_some (talk_of before) (talk_of now) lanes round.course round.end round.ends in
-      let was : talk_of before ≡ talk_of (as_new now) = λ i. record { tape = tape_new before.tape now.tape new.untaken round.whole i; held = held_new before.held now.held took.0 new.unput took.1 i } in record {
-        worker = own.worker;
-        came_with = own.came_with;
-        is_worker = own.is_worker;
-        earlier = own.earlier;
-        lanes = lanes;
-        are_left = own.are_left;
-        course = round.course;
-        end = round.end;
-        ends = subst (λ (t : Talked). EndsSo l IsMoment r t (talk_of now) lanes round.course round.end) was round.ends;
-        causes = subst (λ (n : ℕ). HasCauses n now.read_faults 0 now.write_faults round.end) new.unread
-            (subst (λ (n : ℕ). HasCauses before.read_faults now.read_faults n now.write_faults round.end) new.unwritten round.causes);
-        from = p.seen;
-        begins = begins;
-        along = round.along;
-        turns = subst (λ (ts : List (Noted Turn)). AllZip IsNotedAs ts (calls_of round.course.steps)) (sym (round.turns ∙ ap (λ (ts : List (Noted Turn)). ts ++ round.noted) none)) round.are;
-        meters = round.meters;
-        wanting = round.wanting;
-      }
+  module _ (opened : List Entry) where
+    abbrev pub OverLanes : List Entry → ServedPair Turn → List (Lane L) → Course L → ConnEnd → Type 0
+    OverLanes = IsServedOver l IsMoment r opened
 
-  over_more : (lanes mid now : List (Lane L)) (cs : List (Connection L)) (c : Connection L) → AreServedOver l IsMoment r lanes cs mid → EndsSo l IsMoment r c.before c.now mid c.course c.end → now ≡ c.course.lanes →
-      AreServedOver l IsMoment r lanes (cs ++ c ∷ []) now
-  over_more lanes mid now [] c are ends is = (subst (λ (ls : List (Lane L)). EndsSo l IsMoment r c.before c.now ls c.course c.end) are ends, is)
-  over_more lanes mid now (d ∷ cs) c are ends is = (are.0, over_more d.course.lanes mid now cs c are.1 ends is)
+    -- the pair that was served, over the lanes that a round began with
+    pub served_over : (p q : DeskPass) (before now : PairTold) (lanes lanes_now : List (Lane L)) (short : Bool) →
+        IsNew before → p.turns ≡ [] → IsPrefix opened p.seen → (round : IsRound l IsMoment r p q before now lanes lanes_now short) →
+        OverLanes q.seen (record { told = now; turns = q.turns; wanting = short }) lanes round.course round.end
+    served_over p q before now lanes lanes_now short new none begins round =
+        let took = took_some (talk_of before) (talk_of now) lanes round.course round.end round.ends in
+        let was : talk_of before ≡ talk_of (as_new now) = λ i. record { tape = tape_new before.tape now.tape new.untaken round.whole i; held = held_new before.held now.held took.0 new.unput took.1 i } in record {
+          ends = subst (λ (t : Talked). EndsSo l IsMoment r t (talk_of now) lanes round.course round.end) was round.ends;
+          causes = subst (λ (n : ℕ). HasCauses n now.read_faults 0 now.write_faults round.end) new.unread
+              (subst (λ (n : ℕ). HasCauses before.read_faults now.read_faults n now.write_faults round.end) new.unwritten round.causes);
+          from = p.seen;
+          begins = begins;
+          along = round.along;
+          turns = subst (λ (ts : List (Noted Turn)). AllZip IsNotedAs ts (calls_of round.course.steps)) (sym (round.turns ∙ ap (λ (ts : List (Noted Turn)). ts ++ round.noted) none)) round.are;
+          meters = round.meters;
+          wanting = round.wanting;
+        }
 
-  -- the lanes that a round leaves are still of that worker
-  pub own_on : (workers : List (List (Lane L))) (p q : DeskPass) (before now : PairTold) (lanes lanes_now : List (Lane L)) (short : Bool) → AreLanes r lanes_now →
-      AreOwn l IsMoment r workers lanes → IsRound l IsMoment r p q before now lanes lanes_now short → AreOwn l IsMoment r workers lanes_now
-  own_on workers p q before now lanes lanes_now short are own round =
-      let c : Connection L = record { before = talk_of before; now = talk_of now; course = round.course; end = round.end } in record {
-        are = are;
-        worker = own.worker;
-        came_with = own.came_with;
-        is_worker = own.is_worker;
-        earlier = own.earlier ++ c ∷ [];
-        are_left = over_more own.came_with lanes lanes_now own.earlier c own.are_left round.ends round.lanes_are;
-      }
+    -- over the lanes of its worker
+    pub served_of : (workers : List (List (Lane L))) (p q : DeskPass) (before now : PairTold) (lanes lanes_now : List (Lane L)) (short : Bool) →
+        IsNew before → p.turns ≡ [] → IsPrefix opened p.seen → AreOwn l IsMoment r opened workers lanes → IsRound l IsMoment r p q before now lanes lanes_now short →
+        IsServed l IsMoment r opened workers q.seen (record { told = now; turns = q.turns; wanting = short })
+    served_of workers p q before now lanes lanes_now short new none begins own round = record {
+      worker = own.worker;
+      came_with = own.came_with;
+      is_worker = own.is_worker;
+      earlier = own.earlier;
+      lanes = lanes;
+      are_left = own.are_left;
+      course = round.course;
+      end = round.end;
+      served = served_over p q before now lanes lanes_now short new none begins round;
+    }
 
-  -- a pair that was served stays so in a history that goes on
-  pub served_longer : (workers : List (List (Lane L))) (opened history more : List Entry) (s : ServedPair Turn) → IsPrefix history more → IsServed l IsMoment r workers opened history s → IsServed l IsMoment r workers opened more s
-  served_longer workers opened history more s p served = record {
-    worker = served.worker;
-    came_with = served.came_with;
-    is_worker = served.is_worker;
-    earlier = served.earlier;
-    lanes = served.lanes;
-    are_left = served.are_left;
-    course = served.course;
-    end = served.end;
-    ends = served.ends;
-    causes = served.causes;
-    from = served.from;
-    begins = served.begins;
-    along = steps_longer (desk_terms r) served.from history more served.course.steps served.along p;
-    turns = served.turns;
-    meters = λ e. meters_longer history more (meters_read served.course.steps) (length served.from) p (served.meters e);
-    wanting = served.wanting;
-  }
+    over_more : (lanes mid now : List (Lane L)) (cs : List (Connection L)) (c : Connection L) → AreServedOver l IsMoment r opened lanes cs mid → IsLegal (desk_terms r).day c.seen →
+        OverLanes c.seen c.pair mid c.course c.end → now ≡ c.course.lanes → AreServedOver l IsMoment r opened lanes (cs ++ c ∷ []) now
+    over_more lanes mid now [] c are legal over is = (legal, subst (λ (ls : List (Lane L)). OverLanes c.seen c.pair ls c.course c.end) are over, is)
+    over_more lanes mid now (d ∷ cs) c are legal over is = (are.0, are.1, over_more d.course.lanes mid now cs c are.2 legal over is)
+
+    -- the lanes that a round leaves are still of that worker
+    pub own_on : (workers : List (List (Lane L))) (p q : DeskPass) (before now : PairTold) (lanes lanes_now : List (Lane L)) (short : Bool) → IsNew before → p.turns ≡ [] → IsPrefix opened p.seen →
+        AreLanes r lanes_now → AreOwn l IsMoment r opened workers lanes → IsRound l IsMoment r p q before now lanes lanes_now short → AreOwn l IsMoment r opened workers lanes_now
+    own_on workers p q before now lanes lanes_now short new none begins are own round =
+        let pair : ServedPair Turn = record { told = now; turns = q.turns; wanting = short } in
+        let c : Connection L = record { pair = pair; seen = q.seen; course = round.course; end = round.end } in record {
+          are = are;
+          worker = own.worker;
+          came_with = own.came_with;
+          is_worker = own.is_worker;
+          earlier = own.earlier ++ c ∷ [];
+          are_left = over_more own.came_with lanes lanes_now own.earlier c own.are_left round.legal (served_over p q before now lanes lanes_now short new none begins round) round.lanes_are;
+        }
+
+    -- a pair that was served stays so in a history that goes on
+    pub served_longer : (workers : List (List (Lane L))) (history more : List Entry) (s : ServedPair Turn) → IsPrefix history more → IsServed l IsMoment r opened workers history s → IsServed l IsMoment r opened workers more s
+    served_longer workers history more s p served =
+        let over = served.served in record {
+          worker = served.worker;
+          came_with = served.came_with;
+          is_worker = served.is_worker;
+          earlier = served.earlier;
+          lanes = served.lanes;
+          are_left = served.are_left;
+          course = served.course;
+          end = served.end;
+          served = record {
+            ends = over.ends;
+            causes = over.causes;
+            from = over.from;
+            begins = over.begins;
+            along = steps_longer (desk_terms r) over.from history more served.course.steps over.along p;
+            turns = over.turns;
+            meters = λ e. meters_longer history more (meters_read served.course.steps) (length over.from) p (over.meters e);
+            wanting = over.wanting;
+          };
+        }

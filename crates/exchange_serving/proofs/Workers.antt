@@ -6,6 +6,7 @@ use Rattle.std.proofs.lemmas.List.Elements.{All-pop}
 use mathlib.Core.List.{IsPrefix}
 use Rattle.adx_acceptors.specs.Pairs.{IsNew, PairTold}
 use Rattle.adx_desk.specs.declared.shared.OpenedWith.{OpenedWith}
+use Rattle.day_rules.specs.declared.entry.Entry.{Entry}
 use Rattle.adx_links.specs.declared.link.Link as links
 use Rattle.deal_floor.specs.declared.roster.Roster.{Roster}
 use Rattle.exchange_floor.specs.Floors.{AreLanes, IsMomentOf}
@@ -40,8 +41,9 @@ module _ {L : Type 0} (l : links.Ghosts L) (IsMoment : ℕ → Type 0) (r : Rost
       All-pop (AreLanes r) (lists_of before) (lists_of left) (Some v.items) (ap lists_of is ∙ map-append (λ (v : Vec (Lane L) Global). v.items) left (v ∷ [])) all
 
   -- the last list is one worker's
-  pub popped_own : (before left : List (Vec (Lane L) Global)) (v : Vec (Lane L) Global) → before ≡ left ++ v ∷ [] → IsPrefix (lists_of before) workers → All (AreLanes r) (lists_of before) → AreOwn l IsMoment r workers v.items
-  popped_own before left v is p all = record {
+  pub popped_own : (opened : List Entry) (before left : List (Vec (Lane L) Global)) (v : Vec (Lane L) Global) → before ≡ left ++ v ∷ [] → IsPrefix (lists_of before) workers → All (AreLanes r) (lists_of before) →
+      AreOwn l IsMoment r opened workers v.items
+  popped_own opened before left v is p all = record {
     are = (popped_lanes before left v is all).1;
     worker = length (lists_of left);
     came_with = v.items;
@@ -69,17 +71,17 @@ module _ {L : Type 0} (l : links.Ghosts L) (told moment : Option ℕ) (roster : 
     pub served_in : Works read lanes → IsFresh first p → IsNew before → Round →
         IsServedIn l told roster workers first.seen q.seen (record { told = now; turns = q.turns; wanting = short })
     served_in w fresh new round =
-        (r, w.roster_is, served_of l (IsMomentOf told) r workers first.seen p q before now lanes lanes_now short new fresh.none fresh.begins w.own (told_round w round))
+        (r, w.roster_is, served_of l (IsMomentOf told) r first.seen workers p q before now lanes lanes_now short new fresh.none fresh.begins w.own (told_round w round))
 
     -- the worker is one still
-    pub works_on : Works read lanes → AreLanes r lanes_now → read_now ≡ book → Round → Works read_now lanes_now
-    works_on w are named round = record {
+    pub works_on : Works read lanes → IsFresh first p → IsNew before → AreLanes r lanes_now → read_now ≡ book → Round → Works read_now lanes_now
+    works_on w fresh new are named round = record {
       of = w.of;
       opened = w.opened;
       roster_is = w.roster_is;
       moment_is = w.moment_is;
       named = named;
-      own = own_on l (IsMomentOf told) r workers p q before now lanes lanes_now short are w.own (told_round w round);
+      own = own_on l (IsMomentOf told) r first.seen workers p q before now lanes lanes_now short new fresh.none fresh.begins are w.own (told_round w round);
     }
 
     -- and the pass is of the desk still

@@ -2,8 +2,8 @@
 use Rattle.std.specs.Prelude.{◌≡◌, List, [], length, true}
 use Rattle.adx_desk.specs.declared.shared.OpenedWith.{OpenedWith}
 use Rattle.day_rules.specs.declared.entry.Entry.{Entry}
-use Rattle.mail_room.specs.Rooms.{IsIdle}
 use Rattle.shared_desk.specs.Callers.{DeskPass}
+use Rattle.shared_desk.specs.Idle.{IsIdle}
 use Rattle.turnstile.specs.Passes.{IsOf, TurnstileState}
 
 -- the first pass of a desk that was just shared, once two others were split from it

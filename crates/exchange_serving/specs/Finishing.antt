@@ -1,6 +1,6 @@
 -- Private, cited by the end of serving alone: how the passes are joined and the desk is closed, and what the ending is told
 -- by.
-use Rattle.std.specs.Prelude.{◌≡◌, ◌≢◌, ◌⊎◌, ℕ, ◌<◌, ◌≤◌, List, length, All, Contains, Bool, true, false, nat_lt, if◌then◌else◌}
+use Rattle.std.specs.Prelude.{◌≡◌, ◌≢◌, ◌⊎◌, ℕ, ◌<◌, ◌≤◌, List, ◌++◌, length, Bool, true, false, nat_lt, if◌then◌else◌}
 use mathlib.Core.List.{IsPrefix}
 use Rattle.adx_links.specs.declared.link.Link as links
 use Rattle.adx_desk.specs.declared.shared.OpenedWith.{OpenedWith}
@@ -8,7 +8,7 @@ use Rattle.adx_desk.specs.declared.turn.Turn.{Turn}
 use Rattle.adx_desk.specs.Shared.{is_disk_fault}
 use Rattle.day_rules.specs.declared.entry.Entry.{Entry}
 use Rattle.lobby.specs.declared.intake.Intake.{Intake}
-use Rattle.mail_room.specs.Tending.{AreTended}
+use Rattle.mail_room.specs.Tending.{AreTended, AreTriedOnce, due_behind}
 use Rattle.mail_room.specs.declared.mail.Mail.{Mail}
 use Rattle.shared_desk.specs.Callers.{DeskPass, IsRightPass, entry_of}
 use Rattle.turnstile.specs.Passes.{joined}
@@ -48,11 +48,12 @@ pub record Closes (opened : OpenedWith) (first one other : DeskPass) (history : 
   pub right : IsRightPass opened last
   pub counted : faults < LAST_COUNT → faults_noted (λ (t : Turn). is_disk_fault t.ended) last.turns ≤ faults
 
--- an outbox was brought up to a history that it had followed a front of; all of it and each pending post was tried unless
--- memory was refused
-pub record IsTendedAll {L : Type 0} (l : links.Ghosts L) (history : List Entry) (link : L) (mail : Mail L) (short : Bool) : Type 0 where
-  pub followed : List Entry
-  pub begins : IsPrefix followed history
-  pub tended : AreTended l followed mail.outbox.pending link mail.link
-  pub all : short ≡ false → followed ≡ history
-  pub each_tried : short ≡ false → All (Contains tended.tried) mail.outbox.pending
+-- An outbox that had followed a front of this whole history was brought up to it; all of it was followed, and each post that
+-- was due tried, unless this was missed for want of memory.
+pub record IsTendedAll {L : Type 0} (l : links.Ghosts L) (whole history : List Entry) (link : L) (old new : Mail L) (missed : Bool) : Type 0 where
+  pub more : List Entry
+  pub begins : IsPrefix (history ++ more) whole
+  pub round : AreTriedOnce l (due_behind old.outbox.pending history more) new.outbox.pending old.link new.link
+  pub tended : AreTended l (history ++ more) new.outbox.pending link new.link
+  pub all : missed ≡ false → history ++ more ≡ whole
+  pub each_tried : missed ≡ false → length round.outcomes ≡ length (due_behind old.outbox.pending history more)

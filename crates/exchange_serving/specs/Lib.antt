@@ -1,4 +1,5 @@
 pub mod Served
+pub mod Unserved
 pub mod Lanes
 pub mod Rounds
 pub mod Finishing

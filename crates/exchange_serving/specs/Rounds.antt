@@ -1,5 +1,5 @@
 -- Private, cited by a worker alone: its rounds.
-use Rattle.std.specs.Prelude.{◌≡◌, ℕ, List, [], ◌++◌, length, Bool, true, false, Option, Some, option_map, slice_get}
+use Rattle.std.specs.Prelude.{◌≡◌, ℕ, List, ◌++◌, length, Bool, true, false, Option, Some, option_map, slice_get}
 use Rattle.std.specs.List.{AllZip}
 use Rattle.logbook.specs.Pages.{Book}
 use Rattle.adx_io.specs.Streams.{Tape}
@@ -9,6 +9,7 @@ use Rattle.adx_desk.specs.Rosters.{desk_terms}
 use Rattle.adx_desk.specs.Shared.{terms_in}
 use Rattle.adx_desk.specs.declared.shared.OpenedWith.{OpenedWith}
 use Rattle.adx_desk.specs.declared.turn.Turn.{Turn}
+use Rattle.day_rules.specs.Legal.{IsLegal}
 use Rattle.day_rules.specs.declared.entry.Entry.{Entry}
 use Rattle.deal_floor.specs.declared.roster.Roster.{Roster}
 use Rattle.desk_calls.specs.Steps.{AreSteps, calls_of, meters_read, shared}
@@ -44,9 +45,10 @@ is_out_of_memory ConnEnd.WriteFault = false
 is_out_of_memory ConnEnd.Spent = false
 
 -- a pair was served in the day of these names
-abbrev pub IsServedIn : {L : Type 0} → links.Ghosts L → Option ℕ → Option Roster → List (List (Lane L)) → List Entry → List Entry → ServedPair Turn → Type 0
+abbrev pub IsServedIn : {L : Type 0} → links.Ghosts L → Option ℕ → Option Roster → List (List (Lane L))
+    → List Entry → List Entry → ServedPair Turn → Type 0
 IsServedIn l moment roster workers opened history s =
-    (r : Roster) × (roster ≡ Some r) × IsServed l (IsMomentOf moment) r workers opened history s
+    (r : Roster) × (roster ≡ Some r) × IsServed l (IsMomentOf moment) r opened workers history s
 
 -- One round: a connection was served, by a pass that was p and became q, over a pair that told so before and now.
 pub record IsRound {L : Type 0} (l : links.Ghosts L) (IsMoment : ℕ → Type 0) (r : Roster) (p q : DeskPass) (before now : PairTold)
@@ -57,6 +59,7 @@ pub record IsRound {L : Type 0} (l : links.Ghosts L) (IsMoment : ℕ → Type 0)
   pub ends : EndsSo l IsMoment r (talk_of before) (talk_of now) lanes course end
   pub whole : IsWhole before.tape now.tape
   pub causes : HasCauses before.read_faults now.read_faults before.write_faults now.write_faults end
+  pub legal : IsLegal (desk_terms r).day q.seen
   pub same : IsSamePass p q
   pub noted : List (Noted Turn)
   pub turns : q.turns ≡ p.turns ++ noted
@@ -66,13 +69,14 @@ pub record IsRound {L : Type 0} (l : links.Ghosts L) (IsMoment : ℕ → Type 0)
   pub wanting : end ≡ ConnEnd.OutOfMemory → short ≡ true
 
 -- the lanes of one of these workers, once connections were served over them
-pub record AreOwn {L : Type 0} (l : links.Ghosts L) (IsMoment : ℕ → Type 0) (r : Roster) (workers : List (List (Lane L))) (lanes : List (Lane L)) : Type 0 where
+pub record AreOwn {L : Type 0} (l : links.Ghosts L) (IsMoment : ℕ → Type 0) (r : Roster) (opened : List Entry) (workers : List (List (Lane L)))
+    (lanes : List (Lane L)) : Type 0 where
   pub are : AreLanes r lanes
   pub worker : ℕ
   pub came_with : List (Lane L)
   pub is_worker : slice_get workers worker ≡ Some came_with
   pub earlier : List (Connection L)
-  pub are_left : AreServedOver l IsMoment r came_with earlier lanes
+  pub are_left : AreServedOver l IsMoment r opened came_with earlier lanes
 
 -- what a worker keeps over its rounds
 pub record IsWorker {L : Type 0} (l : links.Ghosts L) (moment_told moment : Option ℕ) (roster : Option Roster) (workers : List (List (Lane L)))
@@ -82,4 +86,4 @@ pub record IsWorker {L : Type 0} (l : links.Ghosts L) (moment_told moment : Opti
   pub roster_is : roster ≡ Some r
   pub moment_is : moment ≡ moment_told
   pub named : read ≡ book
-  pub own : AreOwn l (IsMomentOf moment_told) r workers lanes
+  pub own : AreOwn l (IsMomentOf moment_told) r first.seen workers lanes

@@ -1,5 +1,5 @@
 -- What serving the connections of an acceptor on one desk leaves. This project's own.
-use Rattle.std.specs.Prelude.{◌≡◌, ◌≢◌, ◌⊎◌, ℕ, ◌<◌, ◌≤◌, List, [], ◌∷◌, ◌++◌, length, map, take, All, Contains, Bool, true, false, Option, Some, IfSome, option_map, slice_get}
+use Rattle.std.specs.Prelude.{◌≡◌, ◌≢◌, ◌⊎◌, ℕ, ◌<◌, ◌≤◌, List, [], ◌∷◌, ◌++◌, length, map, take, All, true, false, Some, IfSome, option_map, slice_get}
 use Rattle.std.specs.List.{AllZip, flat_map}
 use mathlib.Core.List.{IsPrefix}
 use Rattle.adx_io.specs.Streams.{Rises, Tape}
@@ -16,7 +16,7 @@ use Rattle.day_rules.specs.Legal.{IsLegal}
 use Rattle.adx_desk.specs.declared.turn.Turn.{Turn}
 use Rattle.adx_desk.specs.Desks.{OnDisk}
 use Rattle.adx_desk.specs.Endings.{IsWithinRise}
-use Rattle.adx_desk.specs.Histories.{DeskTerms, WithOrWithout}
+use Rattle.adx_desk.specs.Histories.{WithOrWithout}
 use Rattle.adx_desk.specs.Rosters.{desk_terms}
 use Rattle.adx_desk.specs.Shared.{IsTurnAt, is_disk_fault}
 use Rattle.shared_desk.specs.Callers.{entry_of}
@@ -30,7 +30,7 @@ use Rattle.exchange_messages.specs.Courses.{Course}
 use Rattle.exchange_http.specs.Serving.{EndsSo, Talked}
 use Rattle.meter_steps.specs.declared.meters.Meters.{Meters}
 use Rattle.outbox.specs.declared.post.Post.{Post}
-use Rattle.mail_room.specs.Tending.{AreTended}
+use Rattle.mail_room.specs.Tending.{AreTended, AreTriedOnce, due_behind}
 use Rattle.exchange_serving.specs.declared.ending.Ending.{Ending}
 
 -- a tape of which nothing was taken
@@ -57,33 +57,18 @@ AreMetersIn history least [] = Unit {0}
 AreMetersIn history least (m ∷ ms) =
     (n : ℕ) × (least ≤ n) × (n ≤ length history) × (m ≡ meters_after (take n history)) × AreMetersIn history n ms
 
--- a connection: what it brought and took before and now, what its messages made, and how it ended
+-- a connection that was served: its pair as it was given back, the history that was seen behind it, what its messages made,
+-- and how it ended
 pub record Connection (L : Type 0) : Type 0 where
-  pub before : Talked
-  pub now : Talked
+  pub pair : ServedPair Turn
+  pub seen : List Entry
   pub course : Course L
   pub end : ConnEnd
 
-module _ {L : Type 0} (l : links.Ghosts L) (IsMoment : ℕ → Type 0) (r : Roster) where
-  -- connections were served over lanes, one behind another, each over those that the one before it left
-  abbrev pub AreServedOver : List (Lane L) → List (Connection L) → List (Lane L) → Type 0
-  AreServedOver lanes [] now = now ≡ lanes
-  AreServedOver lanes (c ∷ cs) now =
-      EndsSo l IsMoment r c.before c.now lanes c.course c.end × AreServedOver c.course.lanes cs now
-
-  -- A pair was served on a desk whose history began with `opened` and is `history` now, by one of the workers, each of
-  -- whom came with lanes of its own.
-  pub record IsServed (workers : List (List (Lane L))) (opened history : List Entry) (s : ServedPair Turn) : Type 0 where
-    -- its lanes are those of one worker, as the connections before it left them
-    pub worker : ℕ
-    pub came_with : List (Lane L)
-    pub is_worker : slice_get workers worker ≡ Some came_with
-    pub earlier : List (Connection L)
-    pub lanes : List (Lane L)
-    pub are_left : AreServedOver came_with earlier lanes
+module _ {L : Type 0} (l : links.Ghosts L) (IsMoment : ℕ → Type 0) (r : Roster) (opened : List Entry) where
+  -- A pair was served over these lanes, on a desk whose history began with `opened` and was `history` behind it.
+  pub record IsServedOver (history : List Entry) (s : ServedPair Turn) (lanes : List (Lane L)) (course : Course L) (end : ConnEnd) : Type 0 where
     -- which messages its source brought, what its sink took for them by its steps, and why no more were read
-    pub course : Course L
-    pub end : ConnEnd
     pub ends : EndsSo l IsMoment r (talk_of (as_new s.told)) (talk_of s.told) lanes course end
     pub causes : HasCauses 0 s.told.read_faults 0 s.told.write_faults end
     -- its steps were made on histories that go on, each from the one before
@@ -97,6 +82,26 @@ module _ {L : Type 0} (l : links.Ghosts L) (IsMoment : ℕ → Type 0) (r : Rost
     -- it is told where memory was wanting for it
     pub wanting : end ≡ ConnEnd.OutOfMemory → s.wanting ≡ true
 
+  -- Connections were served over lanes, one behind another: each over those that the one before it left, and each on a legal
+  -- history of the day.
+  abbrev pub AreServedOver : List (Lane L) → List (Connection L) → List (Lane L) → Type 0
+  AreServedOver lanes [] now = now ≡ lanes
+  AreServedOver lanes (c ∷ cs) now =
+      IsLegal (desk_terms r).day c.seen × IsServedOver c.seen c.pair lanes c.course c.end × AreServedOver c.course.lanes cs now
+
+  -- A pair was served by one of the workers, each of whom came with lanes of its own: over those that its connections
+  -- before it left.
+  pub record IsServed (workers : List (List (Lane L))) (history : List Entry) (s : ServedPair Turn) : Type 0 where
+    pub worker : ℕ
+    pub came_with : List (Lane L)
+    pub is_worker : slice_get workers worker ≡ Some came_with
+    pub earlier : List (Connection L)
+    pub lanes : List (Lane L)
+    pub are_left : AreServedOver came_with earlier lanes
+    pub course : Course L
+    pub end : ConnEnd
+    pub served : IsServedOver history s lanes course end
+
 -- all turns of these pairs, one pair's behind another's
 abbrev pub turns_in : List (ServedPair Turn) → List (Noted Turn)
 turns_in rows = flat_map (λ (s : ServedPair Turn). s.turns) rows
@@ -108,7 +113,7 @@ faults_in rows = faults_noted (λ (t : Turn). is_disk_fault t.ended) (turns_in r
 -- The pairs that were given back, in their order, and the history that their turns made of the one at the opening.
 pub record AreServed {L : Type 0} (l : links.Ghosts L) (IsMoment : ℕ → Type 0) (r : Roster) (workers : List (List (Lane L)))
     (opened history : List Entry) (rows : List (ServedPair Turn)) (ending : Ending) : Type 0 where
-  pub each : All (IsServed l IsMoment r workers opened history) rows
+  pub each : All (IsServed l IsMoment r opened workers history) rows
   pub wanting : All (λ (s : ServedPair Turn). s.wanting ≡ true → ending ≡ Ending.OutOfMemory) rows
   -- each turn is one of the day at the front of the history that is as long as it was at the turn's call; its entry, if it
   -- has one, stands there
@@ -125,15 +130,23 @@ pub record HasBack (before now : AcceptorTold) (rows : List (ServedPair Turn)) (
   pub fault : ending ≡ Ending.AcceptorFault → Rises before.faults now.faults
   pub over : ending ≢ Ending.OutOfMemory → ending ≢ Ending.AcceptorFault → (now.is_over ≡ true) × (now.faults ≡ before.faults)
 
--- What became of the posts of the history, by how serving ended: all of them were followed and tried, unless memory was
--- wanting; and some are pending, or none.
+-- What became of the posts of the history, by how serving ended. Unless memory was wanting all of it was followed, and a last
+-- round tried each post that was due then, once, over the link as the rounds before had left it. Some posts are pending
+-- then, or none.
 pub record ArePosted {L : Type 0} (l : links.Ghosts L) (history : List Entry) (post post_now : L) (ending : Ending) : Type 0 where
+  -- before the last round
   pub followed : List Entry
-  pub begins : IsPrefix followed history
+  pub waiting : List Post
+  pub between : L
+  pub earlier : AreTended l followed waiting post between
+  -- in it, and behind it
+  pub more : List Entry
+  pub begins : IsPrefix (followed ++ more) history
   pub pending : List Post
-  pub tended : AreTended l followed pending post post_now
-  pub all : ending ≢ Ending.OutOfMemory → followed ≡ history
-  pub each_tried : ending ≢ Ending.OutOfMemory → All (Contains tended.tried) pending
+  pub round : AreTriedOnce l (due_behind waiting followed more) pending between post_now
+  pub tended : AreTended l (followed ++ more) pending post post_now
+  pub all : ending ≢ Ending.OutOfMemory → followed ++ more ≡ history
+  pub each_tried : ending ≢ Ending.OutOfMemory → length round.outcomes ≡ length (due_behind waiting followed more)
   pub none : ending ≡ Ending.Done → pending ≡ []
   pub some : ending ≡ Ending.Pending → 0 < length pending
 

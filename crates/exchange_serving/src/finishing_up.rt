@@ -1,5 +1,5 @@
 //! The end of a day's serving: the passes are joined, the desk is closed, and the posts are tried once more.
-ghost use Rattle.std.specs.Prelude.{◌≡◌, ◌≤◌, ◌||◌, true, false, List, length};
+ghost use Rattle.std.specs.Prelude.{◌≡◌, ◌≤◌, true, false, List, length};
 ghost use mathlib.Core.List.{IsPrefix};
 ghost use Rattle.adx_desk.specs.Desks.{StandsOnDisk};
 ghost use Rattle.adx_desk.specs.Endings.{IsWithinRise};
@@ -43,13 +43,6 @@ fn ending_of(short: bool, intake: Intake, faults: u64, none_pending: bool) -> En
     }
 }
 
-/// The one or the other.
-fn either(one: bool, other: bool) -> bool
-    ensures { result ≡ (one || other) }
-{
-    one || other
-}
-
 /// Joins two passes that were split from the first one, and closes the desk.
 pub(crate) fn close_desk<D: Disk + Drop>(
     shared: SharedDesk<D>,
@@ -77,7 +70,7 @@ pub(crate) fn close_desk<D: Disk + Drop>(
 fn bring_up<D: Disk + Drop, L: Link + Drop>(desk: &Desk<D>, mail: &mut Mail<L>) -> bool
     requires few { mail.old.outbox.followed ≤ length desk.now.desk.history }
     ensures posts { (history : List EntryValue) (link : L) → IsPrefix history desk.now.desk.history → HasTended L.Link history link mail.old
-        → IsTendedAll L.Link desk.now.desk.history link mail.new result }
+        → IsTendedAll L.Link desk.now.desk.history history link mail.old mail.new result }
 {
     // A desk's history is legal.
     let _ = desk.entries();
@@ -109,8 +102,7 @@ pub(crate) fn finish<A, D: Disk + Drop, L: Link + Drop>(
     let missed = bring_up(&desk, &mut mail);
     let faults = desk.faults();
     let none_pending = mail.outbox.pending().is_empty();
-    let wanting = either(short, missed);
-    let ending = ending_of(wanting, intake, faults, none_pending);
+    let ending = ending_of(short | missed, intake, faults, none_pending);
     let Mail { outbox: _, link } = mail;
     Served {
         ending,

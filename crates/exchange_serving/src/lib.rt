@@ -2,8 +2,8 @@
 //!
 //! `serve_connections` lets workers serve connections at the same time, each as `shared_serving` does, on one desk that they
 //! share, and tries the posts of its history behind each connection. Its contract says that all pairs were given back, what
-//! each was replied and by which turns, that these turns made the history that the disk stands for, and which posts were
-//! delivered.
+//! each was replied and by which turns, that these turns made the history that the disk stands for, which posts were
+//! delivered, and what is given back where no desk is left for want of memory.
 //! Stands on `lobby` for the threads, on `shared_serving` for a connection, on `mail_room` for the posts and on
 //! `shared_board` for the meters.
 #![tactic(auto)]
@@ -21,5 +21,5 @@ mod whole;
 mod worker;
 
 pub use ending::Ending;
-pub use leaving::Served;
+pub use leaving::{Served, Unserved};
 pub use serving::serve_connections;

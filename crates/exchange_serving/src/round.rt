@@ -80,6 +80,8 @@ pub(crate) fn serve_pair<
     ensures reader { list_read reader.new ≡ J.book }
 {
     if !board.lock(rt).show(rt, alloc, desk, pass, reader) {
+        // What a pass has seen is legal.
+        desk.recall(pass);
         return true;
     }
     let end = talk(
@@ -96,7 +98,6 @@ pub(crate) fn serve_pair<
         gather,
     );
     let shown = board.lock(rt).show(rt, alloc, desk, pass, reader);
-    // What a pass has seen is legal.
     desk.recall(pass);
     !shown || is_short(end)
 }

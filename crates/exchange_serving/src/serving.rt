@@ -1,22 +1,24 @@
 //! All connections of an acceptor on one desk, from the desk as it was opened to its disk.
-ghost use Rattle.std.specs.Prelude.{◌≡◌, ◌≤◌, [], true, All, IfSome, Some, length};
+ghost use Rattle.std.specs.Prelude.{◌≡◌, ◌≤◌, [], true, All, IfErr, IfOk, IfSome, Some, length};
 ghost use Rattle.adx_acceptors.specs.Told.{told_by};
 ghost use Rattle.adx_desk.specs.Desks.{OnDisk};
 ghost use Rattle.adx_desk.specs.Rosters.{desk_terms};
 ghost use Rattle.adx_desk.specs.Shared.{opened_with, terms_in};
 ghost use Rattle.exchange_floor.specs.Floors.{AreLanes, Gave, IsMomentOf};
 ghost use Rattle.lobby.specs.Lobbies.{AllServed};
-ghost use Rattle.mail_room.specs.Rooms.{HasTended, IsIdle};
+ghost use Rattle.mail_room.specs.Rooms.{HasTended};
 ghost use Rattle.meter_board.specs.Words.{list_of, list_read};
+ghost use Rattle.shared_desk.specs.Idle.{IsIdle};
 ghost use Rattle.turnstile.specs.Passes.{IsOf};
 ghost use Rattle.exchange_serving.specs.Lanes.{lists_of};
 ghost use Rattle.exchange_serving.specs.Rounds.{IsServedIn};
 ghost use Rattle.exchange_serving.specs.Served.{ServesDay};
+ghost use Rattle.exchange_serving.specs.Unserved.{IsGivenBack, LeavesPost};
 
-use crate::beginning::{Begun, share};
+use crate::beginning::{Begun, Prepared, board_over, prepare, share};
 use crate::finishing_up::{close_desk, finish};
 use crate::gathering::{ByClosure, Gathers};
-use crate::leaving::Served;
+use crate::leaving::{Served, Unserved};
 use crate::names::{Day, DayNames};
 use crate::round::Boards;
 use crate::worker::{DayWorker, Mails, workers_of};
@@ -28,7 +30,7 @@ use deal_floor::Roster;
 use desk_board::Board;
 use exchange_floor::{Clock, Given, Round, at_once};
 use fan_out::Lane;
-use lobby::{Left, serve_all};
+use lobby::{Intake, Left, serve_all};
 use mail_room::{Mail, Mailroom};
 use meter_board::MeterReader;
 use shared_board::SharedBoard;
@@ -39,7 +41,8 @@ use std::sync::{Mutex, Wait};
 use std::thread::Threads;
 use turnstile::Pass;
 
-/// Lets a worker for each of the lists of lanes serve connections, each in a thread of its own, until none comes.
+/// Lets a worker for each of the lists of lanes serve connections, each in a thread of its own, until none comes. None where
+/// acceptor and first pass are lost.
 fn serve_by<
     'a,
     'b,
@@ -81,21 +84,28 @@ fn serve_by<
     ensures left { IfSome result (λ l. AllServed (IsServedIn L.Link J.moment J.roster J.workers J.first.seen) J.first 2 J.faults
         (told_by A.Acceptor A.In.Source A.Out.Sink l.acceptor) l.pass l.intake l.wanting) }
 {
-    let workers = workers_of::<R, D, L, C, G, J>(
+    let made = workers_of::<R, D, L, C, G, J>(
         alloc, roster, desk, clock, board, mail, lists, readers, gather,
-    )
-    .ok()?;
-    serve_all::<R, A, Desk<D>, Day<L, J>, DayWorker<'a, 'b, R, D, L, C, G, J>>(
-        rt,
-        alloc,
-        desk.turnstile(),
-        acceptor,
-        first,
-        workers,
-    )
+    );
+    match made {
+        Ok(workers) => serve_all::<R, A, Desk<D>, Day<L, J>, DayWorker<'a, 'b, R, D, L, C, G, J>>(
+            rt,
+            alloc,
+            desk.turnstile(),
+            acceptor,
+            first,
+            workers,
+        ),
+        Err(_) => Some(Left {
+            acceptor,
+            pass: first,
+            intake: Intake::Open,
+            wanting: true,
+        }),
+    }
 }
 
-/// Serves all connections on a shared desk, and closes it.
+/// Serves all connections on a shared desk, and closes it, or gives back the link that posts go over.
 fn serve_shared_desk<
     R: Threads + Wait + Sync,
     A: Acceptor + Drop + Send,
@@ -116,7 +126,7 @@ fn serve_shared_desk<
     acceptor: A,
     first: Pass<Desk<D>>,
     lists: Vec<Vec<Lane<L>>>,
-) -> Option<Served<A, D, L>>
+) -> Result<Served<A, D, L>, L>
     requires of { IsOf J.first shared }
     requires opened { terms_in shared.fixed ≡ desk_terms roster.now }
     requires roster { J.roster ≡ Some roster.now }
@@ -137,9 +147,10 @@ fn serve_shared_desk<
     requires faults { A.faults acceptor ≡ J.faults }
     requires none { IfSome (A.pairs acceptor) (λ t. (t.out ≡ []) × (t.back ≡ [])) }
     ensures serves { (opened : OnDisk D) → opened.desk.history ≡ first.seen → opened_with opened.desk.terms opened.since ≡ shared.fixed →
-        IfSome result (λ s. ServesDay D.Disk L.Link (IsMomentOf (C.moment clock.entry.now)) roster.entry.now
+        IfOk result (λ s. ServesDay D.Disk L.Link (IsMomentOf (C.moment clock.entry.now)) roster.entry.now
         (lists_of lists.items) opened s.disk (told_by A.Acceptor A.In.Source A.Out.Sink acceptor)
         (told_by A.Acceptor A.In.Source A.Out.Sink s.acceptor) mail.link s.post s.ending) }
+    ensures lost { IfErr result (LeavesPost L.Link roster.entry.now mail.link) }
 {
     let boards = Mutex::new(SharedBoard::<&R, D, Day<L, J>>::open(board));
     let mails = Mutex::new(Mailroom::<D, L, Day<L, J>>::open(mail, mail_pass));
@@ -147,20 +158,29 @@ fn serve_shared_desk<
         ensures { Gave L.Link round.entry result }
     { at_once(rt, alloc, round) };
     let gather = ByClosure { asks: &asks };
-    let left = serve_by::<R, A, D, L, C, _, J>(
+    match serve_by::<R, A, D, L, C, _, J>(
         rt, alloc, roster, &shared, clock, &boards, &mails, acceptor, first, lists, readers,
         &gather,
-    )?;
-    let Left {
-        acceptor,
-        pass,
-        intake,
-        wanting,
-    } = left;
-    let (mail, mail_pass) = mails.into_inner().leave();
-    let board_pass = boards.into_inner().into_pass();
-    let desk = close_desk(shared, pass, board_pass, mail_pass);
-    Some(finish(desk, mail, acceptor, intake, wanting))
+    ) {
+        Some(left) => {
+            let Left {
+                acceptor,
+                pass,
+                intake,
+                wanting,
+            } = left;
+            let (mail, mail_pass) = mails.into_inner().leave();
+            let board_pass = boards.into_inner().into_pass();
+            let desk = close_desk(shared, pass, board_pass, mail_pass);
+            Ok(finish(desk, mail, acceptor, intake, wanting))
+        }
+        None => {
+            let (rest, rest_pass) = mails.into_inner().leave();
+            // What a pass has seen is legal.
+            shared.recall(&rest_pass);
+            Err(rest.link)
+        }
+    }
 }
 
 /// Serves the connections that the acceptor gives, on the desk that the roster's day was opened with, until no more come or
@@ -170,8 +190,11 @@ fn serve_shared_desk<
 ///
 /// A connection ends alone, whatever its end, and a fault of the disk is answered by its reply. The ending is told once no
 /// connection is served any more: `OutOfMemory` where memory was refused for some of it, then `AcceptorFault`, `DiskFault`,
-/// `Pending`, the first of them that holds, and else `Done`. None where memory was refused before a worker began, or where
-/// a worker had a pair while none was out, which no run reaches.
+/// `Pending`, the first of them that holds, and else `Done`.
+///
+/// Where no desk is left the answer is what is. `Unbegun`: memory was refused before the desk was shared. `Unshared`: it was
+/// refused for the sharing. `Lost`: it was refused for the workers' threads, or a worker had a pair while none was out,
+/// which no run reaches; desk, disk, acceptor and lanes are lost then.
 pub fn serve_connections<
     R: Threads + Wait + Sync,
     A: Acceptor + Drop + Send,
@@ -187,35 +210,56 @@ pub fn serve_connections<
     lanes: Vec<Vec<Lane<L>>>,
     post: L,
     clock: &C,
-) -> Option<Served<A, D, L>>
+) -> Result<Served<A, D, L>, Unserved<A, D, L>>
     requires terms { desk.desk.terms ≡ desk_terms roster.now }
     requires workers { (1 ≤ length lanes.items) × (length lanes.items ≤ 64) }
     requires lanes { All (AreLanes roster.now) (lists_of lanes.items) }
     requires none { IfSome (A.pairs acceptor) (λ t. (t.out ≡ []) × (t.back ≡ [])) }
-    ensures serves { IfSome result (λ s. ServesDay D.Disk L.Link (IsMomentOf (C.moment clock.entry.now))
+    ensures serves { IfOk result (λ s. ServesDay D.Disk L.Link (IsMomentOf (C.moment clock.entry.now))
         roster.entry.now (lists_of lanes.items) desk s.disk
         (told_by A.Acceptor A.In.Source A.Out.Sink acceptor)
         (told_by A.Acceptor A.In.Source A.Out.Sink s.acceptor) post s.post s.ending) }
+    ensures unserved { IfErr result (IsGivenBack L.Link roster.entry.now desk acceptor lanes post) }
 {
     let count = count_of(lanes.as_slice());
-    let Ok(mail) = Mail::new(alloc, post) else {
-        return None;
-    };
-    let Ok(begun) = share(alloc, desk) else {
-        return None;
-    };
-    let Begun {
-        shared,
-        first,
-        board,
-        mail: mail_pass,
-    } = begun;
-    let Ok((board, readers)) = Board::new(alloc, rt, board, count) else {
-        return None;
-    };
-    serve_shared_desk::<R, A, D, L, C, Brand>(
-        rt, alloc, roster, shared, clock, board, readers, mail, mail_pass, acceptor, first, lanes,
-    )
+    match prepare(alloc, rt, post, count) {
+        Ok(prepared) => {
+            let Prepared {
+                mail,
+                board: steps,
+                readers,
+            } = prepared;
+            match share(alloc, desk) {
+                Ok(begun) => {
+                    let Begun {
+                        shared,
+                        first,
+                        board,
+                        mail: mail_pass,
+                    } = begun;
+                    let board = board_over(steps, board);
+                    match serve_shared_desk::<R, A, D, L, C, Brand>(
+                        rt, alloc, roster, shared, clock, board, readers, mail, mail_pass,
+                        acceptor, first, lanes,
+                    ) {
+                        Ok(served) => Ok(served),
+                        Err(post) => Err(Unserved::Lost { post }),
+                    }
+                }
+                Err(_) => Err(Unserved::Unshared {
+                    acceptor,
+                    lanes,
+                    post: mail.link,
+                }),
+            }
+        }
+        Err(post) => Err(Unserved::Unbegun {
+            desk,
+            acceptor,
+            lanes,
+            post,
+        }),
+    }
 }
 
 /// How many lists there are: as many as a board may have readers.

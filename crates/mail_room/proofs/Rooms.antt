@@ -1,5 +1,5 @@
 -- What bringing an outbox up makes of it, and of the pass beside it.
-use Rattle.std.proofs.Common.{◌≡◌, ℕ, List, [], ◌∷◌, ◌++◌, length, take, drop, All, Contains, Option, Some, Ok, Err, OnOk, OnErr, refl, sym, ap, ◌∙◌, subst, append_assoc, append-nil}
+use Rattle.std.proofs.Common.{◌≡◌, ℕ, List, [], ◌∷◌, ◌++◌, ◌≤◌, length, take, drop, Option, Some, Ok, Err, OnOk, OnErr, refl, sym, ap, ◌∙◌, subst, append_assoc, append-nil}
 use Rattle.std.proofs.Math.Seq.{take-length}
 use Rattle.std.proofs.lemmas.List.{take-append-drop}
 use Rattle.std.specs.Prelude.{Result}
@@ -12,14 +12,17 @@ use Rattle.day_rules.specs.DayState.{IsDay}
 use Rattle.day_rules.specs.declared.entry.Entry.{Entry}
 use Rattle.day_rules.specs.Terms.{Terms}
 use Rattle.outbox.specs.Following.{AreRowsOf, Follows, HasFollowed, OutboxState}
-use Rattle.outbox.specs.Pumping.{Pumps}
+use Rattle.outbox.specs.Pumping.{Pumps, left_of}
 use Rattle.outbox.specs.declared.outbox.TheConstants.{ANSWER_LIMIT}
+use Rattle.outbox.specs.declared.post.Post.{Post}
 use Rattle.outbox.specs.declared.report.Report.{Report}
 use Rattle.shared_desk.specs.Callers.{DeskPass, IsRightPass, Looks}
 use Rattle.turnstile.specs.Passes.{IsOf, TurnstileState}
-use Rattle.mail_room.specs.Rooms.{BringsUp, HasTended, IsBroughtUp, IsIdle, IsMailroom}
+use Rattle.shared_desk.specs.Idle.{IsIdle}
+use Rattle.mail_room.specs.Rooms.{BringsUp, HasTended, IsBroughtUp, IsMailroom}
+use Rattle.mail_room.specs.Tending.{due_behind}
 use Rattle.mail_room.specs.declared.mail.Mail.{Mail}
-use Rattle.mail_room.proofs.Tending.{each_tried, tended_first, tended_more, tended_on}
+use Rattle.mail_room.proofs.Tending.{Tried, none_tried, tended_first, tended_more, tended_on}
 
 module _ {A : Type 0} where
   pub on_prefix : (xs ys zs : List A) → IsPrefix xs ys → IsPrefix ys zs → IsPrefix xs zs
@@ -50,21 +53,19 @@ module _ {T : Type 0} where
   on_ok (Ok x) P Q f p = f p
   on_ok (Err e) P Q f p = tt
 
-  on_both : (a : Result T OutOfMemory) (P Q R : Type 0) → (P → Q → R) → OnOk a P → OnOk a Q → OnOk a R
-  on_both (Ok x) P Q R f p q = f p q
-  on_both (Err e) P Q R f p q = tt
-
 module _ {L : Type 0} (l : links.Ghosts L) where
   -- a new outbox
   pub tended_new : (box : OutboxState) (link : L) → HasFollowed [] box → box.pending ≡ [] → HasTended l [] link (record { outbox = box; link = link })
   tended_new box link followed none = record { followed = followed; tended = tended_first l box.pending link none }
 
-  -- it followed, and its posts were tried
+  -- it followed, and a round went over its posts
   pub brings_up : (history entries : List Entry) (link : L) (old new : Mail L) (mid : OutboxState) (a : Result Unit OutOfMemory) (b : Result Report OutOfMemory) (r : Result Unit OutOfMemory) →
       Follows history entries a old.outbox mid → Pumps l.exchanges l.course l.faults l.place ANSWER_LIMIT old.link new.link b mid new.outbox →
-      OnOk r (OnErr a ⊥ × OnErr b ⊥) → HasTended l history link old → BringsUp l history entries link new r
+      OnOk r (OnErr a ⊥ × OnErr b ⊥) → HasTended l history link old → BringsUp l history entries link old new r
   brings_up history entries link old new mid a b r f p went h =
       let more = take f.done entries in
+      let due = due_behind old.outbox.pending history more in
+      let count = length p.outcomes in
       let tended = tended_on l history more old.outbox.pending mid.pending link old.link f.posts h.tended in
       let now = tended_more l (history ++ more) mid.pending new.outbox.pending p.outcomes link old.link new.link p.pending p.tried tended in
       let whole : (done : ℕ) → done ≡ length entries → take done entries ≡ entries = λ done is. ap (λ (n : ℕ). take n entries) is ∙ take-length entries in
@@ -75,9 +76,15 @@ module _ {L : Type 0} (l : links.Ghosts L) where
           followed = record { count = p.followed ∙ f.followed.count; rows = subst (AreRowsOf (history ++ more)) (sym p.kept) f.followed.rows };
           tended = now;
         };
+        round = record {
+          outcomes = p.outcomes;
+          few = subst (λ (ps : List Post). count ≤ length ps) f.posts p.few;
+          tries = subst (λ (ps : List Post). Tried l (take count ps) p.outcomes old.link new.link) f.posts p.tried;
+          pending_are = p.pending ∙ ap (λ (ps : List Post). left_of ps p.outcomes) f.posts;
+        };
         all = on_ok r (OnErr a ⊥ × OnErr b ⊥) (more ≡ entries) (λ w. whole f.done (ok_of a (f.done ≡ length entries) w.0 f.all)) went;
-        each_tried = on_ok r (OnErr a ⊥ × OnErr b ⊥) (All (Contains now.tried) new.outbox.pending)
-            (λ w. each_tried l mid.pending new.outbox.pending p.outcomes tended.tried p.pending (ok_of b (length p.outcomes ≡ length mid.pending) w.1 p.all)) went;
+        each_tried = on_ok r (OnErr a ⊥ × OnErr b ⊥) (count ≡ length due)
+            (λ w. ok_of b (count ≡ length mid.pending) w.1 p.all ∙ ap (λ (ps : List Post). length ps) f.posts) went;
       }
 
   -- nothing was followed yet
@@ -107,9 +114,9 @@ module _ {L : Type 0} (l : links.Ghosts L) where
 
   -- what the entries behind those followed are to one who followed a front of what was seen
   brought_on : (opened : OpenedWith) (first : DeskPass) (link : Option L) (entries : List Entry) (old new : Mail L) (p : DeskPass) (r : Result Unit OutOfMemory) → entries ≡ drop old.outbox.followed p.seen → IsRightPass opened p →
-      ((terms : Terms) (history : List Entry) (before : L) → IsDay terms (history ++ entries) → HasTended l history before old → BringsUp l history entries before new r) →
+      ((terms : Terms) (history : List Entry) (before : L) → IsDay terms (history ++ entries) → HasTended l history before old → BringsUp l history entries before old new r) →
       (room : IsMailroom l first link old p) →
-      (entries ≡ drop (length room.tended.history) p.seen) × (room.tended.history ++ entries ≡ p.seen) × BringsUp l room.tended.history entries room.tended.before new r
+      (entries ≡ drop (length room.tended.history) p.seen) × (room.tended.history ++ entries ≡ p.seen) × BringsUp l room.tended.history entries room.tended.before old new r
   brought_on opened first link entries old new p r are right brings room =
       let t = room.tended in
       let rest : entries ≡ drop (length t.history) p.seen = are ∙ ap (λ (n : ℕ). drop n p.seen) t.has.followed.count in
@@ -118,7 +125,7 @@ module _ {L : Type 0} (l : links.Ghosts L) where
 
   -- the entries behind those followed were followed
   pub brought : (opened : OpenedWith) (first : DeskPass) (link : Option L) (entries : List Entry) (old new : Mail L) (p : DeskPass) (r : Result Unit OutOfMemory) → entries ≡ drop old.outbox.followed p.seen → IsRightPass opened p →
-      ((terms : Terms) (history : List Entry) (before : L) → IsDay terms (history ++ entries) → HasTended l history before old → BringsUp l history entries before new r) →
+      ((terms : Terms) (history : List Entry) (before : L) → IsDay terms (history ++ entries) → HasTended l history before old → BringsUp l history entries before old new r) →
       IsMailroom l first link old p → IsMailroom l first link new p
   brought opened first link entries old new p r are right brings room =
       let t = room.tended in
@@ -134,15 +141,39 @@ module _ {L : Type 0} (l : links.Ghosts L) where
         };
       }
 
-  -- where all of them were followed, all that was seen is
+  -- and what that makes of the posts
   pub brought_up : (opened : OpenedWith) (first : DeskPass) (link : Option L) (entries : List Entry) (old new : Mail L) (p : DeskPass) (r : Result Unit OutOfMemory) → entries ≡ drop old.outbox.followed p.seen → IsRightPass opened p →
-      ((terms : Terms) (history : List Entry) (before : L) → IsDay terms (history ++ entries) → HasTended l history before old → BringsUp l history entries before new r) →
-      IsMailroom l first link old p → OnOk r (IsBroughtUp l link p.seen new)
+      ((terms : Terms) (history : List Entry) (before : L) → IsDay terms (history ++ entries) → HasTended l history before old → BringsUp l history entries before old new r) →
+      IsMailroom l first link old p → IsBroughtUp l link p.seen old new r
   brought_up opened first link entries old new p r are right brings room =
       let t = room.tended in
-      let on = brought_on opened first link entries old new p r are right brings room in
-      let b = on.2 in
-      on_both r (b.more ≡ entries) (All (Contains b.has.tended.tried) new.outbox.pending) (IsBroughtUp l link p.seen new)
-      (λ all tried. subst (λ (seen : List Entry). IsBroughtUp l link seen new) (ap (λ (es : List Entry). t.history ++ es) all ∙ on.1)
-      (record { before = t.before; before_is = t.before_is; has = b.has; each_tried = tried }))
-      b.all b.each_tried
+      let on = brought_on opened first link entries old new p r are right brings room in record {
+        before = t.before;
+        before_is = t.before_is;
+        history = t.history;
+        had = t.has;
+        entries = entries;
+        seen_is = on.1;
+        brings = on.2;
+      }
+
+  -- nothing was followed, and no post was tried
+  pub not_brought : (opened : OpenedWith) (first : DeskPass) (link : Option L) (mail : Mail L) (p q : DeskPass) (wanting : OutOfMemory) → Looks opened p q → IsMailroom l first link mail p → IsBroughtUp l link q.seen mail mail (Err wanting)
+  not_brought opened first link mail p q wanting looks room =
+      let t = (looked opened first link mail p q looks room).tended in
+      let entries = drop (length t.history) q.seen in record {
+        before = t.before;
+        before_is = t.before_is;
+        history = t.history;
+        had = t.has;
+        entries = entries;
+        seen_is = behind_front t.history q.seen t.begins;
+        brings = record {
+          more = [];
+          begins = (entries, refl);
+          has = subst (λ (es : List Entry). HasTended l es t.before mail) (sym (append-nil t.history)) t.has;
+          round = none_tried l mail.outbox.pending mail.link t.history;
+          all = tt;
+          each_tried = tt;
+        };
+      }

@@ -1,6 +1,5 @@
 -- What following entries, and trying posts, makes of what became of the posts of a history.
-use Rattle.std.proofs.Common.{◌≡◌, ℕ, suc, pred, List, [], ◌∷◌, ◌++◌, length, take, All, Contains, IsPermutation, Bool, true, false, if◌then◌else◌, refl, sym, ap, ◌∙◌, subst, append_assoc, append-nil}
-use Rattle.std.proofs.Math.Seq.{take-length}
+use Rattle.std.proofs.Common.{◌≡◌, suc, pred, List, [], ◌∷◌, ◌++◌, length, take, All, Contains, IsPermutation, Bool, true, false, if◌then◌else◌, refl, sym, ap, ◌∙◌, subst, append_assoc, append-nil, arith}
 use Rattle.std.proofs.lemmas.List.Elements.{All-append, All-contains, All-contains_itself, All-nil, All-take, All-weaker, Contains-append_left, Contains-append_right, Contains-get_or}
 use Rattle.std.proofs.lemmas.List.Sorted.{All-permutation, IsPermutation-append, IsPermutation-cons, IsPermutation-middle, IsPermutation-refl, IsPermutation-sym, IsPermutation-trans}
 use Rattle.adx_links.specs.declared.link.Link as links
@@ -10,7 +9,7 @@ use Rattle.outbox.specs.Pumping.{AreTried, left_of, stays}
 use Rattle.outbox.specs.declared.outbox.TheConstants.{ANSWER_LIMIT}
 use Rattle.outbox.specs.declared.post.Post.{Post}
 use Rattle.outbox.specs.declared.report.Outcome.{Outcome}
-use Rattle.mail_room.specs.Tending.{AreTended, settled_by}
+use Rattle.mail_room.specs.Tending.{AreTended, AreTriedOnce, due_behind, settled_by}
 
 -- the posts of some entries and then of others
 posts_append : (before es fs : List Entry) → posts_behind before (es ++ fs) ≡ posts_behind before es ++ posts_behind (before ++ es) fs
@@ -53,11 +52,10 @@ parted (p ∷ ps) (o ∷ os) = go (stays o) (parted ps os)
 pub all_right : (P : Post → Type 0) (xs ys : List Post) → All P (xs ++ ys) → All P ys
 all_right P xs ys h k d lt = All-contains P (xs ++ ys) _ h (Contains-append_right xs ys _ (Contains-get_or ys k d lt))
 
--- what is left was there
-left_are : (ps : List Post) (os : List Outcome) → All (Contains ps) (left_of ps os)
-left_are ps os =
-    all_right (Contains ps) (settled_by (take (length os) ps) os) (left_of ps os)
-    (All-permutation (Contains ps) ps _ (IsPermutation-sym _ ps (parted ps os)) (All-contains_itself ps))
+-- where none was tried all are left
+none_left : (ps : List Post) → left_of ps [] ≡ ps
+none_left [] = refl
+none_left (p ∷ ps) = refl
 
 module _ {L : Type 0} (l : links.Ghosts L) where
   abbrev pub Tried : List Post → List Outcome → L → L → Type 0
@@ -124,11 +122,11 @@ module _ {L : Type 0} (l : links.Ghosts L) where
             (IsPermutation-trans _ _ _ (IsPermutation-append settled settled (more ++ left_of pending os) pending (IsPermutation-refl settled) (parted pending os)) t.each_once)));
       }
 
-  -- once each of them was tried, each that is pending was
-  pub each_tried : (pending now : List Post) (os : List Outcome) (before : List Post) → now ≡ left_of pending os → length os ≡ length pending → All (Contains (before ++ take (length os) pending)) now
-  each_tried pending now os before is all =
-      let whole : take (length os) pending ≡ pending = ap (λ (n : ℕ). take n pending) all ∙ take-length pending in
-      subst (All (Contains (before ++ take (length os) pending))) (sym is)
-      (All-weaker (Contains pending) (Contains (before ++ take (length os) pending))
-      (λ p here. Contains-append_right before (take (length os) pending) p (subst (λ (ps : List Post). Contains ps p) (sym whole) here))
-      (left_of pending os) (left_are pending os))
+  -- a round that comes to none of the posts
+  pub none_tried : (pending : List Post) (link : L) (history : List Entry) → AreTriedOnce l (due_behind pending history []) pending link link
+  none_tried pending link history = record {
+    outcomes = [];
+    few = omega arith;
+    tries = refl;
+    pending_are = sym (append-nil pending) ∙ sym (none_left (pending ++ []));
+  }

@@ -1,9 +1,9 @@
 -- What becomes of the posts of a history that is followed, where they are tried over one link. This project's own.
-use Rattle.std.specs.Prelude.{List, [], ◌∷◌, ◌++◌, All, Contains, IsPermutation, if◌then◌else◌}
+use Rattle.std.specs.Prelude.{◌≡◌, ◌≤◌, List, [], ◌∷◌, ◌++◌, length, take, All, Contains, IsPermutation, if◌then◌else◌}
 use Rattle.adx_links.specs.declared.link.Link as links
 use Rattle.day_rules.specs.declared.entry.Entry.{Entry}
-use Rattle.outbox.specs.Posts.{posts_of}
-use Rattle.outbox.specs.Pumping.{AreTried, stays}
+use Rattle.outbox.specs.Posts.{posts_behind, posts_of}
+use Rattle.outbox.specs.Pumping.{AreTried, left_of, stays}
 use Rattle.outbox.specs.declared.outbox.TheConstants.{ANSWER_LIMIT}
 use Rattle.outbox.specs.declared.post.Post.{Post}
 use Rattle.outbox.specs.declared.report.Outcome.{Outcome}
@@ -22,3 +22,16 @@ pub record AreTended {L : Type 0} (l : links.Ghosts L) (history : List Entry) (p
   pub tries : AreTried l.exchanges l.course l.faults l.place ANSWER_LIMIT tried outcomes link link_now
   pub own : All (Contains (posts_of history)) tried
   pub each_once : IsPermutation (settled_by tried outcomes ++ pending) (posts_of history)
+
+-- the posts that are due once further entries were followed behind a history: those that were pending, and those of the
+-- entries
+abbrev pub due_behind : List Post → List Entry → List Entry → List Post
+due_behind pending history more = pending ++ posts_behind history more
+
+-- One round over the posts that are due: the first of them were tried, each once and in their order, over the link as it
+-- was, and led it to what it is. What these tries left is pending, and what they didn't come to.
+pub record AreTriedOnce {L : Type 0} (l : links.Ghosts L) (due pending : List Post) (link link_now : L) : Type 0 where
+  pub outcomes : List Outcome
+  pub few : length outcomes ≤ length due
+  pub tries : AreTried l.exchanges l.course l.faults l.place ANSWER_LIMIT (take (length outcomes) due) outcomes link link_now
+  pub pending_are : pending ≡ left_of due outcomes

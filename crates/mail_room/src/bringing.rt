@@ -1,5 +1,5 @@
 //! How an outbox is brought up to a history.
-ghost use Rattle.std.specs.Prelude.{◌++◌, List, [], IfOk};
+ghost use Rattle.std.specs.Prelude.{◌≡◌, ◌++◌, List, [], IfOk, IfErr};
 ghost use Rattle.day_rules.specs.DayState.{IsDay};
 ghost use Rattle.day_rules.specs.Terms.{Terms};
 ghost use Rattle.day_rules.specs.declared.entry.Entry.{Entry as EntryValue};
@@ -13,20 +13,25 @@ use outbox::Outbox;
 use std::alloc::Global;
 
 impl<L: Link + Drop> Mail<L> {
-    /// An outbox that has followed nothing, and the link of its posts.
-    pub fn new(alloc: Global, link: L) -> Result<Mail<L>, OutOfMemory>
-        ensures { IfOk result (HasTended L.Link [] link) }
+    /// An outbox that has followed nothing, and the link of its posts, which is given back where memory is refused.
+    pub fn new(alloc: Global, link: L) -> Result<Mail<L>, (OutOfMemory, L)>
+        ensures first { IfOk result (HasTended L.Link [] link) }
+        ensures same { IfOk result (λ mail. mail.link ≡ link) }
+        ensures back { IfErr result (λ e. e.1 ≡ link) }
     {
-        let outbox = Outbox::new(alloc)?;
-        Ok(Mail { outbox, link })
+        match Outbox::new(alloc) {
+            Ok(outbox) => Ok(Mail { outbox, link }),
+            Err(wanting) => Err((wanting, link)),
+        }
     }
 
-    /// Follows entries that stand behind those followed so far, and tries each pending post once. Where memory is refused
-    /// some of it isn't done, and a later call may do it.
+    /// Follows entries that stand behind those followed so far, and then tries each post once that is pending: those that
+    /// were, in their order, and those of the entries behind them. Where memory is refused the first of the entries were
+    /// followed and the first of the posts tried, and a later call may do the rest.
     pub fn bring_up(&mut self, entries: &[Entry]) -> Result<(), OutOfMemory>
         ensures { (terms : Terms) (history : List EntryValue) (link : L)
             → IsDay terms (history ++ entries.now) → HasTended L.Link history link self.old
-            → BringsUp L.Link history entries.now link self.new result }
+            → BringsUp L.Link history entries.now link self.old self.new result }
     {
         let followed = self.outbox.follow(entries);
         let pumped = self.outbox.pump(&mut self.link);

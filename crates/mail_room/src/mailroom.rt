@@ -1,8 +1,9 @@
 //! An outbox, its link, and a pass of the desk whose history it follows, for a lock.
-ghost use Rattle.std.specs.Prelude.{◌≡◌, [], Some, OnOk};
+ghost use Rattle.std.specs.Prelude.{◌≡◌, [], Some};
 ghost use Rattle.turnstile.specs.Passes.{IsOf};
 ghost use Rattle.shared_desk.specs.Callers.{Looks};
-ghost use Rattle.mail_room.specs.Rooms.{HasTended, IsBroughtUp, IsIdle, IsTendedTo};
+ghost use Rattle.shared_desk.specs.Idle.{IsIdle};
+ghost use Rattle.mail_room.specs.Rooms.{HasTended, IsBroughtUp, IsTendedTo};
 
 use crate::mail::Mail;
 use crate::names::MailNames;
@@ -51,8 +52,8 @@ impl<D: Disk + Drop, L: Link + Drop, J: MailNames<L>> Mailroom<D, L, J> {
         }
     }
 
-    /// Follows the desk's history to its end, and tries each pending post once. Where memory is refused some of it isn't
-    /// done, and a later call may do it.
+    /// Follows the desk's history to its end, and tries each post once that is pending then. Where memory is refused some of
+    /// it isn't done, and a later call may do it.
     pub fn bring_up<R: Wait>(
         &mut self,
         rt: &R,
@@ -61,11 +62,16 @@ impl<D: Disk + Drop, L: Link + Drop, J: MailNames<L>> Mailroom<D, L, J> {
     ) -> Result<(), OutOfMemory>
         requires desk { IsOf J.first desk.now }
         ensures turn { Looks desk.now.fixed self.old.1 self.new.1 }
-        ensures all { OnOk result (IsBroughtUp L.Link J.link self.new.1.seen self.new.0) }
+        ensures round { IsBroughtUp L.Link J.link self.new.1.seen self.old.0 self.new.0 result }
     {
-        let entries = desk.copy_since(rt, alloc, &mut self.pass, self.mail.outbox.followed())?;
-        desk.recall(&self.pass);
-        self.mail.bring_up(entries.as_slice())
+        let followed = self.mail.outbox.followed();
+        match desk.copy_since(rt, alloc, &mut self.pass, followed) {
+            Ok(entries) => {
+                desk.recall(&self.pass);
+                self.mail.bring_up(entries.as_slice())
+            }
+            Err(wanting) => Err(wanting),
+        }
     }
 
     /// Gives outbox, link and pass back.

@@ -1,8 +1,9 @@
 //! A board of a shared desk's meters, for a lock.
-ghost use Rattle.std.specs.Prelude.{◌≡◌, [], true, false, IfOk, length};
+ghost use Rattle.std.specs.Prelude.{◌≡◌, true, IfOk};
 ghost use mathlib.Core.List.{IsPrefix};
 ghost use Rattle.turnstile.specs.Passes.{IsOf, IsSamePass};
 ghost use Rattle.meter_board.specs.Words.{list_of, list_read, published, seen};
+ghost use Rattle.shared_desk.specs.Idle.{IsIdle};
 ghost use Rattle.shared_board.specs.Boards.{AreStepsBetween};
 
 use crate::names::BoardNames;
@@ -76,10 +77,7 @@ impl<R: Wait + Drop, D: Disk + Drop, J: BoardNames> SharedBoard<R, D, J> {
     /// The board, where it is the one of that desk and of that list.
     pub fn open(board: Board<R, D>) -> Self
         requires named { list_of board.board ≡ J.book }
-        requires turnstile { board.pass.turnstile ≡ J.first.turnstile }
-        requires fixed { board.pass.fixed ≡ J.first.fixed }
-        requires split { board.pass.is_first ≡ false }
-        requires turns { board.pass.turns ≡ [] }
+        requires idle { IsIdle J.first board.pass }
     {
         SharedBoard {
             board,
@@ -116,10 +114,7 @@ impl<R: Wait + Drop, D: Disk + Drop, J: BoardNames> SharedBoard<R, D, J> {
 
     /// Gives the pass back.
     pub fn into_pass(self) -> Pass<Desk<D>>
-        ensures turnstile { result.turnstile ≡ J.first.turnstile }
-        ensures fixed { result.fixed ≡ J.first.fixed }
-        ensures split { result.is_first ≡ false }
-        ensures turns { result.turns ≡ [] }
+        ensures idle { IsIdle J.first result }
     {
         let Self { board, names: _ } = self;
         board.into_pass()

@@ -1,5 +1,4 @@
-use Rattle.std.proofs.Common.{ℕ, false, true, Ok, Err, drop, refl, sym, ap, ◌∙◌, subst}
-use Rattle.day_rules.specs.DayState.{IsDay}
+use Rattle.std.proofs.Common.{ℕ, false, true, drop, ap, ◌∙◌}
 use Rattle.exchange_serving.proofs.Finished.{brought_in}
 use Rattle.exchange_serving.proofs.finishing_up.bring_up.Goals as goal
 

@@ -9,6 +9,8 @@ use denote.Struct.Declared.{shape}
 use Rattle.std.proofs.Common.{sym, subst, ℕ}
 use Rattle.std.proofs.Crossing.{crosses}
 use Rattle.std.proofs.alloc.Global.TheSendSync as heap
+use Rattle.adx_acceptors.specs.Told.{pair_by, told_by}
+use Rattle.adx_acceptors.proofs.Answered.{starts}
 use Rattle.adx_desk.specs.declared.shared.OpenedWith.{OpenedWith}
 use Rattle.deal_floor.proofs.roster.Roster.TheSendSync as roster
 use Rattle.fan_out.proofs.lane.Lane.TheSendSync as lane
@@ -16,7 +18,7 @@ use Rattle.mail_room.proofs.mail.Mail.TheSendSync as mail
 use Rattle.meter_board.proofs.board.StepBoard.TheSendSync as step_board
 use Rattle.meter_board.proofs.reader.MeterReader.TheSendSync as reader
 use Rattle.outbox.proofs.outbox.Outbox.TheSendSync as outbox
-use Rattle.shared_desk.proofs.Crossing.{both, desk_send}
+use Rattle.shared_desk.proofs.Crossing.{desk_send}
 use Rattle.turnstile.proofs.pass.Pass.TheSendSync as pass
 use Rattle.turnstile.proofs.turnstile.Turnstile.TheSendSync as turnstile
 use Rattle.turnstile.specs.Passes.{IsOf, TurnstileState}
@@ -35,6 +37,7 @@ use Rattle.std.specs.contracts.sync.Mutex as mutex
 use denote.Struct.Field.{row_field}
 use denote.Ref.{ShrRef}
 use Rattle.exchange_serving.specs.contracts.worker.DayWorker.TheInside as inside
+use Rattle.exchange_serving.proofs.Days.{none_served}
 use Rattle.exchange_serving.proofs.serving.serve_by.Goals as goal
 
 of_arg : (i : ℕ) (δ : Ty) (k : Kept) (R : RattleType) → IsSend R → IsSend (param i (arg δ k R))
@@ -94,3 +97,12 @@ serve_all-requires-send-W g c κs within =
       ),
     ))) in
     of_arg 4 _ no _ w
+
+pub returns-in-Err : goal.returns-in-Err
+returns-in-Err g c =
+    let told = told_by g.A.Acceptor g.A.In.Source g.A.Out.Sink in
+    let t = starts g.A.Acceptor.faults g.A.Acceptor.is_over g.A.Acceptor.pairs (pair_by g.A.In.Source g.A.Out.Sink) c.args.acceptor g.J.DayNames.faults c.requires.faults c.requires.none in record {
+      left =
+          none_served g.L.Link g.J.DayNames.moment g.J.DayNames.roster g.J.DayNames.workers g.J.DayNames.first g.J.DayNames.faults (told c.args.acceptor) c.args.first
+          c.requires.first c.requires.is_first c.requires.out c.requires.turns t.0 t.1;
+    }

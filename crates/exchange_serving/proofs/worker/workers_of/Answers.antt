@@ -14,7 +14,7 @@ invariant_of-push g c =
         roster_is = c.requires.roster;
         moment_is = sym c.requires.clock;
         named = (All-pop (λ r. list_read r ≡ g.J.DayNames.book) c.lists.readers.items c.pop-in-Some.new.self.items (Some reader) c.in-Some-pop.ensures.items c.lists.invariant.2).1;
-        own = popped_own g.L.Link (IsMomentOf g.J.DayNames.moment) c.args.roster.now g.J.DayNames.workers before left c.in-Some.lanes c.in-Some.ensures.items c.lists.invariant.0 c.lists.invariant.1;
+        own = popped_own g.L.Link (IsMomentOf g.J.DayNames.moment) c.args.roster.now g.J.DayNames.workers g.J.DayNames.first.seen before left c.in-Some.lanes c.in-Some.ensures.items c.lists.invariant.0 c.lists.invariant.1;
       },
       c.requires.ready,
     )

@@ -30,7 +30,7 @@ invariant_of-self g c =
       works_on g.L.Link g.J.DayNames.moment (g.C.Clock.moment s.clock.now) g.J.DayNames.roster g.J.DayNames.workers g.J.DayNames.first g.J.DayNames.book s.desk.now s.roster.now
           (list_read s.reader) (list_read n.reader) s.lanes.items n.lanes.items c.args.pass.now n.pass
           (pair_by g.A.In.Source g.A.Out.Sink c.args.pair.now) (pair_by g.A.In.Source g.A.Out.Sink n.pair) c.serve_pair.result
-          c.self.invariant.0 c.serve_pair.ensures.lanes c.serve_pair.ensures.reader c.serve_pair.ensures.round,
+          c.self.invariant.0 c.requires.fresh c.requires.new c.serve_pair.ensures.lanes c.serve_pair.ensures.reader c.serve_pair.ensures.round,
       c.self.invariant.1,
     )
 
