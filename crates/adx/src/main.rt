@@ -9,10 +9,12 @@
 #![tactic(auto)]
 
 mod archive;
+mod clock;
 mod journal_file;
 mod messages;
 mod network;
 mod run;
+mod watching;
 
 use crate::messages::say_memory;
 use crate::run::{run, run_no_text};

@@ -1,10 +1,12 @@
 //! What a run that failed says on standard error: one line.
+use crate::clock::SystemClock;
 use adx_commands::{
     DISK_FAULT, DONE, KEEPER_FAULT, NO_COMMAND, NO_HISTORY, NOT_ACCEPTED, NOT_KEPT, OUT_OF_MEMORY,
     READ_FAULT, REFUSED, WRITE_FAULT,
 };
 use adx_units::Text;
 use command_words::complaint_of;
+use exchange_floor::Clock;
 use network_commands::PENDING;
 use noted_streams::{Reason, Told};
 use std::fmt::Display;
@@ -62,6 +64,54 @@ pub(crate) fn say_not_closed<T: Display + Drop>(rt: &HostRuntime, path: &str, fa
 /// Says where connections are taken.
 pub(crate) fn say_listening(rt: &HostRuntime, address: SocketAddr) {
     let _ = eprintln!(rt; "adx: connections are taken at {address}");
+}
+
+/// Says where connections are taken, how many are served at the same time, and how many bidders are asked.
+pub(crate) fn say_serving(rt: &HostRuntime, address: SocketAddr, workers: u32, bidders: usize) {
+    let _ = eprintln!(rt;
+        "adx: connections are taken at {address} (workers: {workers}, bidders: {bidders})"
+    );
+}
+
+/// The moment, as the lines of a run that goes on tell it: the seconds since the beginning of 1970.
+fn moment(rt: &HostRuntime) -> u64 {
+    SystemClock::new(rt).now()
+}
+
+/// Says how many bytes the file of a journal had when it was opened.
+pub(crate) fn say_found(rt: &HostRuntime, journal: &str, bytes: u64) {
+    let _ = eprintln!(rt; "adx: {}: {journal}: {bytes} bytes were there", moment(rt));
+}
+
+/// Says that a connection ended by a fault: its peer's bytes weren't had, or replies weren't taken.
+pub(crate) fn say_connection(rt: &HostRuntime, number: u64, reading: bool) {
+    let moment = moment(rt);
+    let _ = if reading {
+        eprintln!(rt; "adx: {moment}: connection {number} failed: its bytes can't be read")
+    } else {
+        eprintln!(rt; "adx: {moment}: connection {number} failed: replies can't be written")
+    };
+}
+
+/// Says that a host doesn't take notices.
+pub(crate) fn say_host(rt: &HostRuntime, host: &str, port: u16) {
+    let _ = eprintln!(rt;
+        "adx: {}: notices are pending: {host}:{port} wasn't reached, or answered with a status outside 200 to 299",
+        moment(rt)
+    );
+}
+
+/// Says how much came to be done: how many connections came and how many of them failed, and how often notices were tried and
+/// how often in vain.
+pub(crate) fn say_totals(rt: &HostRuntime, connections: (u64, u64), tries: (u64, u64)) {
+    let _ = eprintln!(rt;
+        "adx: {}: connections: {} (failed: {}), notices tried: {} (failed: {})",
+        moment(rt),
+        connections.0,
+        connections.1,
+        tries.0,
+        tries.1
+    );
 }
 
 /// Says why no connections are taken at a port.

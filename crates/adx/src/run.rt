@@ -2,7 +2,7 @@
 use crate::archive::run_with_archive;
 use crate::journal_file::{FileFault, open_journal};
 use crate::messages::{Heard, say, say_memory, say_no_text, say_not_opened};
-use crate::network::{run_bid, run_post};
+use crate::network::{Serving, run_bid, run_post, run_serve};
 use adx_commands::{
     DISK_FAULT, Kept, NO_COMMAND, OUT_OF_MEMORY, adx, adx_in_memory, kept_by_words,
 };
@@ -13,7 +13,9 @@ use day_archive::{Keeper, MemoryKeeper};
 use noted_streams::Noting;
 use std::fs::File;
 use std::io::ErrorKind;
+use std::marker::Sync;
 use std::sync::Wait;
+use std::thread::Threads;
 
 /// What stands for the name of a journal that has no file.
 const NO_FILE: &str = "the journal in memory";
@@ -103,8 +105,22 @@ fn run_between(rt: &HostRuntime, words: &[Text]) -> u8 {
 }
 
 /// Runs the words whose options have these values.
-fn run_by<W: Wait>(rt: &HostRuntime, waits: &W, words: &[Text], paths: &Paths) -> u8 {
+fn run_by<W: Threads + Wait + Sync>(
+    rt: &HostRuntime,
+    waits: &W,
+    words: &[Text],
+    paths: &Paths,
+) -> u8 {
     if let (Some(roster), Some(journal)) = (&paths.roster, &paths.journal) {
+        if let (Some(port), Some(workers)) = (paths.port, paths.workers) {
+            let asked = Serving {
+                roster: roster.as_str(),
+                journal: journal.as_str(),
+                port,
+                workers,
+            };
+            return run_serve(rt, waits, words, asked);
+        }
         return run_post(rt, waits, words, roster.as_str(), journal.as_str());
     }
     if let (Some(prices), Some(port)) = (&paths.prices, &paths.port) {
@@ -115,7 +131,7 @@ fn run_by<W: Wait>(rt: &HostRuntime, waits: &W, words: &[Text], paths: &Paths) -
 
 /// Runs the words that stand behind the program's name, and gives the exit status. At every status but 0 a line on
 /// standard error says why.
-pub(crate) fn run<W: Wait>(rt: &HostRuntime, waits: &W, words: &[Text]) -> u8 {
+pub(crate) fn run<W: Threads + Wait + Sync>(rt: &HostRuntime, waits: &W, words: &[Text]) -> u8 {
     match paths_of(rt.alloc(), words) {
         Ok(paths) => run_by(rt, waits, words, &paths),
         Err(_) => {

@@ -6,9 +6,12 @@ use adx_acceptors::MemoryAcceptor;
 use adx_io::{Disk, MemoryDisk};
 use adx_links::MemoryLink;
 use adx_units::{OutOfMemory, Text};
+use exchange_floor::FixedClock;
 use network_commands::{Served, adx_serve};
 use std::alloc::Global;
+use std::marker::Sync;
 use std::sync::Wait;
+use std::thread::Threads;
 
 /// The words of a text, which stand between bars.
 fn words_of(alloc: Global, text: &str) -> Result<Vec<Text>, OutOfMemory> {
@@ -32,7 +35,7 @@ fn lists_of(alloc: Global, count: usize) -> Result<Vec<Vec<MemoryLink>>, OutOfMe
 type Back = Served<MemoryAcceptor, MemoryDisk, MemoryLink>;
 
 /// Runs words over the connections of an acceptor.
-fn run<R: Wait>(
+fn run<R: Threads + Wait + Sync>(
     rt: &R,
     alloc: Global,
     words: &[Text],
@@ -44,7 +47,17 @@ fn run<R: Wait>(
 ) -> Back
     requires none { (acceptor.out ≡ []) × (acceptor.back ≡ []) }
 {
-    adx_serve(rt, alloc, words, document, acceptor, disk, lists, post)
+    adx_serve(
+        rt,
+        alloc,
+        words,
+        document,
+        acceptor,
+        disk,
+        lists,
+        post,
+        &FixedClock::new(10),
+    )
 }
 
 /// How many pairs an acceptor got back, and whether they were replied so; None where there is no acceptor.
@@ -70,7 +83,7 @@ fn size_of(disk: Option<MemoryDisk>) -> Option<u64> {
 
 /// What comes of words over a document and connections: the status, how many pairs the acceptor got back and whether they
 /// were replied so, and the size of the disk's file, which had three bytes.
-fn commanded<R: Wait>(
+fn commanded<R: Threads + Wait + Sync>(
     rt: &R,
     alloc: Global,
     words: &str,

@@ -5,7 +5,19 @@ use command_words::{NetworkCommand, Paths, network_command_of, paths_of};
 use std::alloc::Global;
 
 /// Words between bars, and behind the arrow what they ask for of these commands.
-const TABLE: &str = "post|--roster|a.roster|--journal|a.journal => post a.roster a.journal
+const TABLE: &str = "serve|--roster|r|--journal|j|--port|80|--workers|4 => serve r j 80 4
+serve|--workers|1|--port|0|--journal|j|--roster|r => serve r j 0 1
+serve|--workers=64|--port=65535|--journal=j|--roster=r => serve r j 65535 64
+serve|--roster|r|--journal|j|--port|80|--workers|0 => none
+serve|--roster|r|--journal|j|--port|80|--workers|65 => none
+serve|--roster|r|--journal|j|--port|80|--workers|04 => none
+serve|--roster|r|--journal|j|--port|65536|--workers|4 => none
+serve|--roster|r|--journal|j|--port|80 => none
+serve|--roster|r|--journal|j|--workers|4 => none
+serve|--roster|r|--port|80|--workers|4 => none
+serve|--journal|j|--port|80|--workers|4 => none
+serve => none
+post|--roster|a.roster|--journal|a.journal => post a.roster a.journal
 post|--journal|j|--roster|r => post r j
 post|--journal=j|--roster= => post  j
 post|--roster=-r|--journal|j => post -r j
@@ -51,10 +63,31 @@ fn is_bid(text: &str, prices: &str, port: u16) -> bool {
     is_of(words, &["bid", prices]) && number.parse::<u16>() == Ok(port)
 }
 
+/// Whether a text is the word of an exchange, its files, its port and its workers.
+fn is_serve(text: &str, roster: &str, journal: &str, port: u16, workers: u32) -> bool {
+    let Some((words, number)) = text.rsplit_once(' ') else {
+        return false;
+    };
+    let Some((words, address)) = words.rsplit_once(' ') else {
+        return false;
+    };
+    is_of(words, &["serve", roster, journal])
+        && address.parse::<u16>() == Ok(port)
+        && number.parse::<u32>() == Ok(workers)
+}
+
 /// Whether a command is what the table says that words ask for.
 fn is_asked(command: &Option<NetworkCommand>, asked: &str) -> bool {
     match command {
         None => asked == "none",
+        Some(
+            NetworkCommand::Serve {
+                roster,
+                journal,
+                port,
+                workers,
+            },
+        ) => is_serve(asked, roster.as_str(), journal.as_str(), *port, *workers),
         Some(NetworkCommand::Post { roster, journal }) => {
             is_of(asked, &["post", roster.as_str(), journal.as_str()])
         }

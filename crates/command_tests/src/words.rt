@@ -137,6 +137,7 @@ archive-list|--help => help list
 help|archive-list => help list
 reconcile|--help => help reconcile
 help|reconcile => help reconcile
+serve|--help => help serve
 post|--help => help post
 help|post => help post
 bid|--help => help bid
@@ -165,6 +166,7 @@ fn name_of(topic: Topic) -> &'static str {
         Topic::ArchivePut => "put",
         Topic::ArchiveList => "list",
         Topic::Reconcile => "reconcile",
+        Topic::Serve => "serve",
         Topic::Post => "post",
         Topic::Bid => "bid",
     }
@@ -294,7 +296,7 @@ notices => the following required arguments were not provided: --journal <journa
 archive-put => the following required arguments were not provided: --archive <archive>
 archive-list|--archive|a|--cid|c => the following required arguments were not provided: --seat <seat> --from <from> --to <to>
 gen => the following required arguments were not provided: --seed <seed> --asks <asks>
-gen|--seed|07|--asks|250 => '--seed' is a decimal number below 2^64, '--asks' one of at most 1000000, and '--port' one of at most 65535, each without a sign or a leading zero
+gen|--seed|07|--asks|250 => '--seed' is a decimal number below 2^64, '--asks' one of at most 1000000, '--port' one of at most 65535, and '--workers' one of 1 to 64, each without a sign or a leading zero
 bid => the following required arguments were not provided: --prices <prices> --port <port>
 post|--roster|r => the following required arguments were not provided: --journal <journal>
 help|days => unrecognized subcommand 'days'

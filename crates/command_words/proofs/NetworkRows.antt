@@ -1,20 +1,20 @@
 -- Words of the commands that talk over the network, in plain spelling, are read as what they ask for.
-use Rattle.std.proofs.Common.{◌≡◌, ◌≢◌, ◌∙◌, inl, inr, sym, ap, ap₂, subst, refl, ℕ, ◌-◌, ◌&&◌, ◌||◌, Bool, true, false, not, List, [], ◌∷◌, map, Option, Some, None, is_some, true≢false}
+use Rattle.std.proofs.Common.{◌≡◌, ◌≢◌, ◌∙◌, inl, inr, sym, ap, ap₂, subst, refl, ℕ, ◌&&◌, ◌||◌, Bool, true, false, not, List, [], ◌∷◌, map, Option, Some, None, is_some, true≢false}
 use Rattle.std.specs.List.{All}
 use Rattle.std.specs.Str.{bytes_eq}
 use Rattle.std.proofs.lemmas.List.Elements.{All-head, All-tail}
 use Rattle.clap.proofs.OnLiterals.{clap_on_literals}
 use Rattle.clap.specs.Faults.{check_fault, fault_of}
-use Rattle.clap.specs.Kinds.{HasKind, IsAmong, check_kinds}
+use Rattle.clap.specs.Kinds.{HasKind, IsAmong, Kinds, check_kinds}
 use Rattle.clap.specs.Simple.{App, subcommand_of}
 use Rattle.clap.specs.Values.{kind_of}
 use Rattle.clap.specs.Walk.{Row as Found}
 use Rattle.clap.specs.declared.error.Error.{Error}
 use Rattle.clap.specs.declared.error.kind.ErrorKind.{ErrorKind}
 use Rattle.command_words.specs.Spelling.{Given, Row, Spells, value_of}
-use Rattle.command_words.specs.Meanings.{bidding, first_help_word, journal_name, number_of, port_name, posting, prices_name, roster_name}
-use Rattle.command_words.specs.Network.{IsPlainNetwork}
-use Rattle.command_words.specs.NetworkTaken.{IsNetworkReadingOf, bid_with, network_answer, network_found, post_with}
+use Rattle.command_words.specs.Meanings.{bidding, first_help_word, journal_name, number_of, port_name, posting, prices_name, roster_name, serving, workers_name}
+use Rattle.command_words.specs.Network.{IsPlainNetwork, workers_of}
+use Rattle.command_words.specs.NetworkTaken.{IsNetworkReadingOf, bid_with, network_answer, network_found, post_with, serve_with}
 use Rattle.command_words.specs.Taken.{Comes, IsReadingOf, answer, application, command_found, turned_round}
 use Rattle.command_words.specs.declared.command.Command.{Command}
 use Rattle.command_words.specs.declared.network.NetworkCommand.{NetworkCommand}
@@ -28,6 +28,61 @@ use Rattle.command_words.proofs.Rows.{Takes, stays, takes}
 
 abbrev IsGiven : List Given → List ℕ → Type 0
 IsGiven given name = is_some (value_of name given) ≡ true
+
+served_roster : HasOption (shape_by serving).rules roster_name
+served_roster = record { needed = true; is_long = refl; is_named = refl; by_long = refl; by_id = refl }
+
+served_journal : HasOption (shape_by serving).rules journal_name
+served_journal = record { needed = true; is_long = refl; is_named = refl; by_long = refl; by_id = refl }
+
+served_port : HasOption (shape_by serving).rules port_name
+served_port = record { needed = true; is_long = refl; is_named = refl; by_long = refl; by_id = refl }
+
+served_workers : HasOption (shape_by serving).rules workers_name
+served_workers = record { needed = true; is_long = refl; is_named = refl; by_long = refl; by_id = refl }
+
+serving_command : HasCommand program serving.word (shape_by serving)
+unfolding clap_on_literals
+serving_command = record { stops = refl; turns = refl; found = refl; checked = refl }
+
+-- what a parse says of four options that have to stand, by whether they do
+abbrev lacking : Bool → Bool → Bool → Bool → Kinds
+lacking r j p w = check_kinds false false ((true && not r) || ((true && not j) || ((true && not p) || ((true && not w) || false))))
+
+none_lacking : (r j p w : Bool) → r ≡ true → j ≡ true → p ≡ true → w ≡ true → lacking r j p w ≡ []
+none_lacking r j p w er ej ep ew =
+    ap (λ x. lacking x j p w) er ∙ ap (λ x. lacking true x p w) ej ∙ ap (λ x. lacking true true x w) ep ∙ ap (λ x. lacking true true true x) ew
+
+serving_checked : (given : List Given) → All (IsGiven given) serving.needed → check_fault (shape_by serving) (map row_for given) false ≡ []
+serving_checked given complete =
+    let behind_roster = All-tail (IsGiven given) roster_name (journal_name ∷ port_name ∷ workers_name ∷ []) complete in
+    let behind_journal = All-tail (IsGiven given) journal_name (port_name ∷ workers_name ∷ []) behind_roster in
+    let behind_port = All-tail (IsGiven given) port_name (workers_name ∷ []) behind_journal in
+    none_lacking _ _ _ _ (given_found roster_name given ∙ All-head (IsGiven given) roster_name (journal_name ∷ port_name ∷ workers_name ∷ []) complete)
+    (given_found journal_name given ∙ All-head (IsGiven given) journal_name (port_name ∷ workers_name ∷ []) behind_roster)
+    (given_found port_name given ∙ All-head (IsGiven given) port_name (workers_name ∷ []) behind_journal)
+    (given_found workers_name given ∙ All-head (IsGiven given) workers_name [] behind_port)
+
+abbrev IsServed : List ℕ → Type 0
+IsServed name = HasOption (shape_by serving).rules name
+
+serving_built : IsBuilt serving
+serving_built = record {
+  command = serving_command;
+  options = λ name is. one_name IsServed name roster_name (bytes_eq journal_name name || (bytes_eq port_name name || (bytes_eq workers_name name || false))) is served_roster
+      (λ b. one_name IsServed name journal_name (bytes_eq port_name name || (bytes_eq workers_name name || false)) b served_journal
+      (λ d. one_name IsServed name port_name (bytes_eq workers_name name || false) d served_port
+      (λ e. one_name IsServed name workers_name false e served_workers (λ none. absurd (true≢false (sym none))))));
+  defaults = refl;
+  checked = serving_checked;
+  name = refl;
+}
+
+-- the same texts and numbers ask for the same
+pub same_four : (r j roster journal : Option (List ℕ)) (p w port workers : Option ℕ) → r ≡ roster → j ≡ journal → p ≡ port → w ≡ workers
+    → serve_with r j p w ≡ serve_with roster journal port workers
+same_four r j roster journal p w port workers er ej ep ew =
+    ap (λ x. serve_with x j p w) er ∙ ap (λ x. serve_with roster x p w) ej ∙ ap (λ x. serve_with roster journal x w) ep ∙ ap (λ x. serve_with roster journal port x) ew
 
 posted_roster : HasOption (shape_by posting).rules roster_name
 posted_roster = record { needed = true; is_long = refl; is_named = refl; by_long = refl; by_id = refl }
@@ -93,12 +148,22 @@ network_taken command words none is (Some kind) comes = absurd (subst (Comes (So
 
 -- a command in plain spelling stands as `clap` takes it
 network_turned : (command : NetworkCommand) (words : List (List ℕ)) → IsPlainNetwork command words → turned_round words ≡ words
+network_turned (NetworkCommand.Serve roster journal port workers) words (row, given, spells, is) = stays row given words (ap (λ (r : Row). bytes_eq r.word first_help_word) is.0) spells
 network_turned (NetworkCommand.Post roster journal) words (row, given, spells, is) = stays row given words (ap (λ (r : Row). bytes_eq r.word first_help_word) is.0) spells
 network_turned (NetworkCommand.Bid prices port) words (row, given, spells, is) = stays row given words (ap (λ (r : Row). bytes_eq r.word first_help_word) is.0) spells
 
 -- and is taken
 network_takes : (command : NetworkCommand) (words : List (List ℕ)) → IsPlainNetwork command words
     → (word : List ℕ) × (rows : List Found) × Takes word rows words × (network_found (Some (word, rows)) ≡ Some command) × (command_found (Some (word, rows)) ≡ None)
+network_takes (NetworkCommand.Serve roster journal port workers) words (row, given, spells, is) =
+    let its : Spells serving given words = subst (λ (r : Row). Spells r given words) is.0 spells in (
+      serving.word,
+      map row_for given,
+      takes serving given words serving_built its,
+      same_four _ _ (Some roster) (Some journal) _ _ (Some port) (Some workers) (first_found roster_name given ∙ is.1) (first_found journal_name given ∙ is.2)
+          (ap (number_of MOST_PORT) (first_found port_name given) ∙ is.3) (ap workers_of (first_found workers_name given) ∙ is.4),
+      refl,
+    )
 network_takes (NetworkCommand.Post roster journal) words (row, given, spells, is) =
     let its : Spells posting given words = subst (λ (r : Row). Spells r given words) is.0 spells in (
       posting.word,

@@ -1,5 +1,5 @@
 -- The program as it is built, and what holds of each row of it.
-use Rattle.std.proofs.Common.{◌≡◌, subst, refl, ℕ, ◌-◌, ◌||◌, Bool, true, false, List, [], map, is_some}
+use Rattle.std.proofs.Common.{◌≡◌, subst, refl, ℕ, ◌||◌, Bool, true, false, List, [], map, is_some}
 use Rattle.std.specs.List.{All}
 use Rattle.std.specs.Str.{bytes_eq}
 use Rattle.std.proofs.lemmas.Slice.Eq.{bytes_eq-Decides}

@@ -293,6 +293,7 @@ help_asked Topic.ArchivePut = refl
 help_asked Topic.ArchiveList = refl
 help_asked Topic.Reconcile = refl
 help_asked Topic.Generate = refl
+help_asked Topic.Serve = refl
 help_asked Topic.Post = refl
 help_asked Topic.Bid = refl
 
@@ -308,6 +309,7 @@ help_answered Topic.ArchivePut = refl
 help_answered Topic.ArchiveList = refl
 help_answered Topic.Reconcile = refl
 help_answered Topic.Generate = refl
+help_answered Topic.Serve = refl
 help_answered Topic.Post = refl
 help_answered Topic.Bid = refl
 
@@ -408,6 +410,7 @@ help_stays Topic.ArchivePut = refl
 help_stays Topic.ArchiveList = refl
 help_stays Topic.Reconcile = refl
 help_stays Topic.Generate = refl
+help_stays Topic.Serve = refl
 help_stays Topic.Post = refl
 help_stays Topic.Bid = refl
 

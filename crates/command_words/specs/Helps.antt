@@ -1,7 +1,7 @@
 -- The texts of `--help` and `--version`. This project's own.
 use Rattle.std.specs.Prelude.{ℕ, List}
 use Rattle.command_words.specs.declared.command.Topic.{Topic}
-use Rattle.command_words.specs.declared.help.TheConstants.{ARCHIVE_LIST_HELP, ARCHIVE_PUT_HELP, BIDDER_HELP, BID_HELP, CHECK_HELP, CLOSE_HELP, CONNECTION_HELP, DAY_HELP, GENERATOR_HELP, NOTICES_HELP, POST_HELP, PROGRAM_HELP, RECONCILE_HELP, VERSION}
+use Rattle.command_words.specs.declared.help.TheConstants.{ARCHIVE_LIST_HELP, ARCHIVE_PUT_HELP, BIDDER_HELP, BID_HELP, CHECK_HELP, CLOSE_HELP, CONNECTION_HELP, DAY_HELP, GENERATOR_HELP, NOTICES_HELP, POST_HELP, PROGRAM_HELP, RECONCILE_HELP, SERVE_HELP, VERSION}
 
 -- the help on a topic
 abbrev pub help_text : Topic → List ℕ
@@ -16,6 +16,7 @@ help_text Topic.Check = CHECK_HELP.now
 help_text Topic.ArchivePut = ARCHIVE_PUT_HELP.now
 help_text Topic.ArchiveList = ARCHIVE_LIST_HELP.now
 help_text Topic.Generate = GENERATOR_HELP.now
+help_text Topic.Serve = SERVE_HELP.now
 help_text Topic.Post = POST_HELP.now
 help_text Topic.Bid = BID_HELP.now
 

@@ -28,6 +28,9 @@ prices_name = codes "prices"
 abbrev pub port_name : List ℕ
 port_name = codes "port"
 
+abbrev pub workers_name : List ℕ
+workers_name = codes "workers"
+
 -- the name of a flag
 abbrev pub ratio_name : List ℕ
 ratio_name = codes "ratio"
@@ -87,6 +90,10 @@ archive_list = record { word = codes "archive-list"; needed = archive_name ∷ s
 abbrev pub reconcile : Row
 reconcile = record { word = codes "reconcile"; needed = journal_name ∷ bidder_name ∷ []; optional = []; flags = [] }
 
+-- serve --roster FILE --journal FILE --port P --workers W
+abbrev pub serving : Row
+serving = record { word = codes "serve"; needed = roster_name ∷ journal_name ∷ port_name ∷ workers_name ∷ []; optional = []; flags = [] }
+
 -- post --roster FILE --journal FILE
 abbrev pub posting : Row
 posting = record { word = codes "post"; needed = roster_name ∷ journal_name ∷ []; optional = []; flags = [] }
@@ -99,7 +106,7 @@ bidding = record { word = codes "bid"; needed = prices_name ∷ port_name ∷ []
 abbrev pub commands : List Row
 commands =
     day ∷ connection ∷ notices ∷ bidder ∷ generator ∷ closing ∷ check ∷ archive_put ∷ archive_list ∷ reconcile
-    ∷ posting ∷ bidding ∷ []
+    ∷ serving ∷ posting ∷ bidding ∷ []
 
 -- the number that an option's value tells: decimal, without a sign or a leading zero, and at most so much
 abbrev pub number_of : ℕ → Option (List ℕ) → Option ℕ
@@ -148,6 +155,7 @@ words_before_help Topic.ArchivePut = archive_put.word ∷ []
 words_before_help Topic.ArchiveList = archive_list.word ∷ []
 words_before_help Topic.Reconcile = reconcile.word ∷ []
 words_before_help Topic.Generate = generator.word ∷ []
+words_before_help Topic.Serve = serving.word ∷ []
 words_before_help Topic.Post = posting.word ∷ []
 words_before_help Topic.Bid = bidding.word ∷ []
 

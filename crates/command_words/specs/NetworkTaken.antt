@@ -7,12 +7,20 @@ use Rattle.clap.specs.Simple.{subcommand_of}
 use Rattle.clap.specs.Walk.{first_of}
 use Rattle.clap.specs.Walk.{Row as Found}
 use Rattle.clap.specs.declared.error.kind.ErrorKind.{ErrorKind}
-use Rattle.command_words.specs.Meanings.{bidding, journal_name, number_of, port_name, posting, prices_name, roster_name}
+use Rattle.command_words.specs.Meanings.{bidding, journal_name, number_of, port_name, posting, prices_name, roster_name, serving, workers_name}
+use Rattle.command_words.specs.Network.{workers_of}
 use Rattle.command_words.specs.Taken.{Comes, application, turned_round}
 use Rattle.command_words.specs.declared.network.NetworkCommand.{NetworkCommand}
 use Rattle.command_words.specs.declared.network.TheConstants.{MOST_PORT}
 
 -- what the rows that clap found ask for
+abbrev pub serve_with : Option (List ℕ) → Option (List ℕ) → Option ℕ → Option ℕ → Option NetworkCommand
+serve_with roster journal port workers =
+    option_and_then (λ r.
+    option_and_then (λ j.
+    option_and_then (λ p.
+    option_map (λ w. NetworkCommand.Serve r j p w) workers) port) journal) roster
+
 abbrev pub post_with : Option (List ℕ) → Option (List ℕ) → Option NetworkCommand
 post_with roster journal = option_and_then (λ r. option_map (λ j. NetworkCommand.Post r j) journal) roster
 
@@ -21,7 +29,9 @@ bid_with prices port = option_and_then (λ f. option_map (λ p. NetworkCommand.B
 
 abbrev pub network_by : List ℕ → List Found → Option NetworkCommand
 network_by word found =
-    if bytes_eq word posting.word then post_with (first_of roster_name found) (first_of journal_name found)
+    if bytes_eq word serving.word then
+    serve_with (first_of roster_name found) (first_of journal_name found) (number_of MOST_PORT (first_of port_name found)) (workers_of (first_of workers_name found))
+    else if bytes_eq word posting.word then post_with (first_of roster_name found) (first_of journal_name found)
     else if bytes_eq word bidding.word then bid_with (first_of prices_name found) (number_of MOST_PORT (first_of port_name found))
     else None
 

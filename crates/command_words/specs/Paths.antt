@@ -25,6 +25,8 @@ command_paths (Command.Help topic) = no_paths
 command_paths Command.Version = no_paths
 
 abbrev pub network_paths : NetworkCommand → Paths
+network_paths (NetworkCommand.Serve roster journal port workers) =
+    record no_paths { roster = Some roster; journal = Some journal; port = Some port; workers = Some workers }
 network_paths (NetworkCommand.Post roster journal) = record no_paths { roster = Some roster; journal = Some journal }
 network_paths (NetworkCommand.Bid prices port) = record no_paths { prices = Some prices; port = Some port }
 

@@ -12,7 +12,7 @@ use Rattle.clap.specs.Walk.{Row as Found}
 use Rattle.clap.specs.declared.builder.action.ArgAction.TheVariants.{SetTrue}
 use Rattle.clap.specs.declared.error.kind.ErrorKind.{ErrorKind}
 use Rattle.command_words.specs.Spelling.{Row}
-use Rattle.command_words.specs.Meanings.{archive_list, archive_name, archive_put, asks_name, bidder, bidder_name, bidding, check, cid_name, closing, commands, connection, day, first_help_word, from_name, generator, help_word, journal_name, notices, number_of, posting, ratio_name, reconcile, seat_name, seed_name, to_name}
+use Rattle.command_words.specs.Meanings.{archive_list, archive_name, archive_put, asks_name, bidder, bidder_name, bidding, check, cid_name, closing, commands, connection, day, first_help_word, from_name, generator, help_word, journal_name, notices, number_of, posting, ratio_name, reconcile, roster_name, seat_name, seed_name, serving, to_name}
 use Rattle.command_words.specs.declared.command.Command.{Command}
 use Rattle.command_words.specs.declared.command.Topic.{Topic}
 use Rattle.command_words.specs.declared.command.TheConstants.{MOST_ASKS}
@@ -35,6 +35,10 @@ subcommand_for row = fold with_rule (new_app row.word) (rules_of row)
 -- the command that lists, with its first options alone
 abbrev pub listed_of : App
 listed_of = with_rule (with_rule (new_app archive_list.word) (option_rule true archive_name)) (option_rule true seat_name)
+
+-- the command that serves, with its first options alone
+abbrev pub served_of : App
+served_of = with_rule (with_rule (new_app serving.word) (option_rule true roster_name)) (option_rule true journal_name)
 
 -- the program without its commands
 abbrev pub no_commands : App
@@ -118,6 +122,7 @@ topic_by word =
     else if bytes_eq word archive_put.word then Topic.ArchivePut
     else if bytes_eq word archive_list.word then Topic.ArchiveList
     else if bytes_eq word reconcile.word then Topic.Reconcile
+    else if bytes_eq word serving.word then Topic.Serve
     else if bytes_eq word posting.word then Topic.Post
     else if bytes_eq word bidding.word then Topic.Bid
     else Topic.Program

@@ -3,8 +3,8 @@ ghost use Rattle.std.specs.Prelude.{◌≡◌, ◌∷◌, [], IfOk, false, true}
 ghost use Rattle.clap.specs.Simple.{app_of};
 ghost use Rattle.clap.specs.Walk.{rule_of};
 ghost use Rattle.clap.specs.declared.builder.command.Command.TheViews.{out-Command as fields_of};
-ghost use Rattle.command_words.specs.Meanings.{archive_list as archive_list_row, archive_put as archive_put_row, bidder as bidder_row, bidding as bidding_row, check as check_row, closing as closing_row, connection as connection_row, day as day_row, generator as generator_row, notices as notices_row, posting as posting_row, reconcile as reconcile_row};
-ghost use Rattle.command_words.specs.Taken.{application as program, flag_rule, listed_of, no_commands, option_rule, program_of, subcommand_for};
+ghost use Rattle.command_words.specs.Meanings.{archive_list as archive_list_row, archive_put as archive_put_row, bidder as bidder_row, bidding as bidding_row, check as check_row, closing as closing_row, connection as connection_row, day as day_row, generator as generator_row, notices as notices_row, posting as posting_row, reconcile as reconcile_row, serving as serving_row};
+ghost use Rattle.command_words.specs.Taken.{application as program, flag_rule, listed_of, no_commands, option_rule, program_of, served_of, subcommand_for};
 
 use clap::{Arg, ArgAction, Command};
 use std::alloc::{AllocError, Global};
@@ -115,6 +115,22 @@ fn reconcile<'a>(alloc: Global) -> Result<Command<'a>, AllocError>
     command.arg(needed(alloc, "bidder"))
 }
 
+/// The command `serve` with its first options.
+fn served<'a>(alloc: Global) -> Result<Command<'a>, AllocError>
+    ensures { IfOk result (λ c. (app_of c ≡ served_of) × ((fields_of c).has_globals ≡ false)) }
+{
+    let command = Command::new(alloc, "serve").arg(needed(alloc, "roster"))?;
+    command.arg(needed(alloc, "journal"))
+}
+
+/// The command `serve`.
+fn serving<'a>(alloc: Global) -> Result<Command<'a>, AllocError>
+    ensures { IfOk result (λ c. (app_of c ≡ subcommand_for serving_row) × ((fields_of c).has_globals ≡ false)) }
+{
+    let command = served(alloc)?.arg(needed(alloc, "port"))?;
+    command.arg(needed(alloc, "workers"))
+}
+
 /// The command `post`.
 fn posting<'a>(alloc: Global) -> Result<Command<'a>, AllocError>
     ensures { IfOk result (λ c. (app_of c ≡ subcommand_for posting_row) × ((fields_of c).has_globals ≡ false)) }
@@ -181,6 +197,7 @@ fn with_archive<'a>(alloc: Global) -> Result<Command<'a>, AllocError>
 pub(crate) fn application<'a>(alloc: Global) -> Result<Command<'a>, AllocError>
     ensures { IfOk result (λ c. app_of c ≡ program) }
 {
-    let command = with_archive(alloc)?.subcommand(posting(alloc)?)?;
+    let command = with_archive(alloc)?.subcommand(serving(alloc)?)?;
+    let command = command.subcommand(posting(alloc)?)?;
     command.subcommand(bidding(alloc)?)
 }

@@ -81,6 +81,8 @@ pub enum Topic {
     Reconcile,
     /// The command `gen`.
     Generate,
+    /// The command `serve`.
+    Serve,
     /// The command `post`.
     Post,
     /// The command `bid`.

@@ -9,7 +9,7 @@ const NO_COMMAND: &str = "no command; 'adx --help' shows them";
 
 /// What is said of a number that isn't taken.
 const NO_NUMBER: &str =
-    "'--seed' is a decimal number below 2^64, '--asks' one of at most 1000000, and '--port' one of at most 65535, each without a sign or a leading zero";
+    "'--seed' is a decimal number below 2^64, '--asks' one of at most 1000000, '--port' one of at most 65535, and '--workers' one of 1 to 64, each without a sign or a leading zero";
 
 /// The first paragraph of a text as one line, without the word that it begins with.
 fn sentence_of(alloc: Global, text: &str) -> Result<Text, OutOfMemory> {

@@ -20,6 +20,7 @@ usage: adx day [--journal FILE]
        adx archive-put --archive FILE
        adx archive-list --archive FILE --seat S --cid C --from DAY --to DAY
        adx reconcile --journal FILE --bidder NAME
+       adx serve --roster FILE --journal FILE --port P --workers W
        adx post --roster FILE --journal FILE
        adx bid --prices FILE --port P
        adx COMMAND --help
@@ -195,6 +196,28 @@ ledger's, or the input is too long, 4 standard input can't be read, 5 standard o
 read, or another process has it open, 7 the journal isn't one of this roster's day, 12 out of memory
 ";
 
+/// The help on the command `serve`.
+pub const SERVE_HELP: &str = "usage: adx serve --roster FILE --journal FILE --port P --workers W
+
+in:  the roster of the day, the first line of its FILE; everything after the line is ignored
+out: nothing on standard output; connections to the port P of this machine's own address 127.0.0.1 are served, W at the same
+time: requests for bids, which go on to the roster's bidders, notices, budgets, books and meters. Behind each connection the
+notices that the day owes its bidders, and that weren't taken yet, are sent once
+--journal FILE: the day goes on from the history in FILE, and FILE keeps what is added before it is answered; FILE is made if it
+doesn't exist, and is this process's own until it ends
+--port P: a number of at most 65535; 0 takes a free port, which standard error names
+--workers W: a number of 1 to 64
+
+It ends by a signal; all that it answered is in FILE.
+
+status: 3 the first line isn't a roster, 4 the roster's file or the port can't be had, or no connection can be taken, 6 the
+journal can't be read or written, or another process has it open, 7 the journal isn't one of this roster's day, 11 a host wasn't
+reached, or answered by another status than 200 to 299, 12 out of memory
+
+example:
+  ./adx serve --roster examples/exchange.roster --journal a.journal --port 28080 --workers 4
+";
+
 /// The help on the command `post`.
 pub const POST_HELP: &str = "usage: adx post --roster FILE --journal FILE
 
@@ -244,6 +267,7 @@ pub fn help_of(topic: Topic) -> &'static str
         Topic::ArchiveList => ARCHIVE_LIST_HELP,
         Topic::Reconcile => RECONCILE_HELP,
         Topic::Generate => GENERATOR_HELP,
+        Topic::Serve => SERVE_HELP,
         Topic::Post => POST_HELP,
         Topic::Bid => BID_HELP,
     }

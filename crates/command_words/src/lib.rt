@@ -22,9 +22,9 @@ pub use complaint::complaint_of;
 pub use help::{
     ARCHIVE_LIST_HELP, ARCHIVE_PUT_HELP, BID_HELP, BIDDER_HELP, CHECK_HELP, CLOSE_HELP,
     CONNECTION_HELP, DAY_HELP, GENERATOR_HELP, NOTICES_HELP, POST_HELP, PROGRAM_HELP,
-    RECONCILE_HELP, VERSION, help_of,
+    RECONCILE_HELP, SERVE_HELP, VERSION, help_of,
 };
-pub use network::{MOST_PORT, NetworkCommand};
+pub use network::{MOST_PORT, MOST_WORKERS, NetworkCommand};
 pub use network_reading::network_command_of;
 pub use paths::{Paths, paths_of};
 pub use reading::command_of;

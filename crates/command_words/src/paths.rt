@@ -90,6 +90,19 @@ fn network_paths_in(read: Option<NetworkCommand>) -> Paths
 {
     let mut paths = no_paths();
     match read {
+        Some(
+            NetworkCommand::Serve {
+                roster,
+                journal,
+                port,
+                workers,
+            },
+        ) => {
+            paths.roster = Some(roster);
+            paths.journal = Some(journal);
+            paths.port = Some(port);
+            paths.workers = Some(workers);
+        }
         Some(NetworkCommand::Post { roster, journal }) => {
             paths.roster = Some(roster);
             paths.journal = Some(journal);

@@ -55,6 +55,7 @@ fn topic_named(word: &str) -> Topic
         "archive-put" => Topic::ArchivePut,
         "archive-list" => Topic::ArchiveList,
         "reconcile" => Topic::Reconcile,
+        "serve" => Topic::Serve,
         "post" => Topic::Post,
         "bid" => Topic::Bid,
         _ => Topic::Program,

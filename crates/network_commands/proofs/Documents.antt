@@ -16,9 +16,9 @@ use Rattle.notice_posting.specs.Rosters.{BeginsWithRoster, LacksRoster}
 use Rattle.price_lines.specs.Documents.{BeginsWithPrices, LacksPrices}
 use Rattle.price_lines.specs.PriceLines.{IsPriceLine, RefusesPriceLine}
 use Rattle.script_day.proofs.FirstLines.{first_same, no_first}
-use Rattle.script_lines.specs.Rosters.{RefusesRosterLine}
+use Rattle.script_lines.specs.Rosters.{IsRosterLine, RefusesRosterLine}
 use Rattle.script_lines.specs.declared.refusal.RosterRefusal.{RosterRefusal}
-use Rattle.script_lines.proofs.OneMeaning.{roster_not_refused}
+use Rattle.script_lines.proofs.OneMeaning.{one_roster, roster_not_refused}
 
 -- the bytes behind a line's are those behind its newline
 behind : (line rest : List ℕ) → (line ++ 10 ∷ []) ++ rest ≡ line ++ 10 ∷ rest
@@ -47,6 +47,11 @@ pub roster_taken : (document : List ℕ) (r : Roster) (why : RosterRefusal) → 
 roster_taken document r why (line, short, is) (inl (other, short', refuses)) =
     roster_not_refused line r why is (subst (λ (l : List ℕ). RefusesRosterLine l why) (sym (one_first document line other short.0 short'.0)) refuses)
 roster_taken document r why (line, short, is) (inr (none, lacks, e)) = never_lacking document line none short lacks
+
+-- a document begins with one roster
+pub one_begun : (document : List ℕ) (r s : Roster) → BeginsWithRoster document r → BeginsWithRoster document s → r ≡ s
+one_begun document r s (line, short, is) (other, short', is') =
+    one_roster line r s is (subst (λ (l : List ℕ). IsRosterLine l s) (sym (one_first document line other short.0 short'.0)) is')
 
 -- bytes that are JSON have no fault
 json_no_fault : (line : List ℕ) (t : Tree) (f : JsonFault) → IsJson line t → f ≢ JsonFault.OutOfMemory → IsFault line f → ⊥

@@ -1,11 +1,12 @@
 -- The causes of a command's end, and when its document is refused.
-use Rattle.std.proofs.Common.{◌≡◌, ◌≢◌, ◌⊎◌, ◌∙◌, inl, inr, sym, ap, subst, refl, ℕ, ◌<◌, List, [], length, Option, Some, IfSome, arith}
+use Rattle.std.proofs.Common.{◌≡◌, ◌≢◌, ◌⊎◌, ◌∙◌, inl, inr, sym, ap, subst, refl, ℕ, ◌<◌, ◌≤◌, List, [], length, Option, Some, None, IfSome, arith}
 use Rattle.std.specs.Prelude.{IsSome}
 use Rattle.adx_acceptors.specs.Pairs.{AcceptorTold}
 use Rattle.adx_acceptors.specs.Told.{told_by}
 use Rattle.adx_acceptors.specs.declared.acceptor.Acceptor as acceptors
+use Rattle.adx_desk.specs.Endings.{IsWithinRise}
 use Rattle.adx_desk.specs.declared.fault.DeskFault.{DeskFault}
-use Rattle.adx_io.specs.Streams.{Rises}
+use Rattle.adx_io.specs.Streams.{Rises, last_count}
 use Rattle.adx_io.specs.declared.disk.Disk as disks
 use Rattle.adx_io.specs.declared.sink.Sink as sinks
 use Rattle.adx_io.specs.declared.source.Source as sources
@@ -20,7 +21,7 @@ use Rattle.notice_posting.specs.declared.ending.PostEnd.{PostEnd}
 use Rattle.network_commands.specs.Causes.{HasCauses}
 use Rattle.network_commands.specs.Commands.{PostsNotices, RunsBid, RunsPost, ServesBidder}
 use Rattle.network_commands.specs.Documents.{HasNoPrices, HasNoRoster}
-use Rattle.network_commands.specs.Served.{ComesExactly, EndsAtOnce, IsUntouched, linked, ran, unbegun}
+use Rattle.network_commands.specs.Served.{ComesExactly, EndsAtOnce, IsUntouched, KeepsObjects, linked, ran, unbegun}
 use Rattle.network_commands.specs.declared.objects.Objects.{Objects}
 use Rattle.network_commands.specs.declared.served.Served.{Served}
 use Rattle.network_commands.proofs.Documents.{prices_taken, roster_taken}
@@ -32,7 +33,17 @@ Says P back = IfSome back P
 pub says : {T : Type 0} (P : T → Type 0) (back : Option T) (x : T) → back ≡ Some x → P x → IfSome back P
 says P back x is holds = subst (λ (b : Option _). IfSome b P) (sym is) holds
 
-there : {T : Type 0} (back : Option T) (x : T) → back ≡ Some x → IsSome back
+-- what is said of each object is said of it
+some_more : {T : Type 0} (P Q : T → Type 0) → ((x : T) → P x → Q x) → (back : Option T) → IfSome back P → IfSome back Q
+some_more P Q more (Some x) holds = more x holds
+some_more P Q more None holds = holds
+
+-- a count that rose did so by one at least
+pub rises_one : (before now : ℕ) → Rises before now → IsWithinRise before 1 now
+rises_one before now (inl more) = inl (omega (arith, more))
+rises_one before now (inr last) = inr (subst (λ (n : ℕ). last_count ≤ n) (sym last) (omega arith))
+
+pub there : {T : Type 0} (back : Option T) (x : T) → back ≡ Some x → IsSome back
 there back x is = subst (λ (b : Option _). IsSome b) (sym is) refl
 
 -- ---- the disk of a day whose notices were tried
@@ -125,32 +136,63 @@ never_empty : {X : Type 0} (xs : List X) → xs ≡ [] → 0 < length xs → ⊥
 never_empty xs none some = omega (arith, ap length none, some)
 
 module _ {A I O D L : Type 0} (a : acceptors.Ghosts A I O) (d : disks.Ghosts D) (given : Objects A D L) (back : Served A D L) where
-  -- all objects are as they were, at a status that is no fault's
-  pub untouched_causes : d.lasts given.disk given.disk → back.status ≢ 4 → back.status ≢ 6 → IsUntouched given back → HasCauses a d given back
-  untouched_causes same not_four not_six u = record {
-    acceptor_fault = λ is. absurd (not_four is);
-    acceptor_passed = λ other more. says (λ now. a.faults now ≡ a.faults given.acceptor) back.acceptor given.acceptor u.acceptor refl;
-    disk_fault = λ is. absurd (not_six is);
-    disk_passed = λ other. says (λ now. d.faults now ≡ d.faults given.disk) back.disk given.disk u.disk refl;
-    disk_lasts = says (λ now. d.lasts given.disk now) back.disk given.disk u.disk same;
-    all_back = record { acceptor = there back.acceptor given.acceptor u.acceptor; disk = there back.disk given.disk u.disk; post = there back.post given.post u.post };
+  -- what keeps its objects has the causes of any run
+  pub kept_causes : (back.status ≡ 4 → IfSome back.acceptor (λ now. Rises (a.faults given.acceptor) (a.faults now)))
+      → (back.status ≢ 4 → back.status ≢ 12 → IfSome back.acceptor (λ now. a.faults now ≡ a.faults given.acceptor))
+      → KeepsObjects d given back → HasCauses a d given back
+  kept_causes fault passed k = record {
+    acceptor_fault = fault;
+    acceptor_passed = passed;
+    disk_fault = λ is. some_more (λ (now : D). Rises (d.faults given.disk) (d.faults now)) (λ (now : D). IsWithinRise (d.faults given.disk) 1 (d.faults now))
+        (λ now. rises_one (d.faults given.disk) (d.faults now)) back.disk (k.disk_fault is);
+    disk_passed = λ four six twelve. k.disk_passed six;
+    all_back = λ other. k.all_back;
+    post_back = k.all_back.post;
   }
 
-  pub ended_causes : d.lasts given.disk given.disk → (status : ℕ) → status ≢ 4 → status ≢ 6 → EndsAtOnce given back status → HasCauses a d given back
-  ended_causes same status not_four not_six e = untouched_causes same (λ is. not_four (sym e.status_is ∙ is)) (λ is. not_six (sym e.status_is ∙ is)) e.untouched
+  -- all objects are as they were, at a status that is no fault's
+  untouched_kept : d.lasts given.disk given.disk → back.status ≢ 6 → IsUntouched given back → KeepsObjects d given back
+  untouched_kept same not_six u = record {
+    all_back = record { acceptor = there back.acceptor given.acceptor u.acceptor; disk = there back.disk given.disk u.disk; post = there back.post given.post u.post };
+    disk_lasts = says (λ now. d.lasts given.disk now) back.disk given.disk u.disk same;
+    disk_fault = λ is. absurd (not_six is);
+    disk_passed = λ other. says (λ now. d.faults now ≡ d.faults given.disk) back.disk given.disk u.disk refl;
+  }
+
+  pub ended_kept : d.lasts given.disk given.disk → (status : ℕ) → status ≢ 4 → status ≢ 6 → EndsAtOnce given back status → HasCauses a d given back × KeepsObjects d given back
+  ended_kept same status not_four not_six e =
+      let kept = untouched_kept same (λ is. not_six (sym e.status_is ∙ is)) e.untouched in (
+        kept_causes (λ is. absurd (not_four (sym e.status_is ∙ is)))
+            (λ other more. says (λ now. a.faults now ≡ a.faults given.acceptor) back.acceptor given.acceptor e.untouched.acceptor refl) kept,
+        kept,
+      )
+
+  pub ended_causes : (status : ℕ) → status ≢ 4 → status ≢ 6 → EndsAtOnce given back status → HasCauses a d given back
+  ended_causes status not_four not_six e =
+      let u = e.untouched in record {
+        acceptor_fault = λ is. absurd (not_four (sym e.status_is ∙ is));
+        acceptor_passed = λ other more. says (λ now. a.faults now ≡ a.faults given.acceptor) back.acceptor given.acceptor u.acceptor refl;
+        disk_fault = λ is. absurd (not_six (sym e.status_is ∙ is));
+        disk_passed = λ four six twelve. says (λ now. d.faults now ≡ d.faults given.disk) back.disk given.disk u.disk refl;
+        all_back = λ other. record { acceptor = there back.acceptor given.acceptor u.acceptor; disk = there back.disk given.disk u.disk; post = there back.post given.post u.post };
+        post_back = there back.post given.post u.post;
+      }
 
   module _ (l : links.Ghosts L) (document : List ℕ) where
-    pub post_causes : (p : PostsNotices l d document given back) → d.lasts given.disk p.disk → HasCauses a d given back
-    post_causes p lasts = record {
-      acceptor_fault = λ is. says (λ now. Rises (a.faults given.acceptor) (a.faults now)) back.acceptor given.acceptor p.acceptor_back (absurd (never_four p.end (sym p.told ∙ is)));
-      acceptor_passed = λ other more. says (λ now. a.faults now ≡ a.faults given.acceptor) back.acceptor given.acceptor p.acceptor_back refl;
-      disk_fault = λ is. says (λ now. Rises (d.faults given.disk) (d.faults now)) back.disk p.disk p.disk_back
-          (post_faulted l d document given.disk p.disk given.post p.post p.end (sym p.told ∙ is) p.ends);
-      disk_passed = λ other. says (λ now. d.faults now ≡ d.faults given.disk) back.disk p.disk p.disk_back
-          (post_passed l d document given.disk p.disk given.post p.post p.end (λ is. other (p.told ∙ is)) p.ends);
-      disk_lasts = says (λ now. d.lasts given.disk now) back.disk p.disk p.disk_back lasts;
-      all_back = record { acceptor = there back.acceptor given.acceptor p.acceptor_back; disk = there back.disk p.disk p.disk_back; post = there back.post p.post p.post_back };
-    }
+    pub post_causes : PostsNotices l d document given back → HasCauses a d given back × KeepsObjects d given back
+    post_causes p =
+        let kept : KeepsObjects d given back = record {
+          all_back = record { acceptor = there back.acceptor given.acceptor p.acceptor_back; disk = there back.disk p.disk p.disk_back; post = there back.post p.post p.post_back };
+          disk_lasts = says (λ now. d.lasts given.disk now) back.disk p.disk p.disk_back p.lasts;
+          disk_fault = λ is. says (λ now. Rises (d.faults given.disk) (d.faults now)) back.disk p.disk p.disk_back
+              (post_faulted l d document given.disk p.disk given.post p.post p.end (sym p.told ∙ is) p.ends);
+          disk_passed = λ other. says (λ now. d.faults now ≡ d.faults given.disk) back.disk p.disk p.disk_back
+              (post_passed l d document given.disk p.disk given.post p.post p.end (λ is. other (p.told ∙ is)) p.ends);
+        } in (
+          kept_causes (λ is. says (λ now. Rises (a.faults given.acceptor) (a.faults now)) back.acceptor given.acceptor p.acceptor_back (absurd (never_four p.end (sym p.told ∙ is))))
+              (λ other more. says (λ now. a.faults now ≡ a.faults given.acceptor) back.acceptor given.acceptor p.acceptor_back refl) kept,
+          kept,
+        )
       where
         never_four : (end : PostEnd) → status_by_post end ≡ 4 → ⊥
         never_four PostEnd.Delivered is = omega (arith, is)
@@ -173,18 +215,21 @@ module _ {A I O D L : Type 0} (a : acceptors.Ghosts A I O) (d : disks.Ghosts D) 
     post_refused (unbegun e) = (λ is. absurd (omega (arith, e.status_is, is)), λ why. inr e.status_is)
 
   module _ (s : sources.Ghosts I) (k : sinks.Ghosts O) (document : List ℕ) where
-    pub bid_causes : d.lasts given.disk given.disk → ServesBidder a s k document given back → HasCauses a d given back
+    pub bid_causes : d.lasts given.disk given.disk → ServesBidder a s k document given back → HasCauses a d given back × KeepsObjects d given back
     bid_causes same b =
-        let tells = told_by a s k in record {
-          acceptor_fault = λ is. says (λ now. Rises (a.faults given.acceptor) (a.faults now)) back.acceptor b.acceptor b.acceptor_back
-              (bid_faulted document (tells given.acceptor) (tells b.acceptor) b.end (sym b.told ∙ is) b.ends);
-          acceptor_passed = λ other more. says (λ now. a.faults now ≡ a.faults given.acceptor) back.acceptor b.acceptor b.acceptor_back
-              (bid_passed document (tells given.acceptor) (tells b.acceptor) b.end (λ is. other (b.told ∙ is)) (λ is. more (b.told ∙ is)) b.ends);
+        let tells = told_by a s k in
+        let kept : KeepsObjects d given back = record {
+          all_back = record { acceptor = there back.acceptor b.acceptor b.acceptor_back; disk = there back.disk given.disk b.disk_back; post = there back.post given.post b.post_back };
+          disk_lasts = says (λ now. d.lasts given.disk now) back.disk given.disk b.disk_back same;
           disk_fault = λ is. absurd (never_six b.end (sym b.told ∙ is));
           disk_passed = λ other. says (λ now. d.faults now ≡ d.faults given.disk) back.disk given.disk b.disk_back refl;
-          disk_lasts = says (λ now. d.lasts given.disk now) back.disk given.disk b.disk_back same;
-          all_back = record { acceptor = there back.acceptor b.acceptor b.acceptor_back; disk = there back.disk given.disk b.disk_back; post = there back.post given.post b.post_back };
-        }
+        } in (
+          kept_causes (λ is. says (λ now. Rises (a.faults given.acceptor) (a.faults now)) back.acceptor b.acceptor b.acceptor_back
+              (bid_faulted document (tells given.acceptor) (tells b.acceptor) b.end (sym b.told ∙ is) b.ends))
+              (λ other more. says (λ now. a.faults now ≡ a.faults given.acceptor) back.acceptor b.acceptor b.acceptor_back
+              (bid_passed document (tells given.acceptor) (tells b.acceptor) b.end (λ is. other (b.told ∙ is)) (λ is. more (b.told ∙ is)) b.ends)) kept,
+          kept,
+        )
       where
         never_six : (end : BidEnd) → status_by_bid end ≡ 6 → ⊥
         never_six BidEnd.Over is = omega (arith, is)

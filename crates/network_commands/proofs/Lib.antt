@@ -1,3 +1,5 @@
 mod Documents
+mod LinkLanes
 mod Ends
+mod ServedRuns
 mod Commands

@@ -15,9 +15,15 @@ use Rattle.command_words.specs.declared.network.NetworkCommand.{NetworkCommand}
 use Rattle.notice_posting.specs.Posting.{EndsPosting}
 use Rattle.notice_posting.specs.Statuses.{status_by as status_by_post}
 use Rattle.notice_posting.specs.declared.ending.PostEnd.{PostEnd}
+use Rattle.network_commands.specs.Serving.{RunsServing}
 use Rattle.network_commands.specs.Served.{EndsAtOnce, RunsUnlinked}
 use Rattle.network_commands.specs.declared.objects.Objects.{Objects}
 use Rattle.network_commands.specs.declared.served.Served.{Served}
+
+-- the words serve connections as an exchange by so many workers, with the roster and the journal in files, at a port
+abbrev pub IsServe : List (List ℕ) → ℕ → Type 0
+IsServe words workers =
+    (roster : List ℕ) × (journal : List ℕ) × (port : ℕ) × IsPlainNetwork (NetworkCommand.Serve roster journal port workers) words
 
 -- the words send the notices of a day, with the roster and the journal in files
 abbrev pub IsPost : List (List ℕ) → Type 0
@@ -26,6 +32,16 @@ IsPost words = (roster : List ℕ) × (journal : List ℕ) × IsPlainNetwork (Ne
 -- the words serve a bidder's connections, with the price line in a file, at a port
 abbrev pub IsBid : List (List ℕ) → Type 0
 IsBid words = (prices : List ℕ) × (port : ℕ) × IsPlainNetwork (NetworkCommand.Bid prices port) words
+
+-- the words, in whichever spelling, are read as serving connections as an exchange
+abbrev pub IsReadAsServe : List (List ℕ) → Type 0
+IsReadAsServe words =
+    (roster : List ℕ) × (journal : List ℕ) × (port : ℕ) × (workers : ℕ)
+    × IsNetworkReadingOf words (Some (NetworkCommand.Serve roster journal port workers))
+
+-- The words don't ask for that: in plain spelling they ask for another of the commands, or they aren't read so.
+abbrev pub IsNoServe : List (List ℕ) → Type 0
+IsNoServe words = (IsPost words ⊎ IsBid words) ⊎ (IsReadAsServe words → ⊥)
 
 -- the words ask for something in plain spelling
 abbrev pub IsNetworkCommand : List (List ℕ) → Type 0
@@ -43,6 +59,7 @@ pub record PostsNotices {A D L : Type 0} (l : links.Ghosts L) (d : disks.Ghosts 
   pub acceptor_back : back.acceptor ≡ Some given.acceptor
   pub disk_back : back.disk ≡ Some disk
   pub post_back : back.post ≡ Some post
+  pub lasts : d.lasts given.disk disk
 
 -- The bidder of a document's price line served the acceptor's connections, told by the exit status. The disk and the post
 -- link are as they were.
@@ -66,8 +83,9 @@ RunsBid a s k document given back = RunsUnlinked given back (ServesBidder a s k 
 
 -- What a run comes to that read this of the words; where nothing was read, the words are no command.
 module _ {A I O D L : Type 0} (a : acceptors.Ghosts A I O) (s : sources.Ghosts I) (k : sinks.Ghosts O) (d : disks.Ghosts D)
-    (l : links.Ghosts L) (document : List ℕ) (given : Objects A D L) (back : Served A D L) where
+    (l : links.Ghosts L) (IsMoment : ℕ → Type 0) (document : List ℕ) (given : Objects A D L) (back : Served A D L) where
   abbrev pub Runs : Option NetworkCommand → Type 0
+  Runs (Some (NetworkCommand.Serve roster journal port workers)) = RunsServing a s k d l IsMoment given back document workers
   Runs (Some (NetworkCommand.Post roster journal)) = RunsPost l d document given back
   Runs (Some (NetworkCommand.Bid prices port)) = RunsBid a s k document given back
   Runs None = EndsAtOnce given back 2 ⊎ EndsAtOnce given back 12

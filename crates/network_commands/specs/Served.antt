@@ -1,5 +1,7 @@
 -- What a command gives back of the objects that it was given. This project's own.
-use Rattle.std.specs.Prelude.{◌≡◌, ◌⊎◌, ℕ, ◌<◌, [], length, Some, IsSome}
+use Rattle.std.specs.Prelude.{◌≡◌, ◌≢◌, ◌⊎◌, ℕ, ◌<◌, [], length, Some, IsSome, IfSome}
+use Rattle.adx_io.specs.Streams.{Rises}
+use Rattle.adx_io.specs.declared.disk.Disk as disks
 use Rattle.network_commands.specs.declared.objects.Objects.{Objects}
 use Rattle.network_commands.specs.declared.served.Served.{Served}
 
@@ -14,6 +16,13 @@ pub record IsGivenBack {A D L : Type 0} (back : Served A D L) : Type 0 where
   pub acceptor : IsSome back.acceptor
   pub disk : IsSome back.disk
   pub post : IsSome back.post
+
+-- each object was given back; the disk is the one that was given, after calls, and failed only where the status says so
+pub record KeepsObjects {A D L : Type 0} (d : disks.Ghosts D) (given : Objects A D L) (back : Served A D L) : Type 0 where
+  pub all_back : IsGivenBack back
+  pub disk_lasts : IfSome back.disk (λ now. d.lasts given.disk now)
+  pub disk_fault : back.status ≡ 6 → IfSome back.disk (λ now. Rises (d.faults given.disk) (d.faults now))
+  pub disk_passed : back.status ≢ 6 → IfSome back.disk (λ now. d.faults now ≡ d.faults given.disk)
 
 -- a command ended with this status before it did anything
 pub record EndsAtOnce {A D L : Type 0} (given : Objects A D L) (back : Served A D L) (status : ℕ) : Type 0 where

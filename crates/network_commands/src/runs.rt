@@ -3,6 +3,7 @@ ghost use Rattle.adx_acceptors.specs.Told.{told_by};
 ghost use Rattle.bidder_serving.specs.Bidding.{IsUnused};
 ghost use Rattle.network_commands.specs.Causes.{HasCauses};
 ghost use Rattle.network_commands.specs.Commands.{RunsBid, RunsPost};
+ghost use Rattle.network_commands.specs.Served.{KeepsObjects};
 
 use crate::objects::{Objects, give_back};
 use crate::served::Served;
@@ -24,7 +25,7 @@ pub(crate) fn run_post<A: Acceptor + Drop, D: Disk + Drop, L: Link + Drop>(
     objects: Objects<A, D, L>,
 ) -> Served<A, D, L>
     ensures runs { RunsPost L.Link D.Disk document.now objects result }
-    ensures causes { HasCauses A.Acceptor D.Disk objects result }
+    ensures causes { HasCauses A.Acceptor D.Disk objects result × KeepsObjects D.Disk objects result }
 {
     if !objects.links.is_empty() {
         return give_back(objects, REFUSED);
@@ -48,7 +49,7 @@ pub(crate) fn run_bid<R: Wait, A: Acceptor + Drop, D: Disk + Drop, L: Drop>(
 ) -> Served<A, D, L>
     requires unused { IsUnused (told_by A.Acceptor A.In.Source A.Out.Sink objects.acceptor) }
     ensures runs { RunsBid A.Acceptor A.In.Source A.Out.Sink document.now objects result }
-    ensures causes { HasCauses A.Acceptor D.Disk objects result }
+    ensures causes { HasCauses A.Acceptor D.Disk objects result × KeepsObjects D.Disk objects result }
 {
     if !objects.links.is_empty() {
         return give_back(objects, REFUSED);

@@ -7,9 +7,12 @@ use adx_acceptors::MemoryAcceptor;
 use adx_io::MemoryDisk;
 use adx_links::MemoryLink;
 use adx_units::{OutOfMemory, Text};
+use exchange_floor::FixedClock;
 use network_commands::{Served, adx_serve};
 use std::alloc::Global;
+use std::marker::Sync;
 use std::sync::Wait;
+use std::thread::Threads;
 
 /// The words of a text, which stand between bars.
 fn words_of(alloc: Global, text: &str) -> Result<Vec<Text>, OutOfMemory> {
@@ -33,7 +36,7 @@ fn lists_of(alloc: Global, count: usize) -> Result<Vec<Vec<MemoryLink>>, OutOfMe
 type Back = Served<MemoryAcceptor, MemoryDisk, MemoryLink>;
 
 /// Runs words over an acceptor without connections.
-fn run<R: Wait>(
+fn run<R: Threads + Wait + Sync>(
     rt: &R,
     alloc: Global,
     words: &[Text],
@@ -45,7 +48,17 @@ fn run<R: Wait>(
 ) -> Back
     requires none { (acceptor.out ≡ []) × (acceptor.back ≡ []) }
 {
-    adx_serve(rt, alloc, words, document, acceptor, disk, lists, post)
+    adx_serve(
+        rt,
+        alloc,
+        words,
+        document,
+        acceptor,
+        disk,
+        lists,
+        post,
+        &FixedClock::new(10),
+    )
 }
 
 /// The status, how many of acceptor and disk were given back, and how many starts of the post link were asked something.
@@ -59,7 +72,7 @@ fn seen(back: &Back) -> (u8, usize, Option<usize>) {
 }
 
 /// What comes of words over a document, a disk that keeps an ask, of which these reads fail, and a plan of the post link.
-fn commanded<R: Wait>(
+fn commanded<R: Threads + Wait + Sync>(
     rt: &R,
     alloc: Global,
     words: &str,

@@ -1,7 +1,8 @@
 //! Days that stand on a disk.
 use adx_io::{Disk, MemoryDisk, MemorySink, MemorySource};
 use adx_units::OutOfMemory;
-use script_day::serve_day;
+use command_day::run_day;
+use command_runs::Outcome;
 use std::alloc::{AllocError, Global};
 
 /// The roster's line.
@@ -68,7 +69,7 @@ fn day_of(alloc: Global, calls: &str) -> Result<Vec<u8>, OutOfMemory> {
 fn is_served(alloc: Global, input: &[u8], disk: &mut MemoryDisk) -> Result<bool, OutOfMemory> {
     let mut source = MemorySource::new(alloc, input, 0, &[])?;
     let mut sink = MemorySink::new(alloc, 0, &[])?;
-    Ok(serve_day(alloc, &mut source, &mut sink, disk).is_ok())
+    Ok(run_day(alloc, &mut source, &mut sink, disk) == Ok(Outcome::Done))
 }
 
 /// The bytes that a disk's file has.

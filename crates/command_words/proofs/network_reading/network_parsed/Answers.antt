@@ -9,8 +9,8 @@ use Rattle.command_words.proofs.NetworkRows.{network_fault, network_matches}
 use Rattle.command_words.proofs.Rows.{both_ok, program_has_matches, program_is_simple}
 use Rattle.command_words.proofs.network_reading.network_parsed.Goals as goal
 
-pub returns-in-Ok : goal.returns-in-Ok
-returns-in-Ok c =
+pub returns-in-Ok-clause-read : goal.returns-in-Ok-clause-read
+returns-in-Ok-clause-read c =
     let app = app_of c.in_ok-program.program in
     let same : texts c.as_slice.result.now ≡ turned_round c.args.words.now = ap texts c.as_slice.ensures.value ∙ c.in_ok-texts.ensures in
     let simple : is_simple_and_free app ≡ true = ap is_simple_and_free c.in_ok-program.ensures ∙ program_is_simple in
@@ -18,10 +18,10 @@ returns-in-Ok c =
     IfOk-weaker c.network_in.result _ _
     (λ read reads. network_matches app (texts c.as_slice.result.now) c.args.words.now (subcommand_rows_of c.in-Ok.matches) read c.in_ok-program.ensures same (c.in-Ok.ensures.kinds simple)
     (c.in-Ok.ensures.matches has_matches).1 reads)
-    c.network_in.ensures
+    c.network_in.ensures.read
 
-pub returns : goal.returns
-returns c =
+pub returns-clause-read : goal.returns-clause-read
+returns-clause-read c =
     let app = app_of c.in_ok-program.program in
     let same : texts c.as_slice.result.now ≡ turned_round c.args.words.now = ap texts c.as_slice.ensures.value ∙ c.in_ok-texts.ensures in
     let simple : is_simple_and_free app ≡ true = ap is_simple_and_free c.in_ok-program.ensures ∙ program_is_simple in

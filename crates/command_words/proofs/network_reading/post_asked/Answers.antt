@@ -3,5 +3,5 @@ use Rattle.std.proofs.Common.{◌∙◌, ap₂}
 use Rattle.command_words.specs.NetworkTaken.{post_with}
 use Rattle.command_words.proofs.network_reading.post_asked.Goals as goal
 
-pub returns : goal.returns
-returns c = c.posted.ensures ∙ ap₂ post_with c.in_ok-roster.ensures c.in_ok-journal.ensures
+pub returns-clause-read : goal.returns-clause-read
+returns-clause-read c = c.posted.ensures.read ∙ ap₂ post_with c.in_ok-roster.ensures c.in_ok-journal.ensures
