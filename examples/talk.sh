@@ -1,103 +1,113 @@
 #!/usr/bin/env bash
-# A bidder and an exchange talk over sockets of this machine: a request is bid on, sold, and billed on both sides.
+# Two bidders and an exchange talk over sockets of this machine: three requests for bids are sold, two of the ads are shown and billed, one
+# isn't, and in the end both sides have the same bills.
 #
-#     examples/talk.sh        needs the program that ./adx proved and built, curl, and one of nc, socat and python3
+#     examples/talk.sh        needs the program that ./adx proved and built, and curl
 #
-# Each side is one run of ./adx after the other, each behind a socket of 127.0.0.1 and for one connection. No command calls a bidder
-# or sends a notice yet, so the script carries with curl what the two say to each other: the request to the bidder, the bidder's
-# answer into the exchange's roster, and the notice that the exchange owes the bidder. It ends by itself, within a minute at most.
-# TALK_PORT names the first of the two ports; 28081 is the usual one.
+# It stops all that it starts, and ends by itself within a minute. It takes the first three ports from TALK_PORT on (28081) at which
+# nobody listens. In what it shows `north`, `south` and `exchange` stand for 127.0.0.1 and their ports. ADX names another program than ./adx.
 set -eu
-cd "$(dirname "$(readlink -f "$0")")/.."
-bidder=127.0.0.1:${TALK_PORT:-28081}
-exchange=127.0.0.1:$((${bidder#*:} + 1))
-folder=$(mktemp -d)
-trap 'rm -rf "$folder"' EXIT
+script=$(readlink -f "$0")
+longest=60
+cd "$(dirname "$script")/.."
+. examples/running.sh
+need curl
+north=$(free_port "${TALK_PORT:-28081}")
+south=$(free_port $((north + 1)))
+exchange=$(free_port $((south + 1)))
 
-if ! command -v curl >/dev/null; then
-    echo "talk.sh: install curl (Debian: apt-get install curl)" >&2
+# Shows each line of standard input behind a word, with names for addresses.
+show() {
+    sed -e "s/\"host\":\"127\.0\.0\.1\",\"port\":$north/\"host\":\"north\"/; s/\"host\":\"127\.0\.0\.1\",\"port\":$south/\"host\":\"south\"/" \
+        -e "s/127\.0\.0\.1:$north/north/g; s/127\.0\.0\.1:$south/south/g; s/127\.0\.0\.1:$exchange/exchange/g" \
+        -e "s/^/$(printf '%-9s' "$1")/" -e '$a\'
+}
+
+# Asks the exchange for bids, and shows what it sells.
+ask() {
+    echo "{\"id\":\"$1\",\"imp\":[{\"id\":\"1\"}]}" >"$folder/request"
+    show ask <"$folder/request"
+    call "http://127.0.0.1:$exchange/openrtb" -d "@$folder/request" >"$folder/sold"
+    show sold <"$folder/sold"
+}
+
+# Calls a URL of the bid that was sold, and shows the status.
+notice() {
+    local url
+    url=$(sed -e "s/.*\"$1\":\"\([^\"]*\)\".*/\1/" "$folder/sold")
+    echo "$url $(call -o "$folder/reply" -w '%{http_code}' "$url")" | show "$1"
+}
+
+# Waits until a bidder's ledger has so many lines: the exchange sends what it owes behind each connection.
+wait_for() {
+    for _ in $(seq 100); do
+        [ "$(call "http://127.0.0.1:$1/ledger" | wc -l)" -lt "$2" ] || return 0
+        sleep 0.1
+    done
+    echo "talk.sh: a bidder didn't hear of all its bids" >&2
     exit 1
-fi
-if nc -h 2>&1 | grep -q -e '-N.*Shutdown'; then
-    tool=nc
-elif command -v socat >/dev/null; then
-    tool=socat
-elif command -v python3 >/dev/null; then
-    tool=python3
-else
-    echo "talk.sh: install nc or socat (Debian: apt-get install netcat-openbsd)" >&2
-    exit 1
-fi
-
-# Waits for one connection, and moves its bytes to standard output and those of standard input to it.
-listen() {
-    case $tool in
-    nc) timeout 20 nc -N -l "${1%:*}" "${1#*:}" ;;
-    socat) timeout 20 socat - "TCP-LISTEN:${1#*:},bind=${1%:*},reuseaddr" ;;
-    python3) timeout 20 python3 examples/listen.py "${1%:*}" "${1#*:}" ;;
-    esac
 }
 
-# Serves one connection at an address: a command of ./adx reads the first line, and the connection after it.
-serve() {
-    address=$1 line=$2
-    shift 2
-    rm -f "$folder/back"
-    mkfifo "$folder/back"
-    { printf '%s\n' "$line"; cat "$folder/back"; } | ./adx "$@" | listen "$address" >"$folder/back" &
-}
+cat >"$folder/north.prices" <<END
+{"seat":"n","base":"http://127.0.0.1:$north","prices":[{"cid":"shoes","price":2.5}]}
+END
+cat >"$folder/south.prices" <<END
+{"seat":"s","base":"http://127.0.0.1:$south","prices":[{"cid":"boats","price":2}]}
+END
+cat >"$folder/roster" <<END
+{"day":"2025-03-01","base":"http://127.0.0.1:$exchange","bidders":[{"name":"north","host":"127.0.0.1","port":$north},{"name":"south","host":"127.0.0.1","port":$south}],"campaigns":[{"bidder":"north","seat":"n","cid":"shoes","budget":0.005},{"bidder":"south","seat":"s","cid":"boats","budget":0.01}]}
+END
 
-# Calls with curl, once the other side listens, and shows the replies: of each its status, and its body where it has one.
-call() {
-    rm -f "$folder"/reply.*
-    curl -s --max-time 10 --retry 10 --retry-delay 1 --retry-connrefused -w '%{http_code}\n' "$@" >"$folder/statuses"
-    number=0
-    while read -r status; do
-        number=$((number + 1))
-        echo "  $status"
-        [ ! -s "$folder/reply.$number" ] || sed -e 's/^/  /' -e '$a\' "$folder/reply.$number"
-    done <"$folder/statuses"
-}
+echo "# Two bidders take connections (adx bid), each with a line of prices, and an exchange with its roster (adx serve)"
+start "$north" bid --prices "$folder/north.prices"
+start "$south" bid --prices "$folder/south.prices"
+start "$exchange" serve --roster "$folder/roster" --journal "$folder/journal" --workers 4
+serving=$started
+show north <"$folder/north.prices"
+show south <"$folder/south.prices"
+show roster <"$folder/roster"
 
-# Asks for two pages on one connection.
-get() {
-    echo "GET $1, GET $2"
-    call -o "$folder/reply.1" "$1" -o "$folder/reply.2" "$2"
-}
+echo "# A publisher asks for bids. The exchange asks both bidders, and north pays more. The ad is shown: it is won, and billed"
+ask a1
+notice nurl
+notice burl
+wait_for "$north" 2
+wait_for "$south" 1
 
-# Sends a body.
-post() {
-    echo "POST $1 $2"
-    call -o "$folder/reply.1" "$1" -d "$2"
-}
+echo "# Half of north's budget is used now, so its bid weighs less, and south wins. The bill comes twice, and counts once"
+ask a2
+notice burl
+notice burl
+wait_for "$north" 3
+wait_for "$south" 2
 
-prices="{\"seat\":\"s1\",\"base\":\"http://$bidder\",\"prices\":[{\"cid\":\"c1\",\"price\":2.5}]}"
-request='{"id":"a1","imp":[{"id":"1"}]}'
+echo "# South wins again, but this ad isn't shown: a loss gives the money back"
+ask a3
+notice lurl
+wait_for "$north" 4
+wait_for "$south" 3
 
-echo "# The exchange asks its bidder"
-serve "$bidder" "$prices" bidder
-post "http://$bidder/" "$request"
-wait
+echo "# The exchange's books and meters"
+call "http://127.0.0.1:$exchange/books" | show books
+call "http://127.0.0.1:$exchange/meters" | show meters
 
-# the bidder's answer, as a text of the roster
-answer=$(sed -e 's/[\\"]/\\&/g' "$folder/reply.1")
-roster="{\"day\":\"2025-03-01\",\"now\":10,\"base\":\"http://$exchange\",\"bidders\":[{\"name\":\"b1\"}],\"campaigns\":[{\"bidder\":\"b1\",\"seat\":\"s1\",\"cid\":\"c1\",\"budget\":0.01}],\"replies\":[[\"HTTP/1.1 200 OK\\r\\n\\r\\n$answer\"]]}"
+echo "# What the bidders heard of it: their books, and their ledgers"
+for name in north south; do
+    call "http://127.0.0.1:${!name}/books" | show "$name"
+    call "http://127.0.0.1:${!name}/ledger" | tee "$folder/$name.ledger" | show "$name"
+done
 
-echo "# A publisher asks the exchange"
-serve "$exchange" "$roster" conn --journal "$folder/day"
-post "http://$exchange/openrtb" "$request"
-wait
+echo "# The exchange is killed (nothing else ends it), and its journal has all that it answered. The bills of both sides, compared"
+end -9 "$serving"
+for name in north south; do
+    cat "$folder/roster" "$folder/$name.ledger" | "$adx" reconcile --journal "$folder/journal" --bidder "$name" | show "$name"
+done
 
-echo "# The ad was shown: the publisher calls the burl, and looks at the books"
-burl=$(sed -e 's/.*"burl":"\([^"]*\)".*/\1/' "$folder/reply.1")
-serve "$exchange" "$roster" conn --journal "$folder/day"
-get "$burl" "http://$exchange/books"
-wait
+echo "# The notices of the day are sent once more, and the bidders count none of them again"
+"$adx" post --roster "$folder/roster" --journal "$folder/journal" && echo "status $?" | show post
+for name in north south; do
+    call "http://127.0.0.1:${!name}/books" | show "$name"
+done
 
-echo "# What the exchange owes its bidder, from the journal"
-printf '%s\n' "$roster" | ./adx notices --journal "$folder/day" | tee "$folder/owed"
-
-echo "# It is called, and the bidder shows its books"
-serve "$bidder" "$prices" bidder
-get "$(cut -d ' ' -f 2 "$folder/owed")" "http://$bidder/books"
-wait
+echo "# The day is closed: a record with a certificate, which is checked. No way to give out the three ads earns more than this bound"
+"$adx" close --journal "$folder/journal" <"$folder/roster" | "$adx" check | show check

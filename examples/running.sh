@@ -1,0 +1,59 @@
+# What examples/talk.sh and examples/load.sh share: they read it, and it isn't run. They say before in $longest for how many seconds they
+# may run, and in $script their own path.
+
+# The program that is run; ADX names another one.
+adx=${ADX:-./adx}
+
+# The script begins once more under a limit of time. Where there is no proved program yet, one is proved before, which takes its time.
+if [ -z "${BOUNDED:-}" ]; then
+    "$adx" --version >/dev/null
+    BOUNDED=1 exec timeout "$longest" "$script" "$@"
+fi
+folder=$(mktemp -d)
+trap 'kill $(jobs -p) 2>/dev/null || true; rm -rf "$folder"' EXIT
+
+# Ends where a tool isn't there.
+need() {
+    if ! command -v "$1" >/dev/null; then
+        echo "$(basename "$0"): install $1 (Debian: apt-get install $1)" >&2
+        exit 1
+    fi
+}
+
+# The first port from one on at which nobody listens.
+free_port() {
+    local port=$1
+    while (exec 3<>"/dev/tcp/127.0.0.1/$port") 2>/dev/null; do
+        port=$((port + 1))
+    done
+    echo "$port"
+}
+
+# Starts a command that takes connections at a port, and waits until it says so. Its process is $started.
+start() {
+    local port=$1
+    shift
+    : >"$folder/said.$port"
+    "$adx" "$@" --port "$port" 2>"$folder/said.$port" &
+    started=$!
+    for _ in $(seq 200); do
+        ! grep -q "127\.0\.0\.1:$port" "$folder/said.$port" || return 0
+        kill -0 "$started" 2>/dev/null || break
+        sleep 0.1
+    done
+    cat "$folder/said.$port" >&2
+    exit 1
+}
+
+# Ends what was started by a signal.
+end() {
+    {
+        kill "$1" "$2"
+        wait "$2"
+    } 2>/dev/null || true
+}
+
+# Calls with curl.
+call() {
+    curl -s --max-time "${patience:-10}" "$@"
+}
