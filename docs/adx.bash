@@ -7,14 +7,14 @@ _adx() {
         mapfile -t COMPREPLY < <(compgen -f -- "$word")
         return
         ;;
-    --seed|--asks|--seat|--cid|--from|--to|--bidder|--port)
+    --seed|--asks|--seat|--cid|--from|--to|--bidder|--port|--workers)
         COMPREPLY=()
         return
         ;;
     esac
     case ${COMP_CWORD}:${COMP_WORDS[1]} in
-    1:*) words="day conn notices bidder gen close check archive-put archive-list reconcile post bid help --help --version" ;;
-    2:help) words="day conn notices bidder gen close check archive-put archive-list reconcile post bid" ;;
+    1:*) words="day conn notices bidder gen close check archive-put archive-list reconcile serve post bid help --help --version" ;;
+    2:help) words="day conn notices bidder gen close check archive-put archive-list reconcile serve post bid" ;;
     *:day) words="--journal --help" ;;
     *:conn) words="--journal --help" ;;
     *:notices) words="--journal --help" ;;
@@ -25,6 +25,7 @@ _adx() {
     *:archive-put) words="--archive --help" ;;
     *:archive-list) words="--archive --seat --cid --from --to --help" ;;
     *:reconcile) words="--journal --bidder --help" ;;
+    *:serve) words="--roster --journal --port --workers --help" ;;
     *:post) words="--roster --journal --help" ;;
     *:bid) words="--prices --port --help" ;;
     *) words= ;;
