@@ -82,7 +82,7 @@ impl<F: OpenFile + FileExt> Disk for FileDisk<F> {
     }
 
     fn sync(&mut self) -> Result<(), Failed> {
-        match self.file.sync_all() {
+        match self.file.sync_data() {
             Ok(()) => Ok(()),
             Err(_) => {
                 self.faults = self.faults.saturating_add(1);
