@@ -1,5 +1,5 @@
 //! The calls on a desk's board.
-ghost use Rattle.std.specs.Prelude.{◌≡◌, ◌≤◌, [], All, length, take, IfOk, OnErr};
+ghost use Rattle.std.specs.Prelude.{◌≡◌, ◌≤◌, ◌⊎◌, [], All, length, take, IfOk, OnErr};
 ghost use mathlib.Core.List.{IsPrefix};
 ghost use Rattle.turnstile.specs.Passes.{IsOf, IsSamePass};
 ghost use Rattle.day_meters.specs.DayMeters.{steps_of};
@@ -65,14 +65,15 @@ impl<R: Wait + Drop, D: Disk + Drop> Board<R, D> {
         self.board.publish()
     }
 
-    /// Tells a reader of all that is published, and answers how many steps those are: the steps of so many of the history's
-    /// first entries.
+    /// Tells a reader of all that is published and of nothing else, and answers how many steps those are: the steps of so
+    /// many of the history's first entries.
     pub fn tell(&self, reader: &mut MeterReader) -> u64
         requires of { IsReaderOf reader.old self.now.board }
         ensures count { result ≡ length (published self.now.board) }
         ensures front { published self.now.board ≡ steps_of (take result self.now.pass.seen) }
         ensures told { IsPrefix (published self.now.board) (seen reader.new) }
         ensures later { IsPrefix (seen reader.old) (seen reader.new) }
+        ensures one { (seen reader.new ≡ seen reader.old) ⊎ (seen reader.new ≡ published self.now.board) }
         ensures of { IsReaderOf reader.new self.now.board }
     {
         self.board.tell(reader)

@@ -44,6 +44,7 @@ impl<D: Disk + Drop, L: Link + Drop, J: MailNames<L>> Mailroom<D, L, J> {
         requires idle { IsIdle J.first pass }
         requires link { J.link ≡ Some mail.link }
         requires first { HasTended L.Link [] mail.link mail }
+        ensures { result ≡ (mail, pass) }
     {
         Mailroom {
             mail,
@@ -76,6 +77,7 @@ impl<D: Disk + Drop, L: Link + Drop, J: MailNames<L>> Mailroom<D, L, J> {
 
     /// Gives outbox, link and pass back.
     pub fn leave(self) -> (Mail<L>, Pass<Desk<D>>)
+        ensures same { result ≡ self }
         ensures idle { IsIdle J.first result.1 }
         ensures tended { IsTendedTo L.Link J.link result.1.seen result.0 }
     {

@@ -1,5 +1,5 @@
 //! The calls on a board.
-ghost use Rattle.std.specs.Prelude.{◌≡◌, ◌++◌, ◌≤◌, [], ◌∷◌, Some, drop, length, IfOk, OnErr};
+ghost use Rattle.std.specs.Prelude.{◌≡◌, ◌++◌, ◌≤◌, ◌⊎◌, [], ◌∷◌, Some, drop, length, IfOk, OnErr};
 ghost use mathlib.Core.List.{IsPrefix};
 ghost use Rattle.left_right.specs.Sides.{view};
 ghost use Rattle.meter_steps.specs.Steps.{meters_of, StayInRange};
@@ -151,12 +151,13 @@ impl<R: Wait + Drop> StepBoard<R> {
         Ok(())
     }
 
-    /// Tells a reader of all that is published, and answers how many steps those are.
+    /// Tells a reader of all that is published and of nothing else, and answers how many steps those are.
     pub fn tell(&self, reader: &mut MeterReader) -> u64
         requires of { IsOf reader.old self.now }
         ensures count { result ≡ length (published self.now) }
         ensures told { IsPrefix (published self.now) (seen reader.new) }
         ensures later { IsPrefix (seen reader.old) (seen reader.new) }
+        ensures one { (seen reader.new ≡ seen reader.old) ⊎ (seen reader.new ≡ published self.now) }
         ensures of { IsOf reader.new self.now }
     {
         let shown = self.writer.published();

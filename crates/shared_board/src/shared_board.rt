@@ -78,6 +78,7 @@ impl<R: Wait + Drop, D: Disk + Drop, J: BoardNames> SharedBoard<R, D, J> {
     pub fn open(board: Board<R, D>) -> Self
         requires named { list_of board.board ≡ J.book }
         requires idle { IsIdle J.first board.pass }
+        ensures { result ≡ board.pass }
     {
         SharedBoard {
             board,
@@ -114,6 +115,7 @@ impl<R: Wait + Drop, D: Disk + Drop, J: BoardNames> SharedBoard<R, D, J> {
 
     /// Gives the pass back.
     pub fn into_pass(self) -> Pass<Desk<D>>
+        ensures same { result ≡ self }
         ensures idle { IsIdle J.first result }
     {
         let Self { board, names: _ } = self;
