@@ -1,16 +1,16 @@
 //! Connections and notices that are watched: what failed is said on standard error, one line each, and all are counted.
-ghost use Rattle.std.specs.Prelude.{◌≡◌, false, IfOk, IfSome, None};
+ghost use Rattle.std.specs.Prelude.{◌≡◌, true, false, IfOk, IfSome, None};
 ghost use Rattle.adx_acceptors.specs.Pairs.{IsNew, PairTold, is_over_after};
-ghost use Rattle.adx_acceptors.specs.TcpAcceptors.{acceptor_faults};
-ghost use Rattle.adx_io.specs.Adapters.{sink_faults, source_faults};
+ghost use Rattle.adx_acceptors.specs.TcpAcceptors.{acceptor_faults, is_closed, peer_faults};
+ghost use Rattle.adx_io.specs.Adapters.{source_faults};
 ghost use Rattle.adx_io.specs.Streams.{HasCause};
 
 use crate::messages::{say_connection, say_host};
-use adx_acceptors::{Acceptor, TcpAcceptor};
-use adx_io::{Failed, Sink, Source, StdSink, StdSource};
+use adx_acceptors::{Acceptor, PeerSink, TcpAcceptor};
+use adx_io::{Failed, Sink, Source, StdSource};
 use adx_links::{Link, TcpLink};
 use adx_units::Text;
-use std::net::{OpenStream, Shutdown, TcpListener, TcpStream};
+use std::net::{TcpListener, TcpStream};
 
 /// A source or a sink of a connection, which remembers whether a call of it failed.
 #[derive(Drop)]
@@ -63,7 +63,7 @@ impl<K: Sink> Sink for Watched<K> {
 }
 
 /// A connection whose faults are remembered.
-type Pair = (Watched<StdSource<TcpStream>>, Watched<StdSink<TcpStream>>);
+type Pair = (Watched<StdSource<TcpStream>>, Watched<PeerSink<TcpStream>>);
 
 /// A listener of std's sockets as an acceptor that counts connections, and says of each that ended by a fault. It tells no
 /// pairs.
@@ -91,11 +91,11 @@ impl<'a> WatchedAcceptor<'a> {
 
 impl<'a> Acceptor for WatchedAcceptor<'a> {
     ghost use Rattle.std.specs.Prelude.{None};
-    ghost use Rattle.adx_acceptors.specs.TcpAcceptors.{acceptor_faults};
+    ghost use Rattle.adx_acceptors.specs.TcpAcceptors.{acceptor_faults, is_closed};
 
     type In = Watched<StdSource<TcpStream>>;
 
-    type Out = Watched<StdSink<TcpStream>>;
+    type Out = Watched<PeerSink<TcpStream>>;
 
     ghost faults = { λ a. acceptor_faults a.inner };
 
@@ -103,12 +103,14 @@ impl<'a> Acceptor for WatchedAcceptor<'a> {
 
     ghost is_over = { λ _. false };
 
+    ghost is_finished = { λ p. is_closed p.1.inner };
+
     fn accept(&mut self) -> Result<Option<Pair>, Failed>
         ensures new { IfOk result (λ came. IfSome came (λ p. IsNew (record {
           tape = None;
           read_faults = source_faults p.0.inner;
           held = None;
-          write_faults = sink_faults p.1.inner;
+          write_faults = peer_faults p.1.inner;
         }))) }
         ensures over { false ≡ is_over_after false result }
         ensures cause { HasCause (acceptor_faults self.old.inner) (acceptor_faults self.new.inner) result }
@@ -126,11 +128,12 @@ impl<'a> Acceptor for WatchedAcceptor<'a> {
     }
 
     fn finish(pair: &mut Pair)
+        ensures finished { is_closed pair.new.1.inner ≡ true }
         ensures same { ◌≡◌ {A = PairTold}
-            (record { tape = None; read_faults = source_faults pair.new.0.inner; held = None; write_faults = sink_faults pair.new.1.inner })
-            (record { tape = None; read_faults = source_faults pair.old.0.inner; held = None; write_faults = sink_faults pair.old.1.inner }) }
+            (record { tape = None; read_faults = source_faults pair.new.0.inner; held = None; write_faults = peer_faults pair.new.1.inner })
+            (record { tape = None; read_faults = source_faults pair.old.0.inner; held = None; write_faults = peer_faults pair.old.1.inner }) }
     {
-        let _ = pair.1.inner.get_ref().shutdown(Shutdown::Both);
+        pair.1.inner.close();
     }
 
     fn done(&mut self, pair: Pair)
@@ -146,15 +149,20 @@ impl<'a> Acceptor for WatchedAcceptor<'a> {
 /// For how many hosts it is said that they don't take notices.
 const MOST_HOSTS: usize = 64;
 
+/// Where the first digit of its status stands in an answer ("HTTP/1.1 200": RFC 9112, 4).
+const STATUS_AT: usize = 9;
+
 /// A link of std's sockets. Where it is told to, it counts the calls of hosts, and says once of each host that it doesn't take
 /// what it is told.
 #[derive(Drop)]
 pub(crate) struct WatchedLink<'a> {
     inner: TcpLink<&'a HostRuntime>,
     says: Option<&'a HostRuntime>,
-    /// The host of the call that goes on, and whether bytes of its answer came, and whether it failed.
+    /// The host of the call that goes on, until it failed.
     host: Option<(Text, u16)>,
-    heard: bool,
+    /// How many bytes of its answer came, until its status is known; then more than `STATUS_AT`.
+    heard: usize,
+    /// Whether it failed.
     failing: bool,
     /// The hosts that were named.
     named: Vec<(Text, u16)>,
@@ -171,7 +179,7 @@ impl<'a> WatchedLink<'a> {
             inner: TcpLink::new(rt),
             says: None,
             host: None,
-            heard: false,
+            heard: 0,
             failing: false,
             named: Vec::new(rt.alloc()),
             calls: 0,
@@ -217,7 +225,7 @@ impl<'a> WatchedLink<'a> {
         ensures { self.new.inner ≡ self.old.inner }
     {
         self.calls = self.calls.saturating_add(1);
-        self.heard = false;
+        self.heard = 0;
         self.failing = false;
         self.host = match self.says {
             Some(rt) => match Text::of(rt.alloc(), host) {
@@ -228,15 +236,20 @@ impl<'a> WatchedLink<'a> {
         };
     }
 
-    /// Bytes of the answer came: the first of them tell its status.
+    /// A piece of the answer came, or none, at its end: its first bytes tell its status.
     fn hear(&mut self, bytes: &[u8])
         ensures { self.new.inner ≡ self.old.inner }
     {
-        if self.heard {
+        if self.heard > STATUS_AT {
             return;
         }
-        self.heard = true;
-        match bytes.get(9) {
+        let digit = bytes.get(STATUS_AT.saturating_sub(self.heard));
+        if digit.is_none() && !bytes.is_empty() {
+            self.heard = self.heard.saturating_add(bytes.len());
+            return;
+        }
+        self.heard = STATUS_AT + 1;
+        match digit {
             Some(b'2') => {}
             _ => self.fail(),
         }

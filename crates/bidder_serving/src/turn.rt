@@ -1,5 +1,5 @@
 //! One turn: a connection is taken, served and given back.
-ghost use Rattle.std.specs.Prelude.{◌≡◌};
+ghost use Rattle.std.specs.Prelude.{◌≡◌, true};
 ghost use Rattle.adx_acceptors.specs.Pairs.{IsNew};
 ghost use Rattle.adx_acceptors.specs.Told.{pair_by, told_by};
 ghost use Rattle.bidder_serving.specs.Connections.{IsServed, is_short};
@@ -44,7 +44,8 @@ fn serve_pair<A: Acceptor>(
     pair: &mut (A::In, A::Out),
 ) -> ConnEnd
     requires { IsNew (pair_by A.In.Source A.Out.Sink pair.old) }
-    ensures { IsServed bidder.old (record {
+    ensures closed { A.is_finished pair.new ≡ true }
+    ensures served { IsServed bidder.old (record {
       came = pair_by A.In.Source A.Out.Sink pair.old;
       left = pair_by A.In.Source A.Out.Sink pair.new;
       end = result;

@@ -113,7 +113,8 @@ impl<A: Acceptor, T: Counted + Drop, B: Hall<T>, K: Ledger, L: Ledger> Lobby<A, 
         }
     }
 
-    /// Gives back a pair with the pass that it was served by. False where no pair is out: then both are dropped.
+    /// Gives back a pair that was closed for its peer, with the pass that it was served by. False where no pair is out: then
+    /// both are dropped.
     pub(crate) fn give(
         &mut self,
         gate: &Turnstile<T>,
@@ -124,6 +125,7 @@ impl<A: Acceptor, T: Counted + Drop, B: Hall<T>, K: Ledger, L: Ledger> Lobby<A, 
         requires gate { IsOf B.first gate.now }
         requires of { IsBeside B.first served.0 }
         requires split { served.0.is_first ≡ false }
+        requires finished { A.is_finished served.1 ≡ true }
         requires served { B.served served.0.seen
             (served_pair (pair_by A.In.Source A.Out.Sink served.1) served.0 wanting) }
         ensures given { result ≡ true → shares.new.given.amount ≡ shares.old.given.amount + 1 }

@@ -4,8 +4,8 @@ use Rattle.adx_acceptors.specs.Told.{pair_by}
 use Rattle.bidder_serving.specs.Connections.{IsServed}
 use Rattle.bidder_serving.proofs.turn.serve_pair.Goals as goal
 
-pub returns : goal.returns
-returns g c =
+pub returns-clause-served : goal.returns-clause-served
+returns-clause-served g c =
     let came = pair_by g.A.In.Source g.A.Out.Sink c.args.pair.now in
     let end = c.serve_bidder-end in
     subst (λ (left : PairTold). IsServed c.args.bidder.now (record { came = came; left = left; end = end.result }) end.new.bidder) (sym c.finish.ensures.same)

@@ -13,7 +13,7 @@ returns-in-Ok-Some g c =
     (c.in-Ok-Some.is ∙ ap Ok c.in-Ok-Some.field-0-is) a.gives a.over a.cause in
     let r = regains g.A.Acceptor.faults g.A.Acceptor.is_over g.A.Acceptor.pairs pair c.accept.new.self c.done.new.self left d.back d.over d.faults in record {
       connection = record { came = pair came; left = pair left; end = c.serve_pair-end.result };
-      served = c.serve_pair-end.ensures;
+      served = c.serve_pair-end.ensures.served;
       back = gets_back (tells c.args.acceptor.now).pairs (tells c.accept.new.self).pairs (tells c.done.new.self).pairs
           (record { came = pair came; left = pair left; end = c.serve_pair-end.result }) t.gives r.back;
       short_is = sym c.ends_short.ensures;
