@@ -1,5 +1,5 @@
 -- A desk that threads share. This project's own.
-use Rattle.std.specs.Prelude.{◌≡◌, ◌+◌, ◌<◌, Bool, true, false, List, [], ◌∷◌, ◌++◌, length, Option, Some, None, Result, Ok, Err}
+use Rattle.std.specs.Prelude.{◌≡◌, ℕ, ◌+◌, ◌<◌, ◌≤◌, Bool, true, false, List, [], ◌∷◌, ◌++◌, length, Option, Some, None, Result, Ok, Err}
 use Rattle.day_rules.specs.declared.answer.Answer.{Answer}
 use Rattle.day_journal.specs.Faults.{greatest_size}
 use Rattle.day_rules.specs.declared.entry.Entry.{Entry}
@@ -36,18 +36,20 @@ TakesRoom (Call.Notice kind auction award) = ⊥
 TakesRoom (Call.Tick now) = ⊥
 TakesRoom (Call.Budget campaign change budget) = Unit {0}
 
--- there is an entry to add, and the longest journal of the history comes with its record, and with what is held then,
--- to more than a journal takes
-abbrev pub MayBeFull : DeskTerms → List Entry → Option Entry → Type 0
-MayBeFull terms history None = ⊥
-MayBeFull terms history (Some e) = greatest_size < longest_size terms history + longest_record e + longest_held (history ++ e ∷ [])
+-- The journal may be told to be full, with this size: there is an entry to add, and the size passes what a journal takes,
+-- and is at most what the longest journal of the history comes to with the entry's record, and with what is held then.
+abbrev pub MayBeFull : DeskTerms → List Entry → Option Entry → ℕ → Type 0
+MayBeFull terms history None size = ⊥
+MayBeFull terms history (Some e) size =
+    (greatest_size < size) × (size ≤ longest_size terms history + longest_record e + longest_held (history ++ e ∷ []))
 
 -- How a call with this reply ends, and the entry that it adds: it is done, with the reply's answer and entry, or it is
 -- given up without an entry. Any call may meet a fault of the disk; others have their causes.
 abbrev pub EndsAs : DeskTerms → List Entry → Call → Reply → Result Answer DeskFault → Option Entry → Type 0
 EndsAs terms history call r (Ok answer) entry = (answer ≡ r.answer) × (entry ≡ r.entry)
 EndsAs terms history call r (Err DeskFault.DiskFault) entry = entry ≡ None
-EndsAs terms history call r (Err (DeskFault.JournalFull size)) entry = (entry ≡ None) × TakesRoom call × MayBeFull terms history r.entry
+EndsAs terms history call r (Err (DeskFault.JournalFull size)) entry =
+    (entry ≡ None) × TakesRoom call × MayBeFull terms history r.entry size
 EndsAs terms history call r (Err (DeskFault.BadEntry at)) entry = ⊥
 EndsAs terms history call r (Err (DeskFault.OtherRoster kept)) entry = ⊥
 EndsAs terms history call r (Err (DeskFault.NotAJournal at)) entry = ⊥

@@ -1,6 +1,7 @@
 //! The desk as one who calls it sees it.
 ghost use Rattle.std.specs.Prelude.{◌≡◌, ◌≤◌, ◌<◌, ◌^◌, [], ◌∷◌, length, Some, None, IfOk, IfErr, OnOk, OnErr, string_bytes};
 ghost use Rattle.adx_desk.specs.Rosters.{desk_terms};
+ghost use Rattle.adx_desk.specs.declared.fault.DeskFault.{DeskFault as Fault};
 ghost use Rattle.campaign_book.specs.Accounts.{IsBudget};
 ghost use Rattle.day_rules.specs.Asks.{IsUndecided, IsWellFormed};
 ghost use Rattle.notice_batches.specs.Batches.{AreApart};
@@ -58,12 +59,14 @@ pub trait DayDesk {
         requires { now < 2 ^ 63 }
         ensures done { IfOk result (IsTicked runs self.old self.new now) }
         ensures failed { OnErr result (Takes runs self.old self.new (tick_call now) fault_of_disk (λ _. Unit {0})) }
+        ensures cause { IfErr result (λ fault. fault ≡ Fault.DiskFault) }
         ensures place { place self.new ≡ place self.old };
 
     /// Takes a notice of an award of an auction. Its only fault is the disk's.
     fn notice(&mut self, kind: NoticeKind, auction: &str, award: u32) -> Result<Answer, DeskFault>
         ensures done { IfOk result (IsNoticed runs self.old self.new (record { kind = kind; auction = auction.now; award = award })) }
         ensures failed { OnErr result (Takes runs self.old self.new (notice_call kind auction.now award) fault_of_disk (λ _. Unit {0})) }
+        ensures cause { IfErr result (λ fault. fault ≡ Fault.DiskFault) }
         ensures place { place self.new ≡ place self.old };
 
     /// Takes an ask, which is given up on a refusal.
@@ -90,6 +93,7 @@ pub trait DayDesk {
         requires apart { AreApart batch.old.calls }
         ensures done { OnOk result (RanTogether runs self.old self.new batch.old batch.new) }
         ensures failed { OnErr result (lost self.old self.new batch.old.calls × (batch.new ≡ batch.old)) }
+        ensures cause { IfErr result (λ fault. fault ≡ Fault.DiskFault) }
         ensures place { place self.new ≡ place self.old };
 
     /// What an operator reads of the day.
@@ -111,7 +115,8 @@ pub trait DayDesk {
     ghost join: { (a b c : Self) (first rest : List Step) → runs a b first → runs b c rest → runs a c (first ++ rest) };
 
     /// Behind a batch that was given up its notices are taken one by one, as if it hadn't been tried.
-    ghost retried: { (a b c : Self) (notices : List Arrival) (outcomes : List (Option Answer)) (steps : List Step) → length notices ≤ BATCH_LIMIT → AreApart notices
+    ghost retried: { (a b c : Self) (notices : List Arrival) (outcomes : List (Option Answer)) (steps : List Step)
+        → length notices ≤ BATCH_LIMIT → AreApart notices
         → lost a b notices → AreNoticed notices outcomes steps → runs b c steps → runs a c steps };
 
     /// The steps stand one behind another, from what was seen before to what is seen now.

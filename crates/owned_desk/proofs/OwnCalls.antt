@@ -2,7 +2,7 @@
 use Rattle.std.proofs.Common.{◌≡◌, ℕ, ◌<◌, ◌≤◌, ◌^◌, List, [], ◌∷◌, ◌++◌, map, length, Option, Some, None, Result, Ok, Err, IfOk, IfErr, OnOk, OnErr, refl, sym, ap, ◌∙◌, subst, arith}
 use Rattle.std.proofs.lemmas.List.Elements.{All-nil, All-cons}
 use Rattle.adx_desk.specs.Asked.{ask_for}
-use Rattle.adx_desk.specs.Desks.{OnDisk}
+use Rattle.adx_desk.specs.Desks.{DeskState, OnDisk}
 use Rattle.adx_desk.specs.Endings.{EndsAsk, EndsNotice}
 use Rattle.adx_desk.specs.Histories.{DeskTerms, longest_size}
 use Rattle.adx_desk.specs.Shared.{MayBeFull}
@@ -43,9 +43,20 @@ use Rattle.desk_runs.specs.Meanings.{Told}
 use Rattle.desk_runs.specs.OnDisk.{FullOnly}
 
 -- a call is told that the journal is full only where it may be
-full_may : (terms : DeskTerms) (history : List Entry) (entry : Option Entry) (size : ℕ) → FullOnly terms history entry (Some (Fault.JournalFull size)) → MayBeFull terms history entry
+full_may : (terms : DeskTerms) (history : List Entry) (entry : Option Entry) (size : ℕ) → FullOnly terms history entry (Some (Fault.JournalFull size)) → MayBeFull terms history entry size
 full_may terms history None size full = full
-full_may terms history (Some e) size full = omega (arith, full.0, full.1)
+full_may terms history (Some e) size full = (full.0, full.1)
+
+-- the only fault of a tick, a notice or a batch is the disk's
+pub own_cause : {T : Type 0} (before now : ℕ) (old new : DeskState) (result : Result T DeskFault) → EndsNotice before now old new result → IfErr result (λ (fault : DeskFault). fault ≡ DeskFault.DiskFault)
+own_cause before now old new (Ok done) ends = tt
+own_cause before now old new (Err DeskFault.DiskFault) ends = refl
+own_cause before now old new (Err (DeskFault.JournalFull size)) ends = absurd ends
+own_cause before now old new (Err (DeskFault.BadEntry at)) ends = absurd ends
+own_cause before now old new (Err (DeskFault.OtherRoster kept)) ends = absurd ends
+own_cause before now old new (Err (DeskFault.NotAJournal at)) ends = absurd ends
+own_cause before now old new (Err (DeskFault.BadLength at)) ends = absurd ends
+own_cause before now old new (Err DeskFault.OutOfMemory) ends = absurd ends
 
 -- notices that are done in turn stand one behind another
 along_in_turn : (terms : DeskTerms) (history : List Entry) (calls : List Arrival) → IsLegal terms.day history → AreSteps alone terms history (took_in_turn history calls) (after_arrivals history calls)

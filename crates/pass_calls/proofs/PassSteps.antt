@@ -50,6 +50,17 @@ may_end terms history call (Err (DeskFault.NotAJournal at)) entry ends = absurd 
 may_end terms history call (Err (DeskFault.BadLength at)) entry ends = absurd ends
 may_end terms history call (Err DeskFault.OutOfMemory) entry ends = roomy call ends.1
 
+-- one that takes no room fails by the disk alone
+pub turn_cause : (opened : OpenedWith) (p q : DeskPass) (call : Call) (result : Result Answer DeskFault) → (TakesRoom call → ⊥) → AddsTurn opened call result p q → IfErr result (λ (fault : DeskFault). fault ≡ DeskFault.DiskFault)
+turn_cause opened p q call (Ok answer) none a = tt
+turn_cause opened p q call (Err DeskFault.DiskFault) none a = refl
+turn_cause opened p q call (Err (DeskFault.JournalFull size)) none a = absurd (none a.1.answered.right.0.ends.1)
+turn_cause opened p q call (Err (DeskFault.BadEntry at)) none a = absurd a.1.answered.right.0.ends
+turn_cause opened p q call (Err (DeskFault.OtherRoster kept)) none a = absurd a.1.answered.right.0.ends
+turn_cause opened p q call (Err (DeskFault.NotAJournal at)) none a = absurd a.1.answered.right.0.ends
+turn_cause opened p q call (Err (DeskFault.BadLength at)) none a = absurd a.1.answered.right.0.ends
+turn_cause opened p q call (Err DeskFault.OutOfMemory) none a = absurd (none a.1.answered.right.0.ends.1)
+
 -- what a call leaves is what is seen behind it
 entry_left : (before : List Entry) (o : Option Entry) → before ++ (one_or_none entry_of o ++ []) ≡ with_entry before o
 entry_left before None = append-nil before

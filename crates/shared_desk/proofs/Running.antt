@@ -1,10 +1,11 @@
 -- What a call on a desk makes of it, as a job tells it.
-use Rattle.std.proofs.Common.{◌≡◌, inl, inr, ℕ, ◌+◌, ◌≤◌, List, [], ◌∷◌, ◌++◌, Option, Some, None, length, refl, sym, ◌∙◌, ap, subst, arith, append-nil}
+use Rattle.std.proofs.Common.{◌≡◌, inl, inr, ℕ, ◌+◌, ◌<◌, ◌≤◌, min, List, [], ◌∷◌, ◌++◌, Option, Some, None, length, refl, sym, ◌∙◌, ap, subst, arith, append-nil}
 use Rattle.std.specs.Prelude.{Result, Ok, Err, IfOk, OnOk, OnErr}
 use mathlib.Core.Logic.{dite}
 use native.Mathlib.Decide.{dec_le}
 use Rattle.adx_io.specs.Fakes.{counted}
 use Rattle.adx_io.specs.Streams.{last_count}
+use Rattle.day_journal.specs.Faults.{greatest_size}
 use Rattle.day_journal.specs.Tails.{size_of}
 use Rattle.day_rules.specs.declared.answer.Answer.{Answer}
 use Rattle.day_rules.specs.declared.entry.Entry.{Entry}
@@ -17,9 +18,10 @@ use Rattle.adx_desk.specs.declared.turn.Call.{Call}
 use Rattle.adx_desk.specs.declared.turn.Turn.{Turn}
 use Rattle.adx_desk.specs.Asked.{ask_for}
 use Rattle.adx_desk.specs.Desks.{DeskState, OnDisk}
-use Rattle.adx_desk.specs.Endings.{EndsAsk, EndsNotice, PassesJournal}
+use Rattle.adx_desk.specs.Endings.{EndsAsk, EndsNotice, PassesJournal, size_with}
 use Rattle.adx_desk.specs.Histories.{DeskTerms, longest_size}
 use Rattle.adx_desk.specs.Shared.{EndsAs, IsTurnAt, MayBeFull, TakesRoom, call_of, is_disk_fault, opened_with}
+use Rattle.notice_batches.specs.Held.{longest_held, longest_record}
 use Rattle.notice_batches.proofs.Sizes.{held_longest, record_longest}
 use Rattle.turnstile.specs.Turns.{HasRisen, added_by, one_if, one_or_none}
 use Rattle.turnstile.specs.Places.{one_where}
@@ -108,12 +110,19 @@ ends_notice before now old new terms history call (Err (DeskFault.NotAJournal at
 ends_notice before now old new terms history call (Err (DeskFault.BadLength at)) is ends = absurd ends
 ends_notice before now old new terms history call (Err DeskFault.OutOfMemory) is ends = absurd ends
 
-may_be_full : (old : DeskState) (size : ℕ) (entry : Option Entry) → PassesJournal old size entry → size_of old.journal ≤ longest_size old.terms old.history → MayBeFull old.terms old.history entry
+-- the size that is told, between what a journal may have and the longest that it may be
+told_between : (most size told longest last : ℕ) → most < size → told ≡ min size last → most < last → size ≤ longest → (most < told) × (told ≤ longest)
+told_between most size told longest last passes is small fits = (omega (arith, passes, is, small), omega (arith, is, fits))
+
+sizes_counted : greatest_size < last_count
+sizes_counted = omega arith
+
+may_be_full : (old : DeskState) (size : ℕ) (entry : Option Entry) → PassesJournal old size entry → size_of old.journal ≤ longest_size old.terms old.history → MayBeFull old.terms old.history entry size
 may_be_full old size None passes short = absurd passes
 may_be_full old size (Some e) passes short =
-    let p = passes.0 in
-    let r = record_longest old.journal.format e in
-    let h = held_longest old.journal.format (old.history ++ e ∷ []) in omega arith
+    let longest = longest_size old.terms old.history + longest_record e + longest_held (old.history ++ e ∷ []) in
+    let fits : size_with old e ≤ longest = omega (arith, short, record_longest old.journal.format e, held_longest old.journal.format (old.history ++ e ∷ [])) in
+    told_between greatest_size (size_with old e) size longest last_count passes.0 passes.1 sizes_counted fits
 
 ends_room : (before now : ℕ) (old new : DeskState) (call : Call) (ended : Result Answer DeskFault) → TakesRoom call
     → IfOk ended (λ answer. answer ≡ (reply old.terms.day old.history (call_of call)).answer)

@@ -9,6 +9,9 @@ returns-clause-done g c = batch_done c.args.self.now.shared.now.fixed c.args.sel
 pub returns-clause-failed : goal.returns-clause-failed
 returns-clause-failed g c = batch_failed c.args.self.now.shared.now.fixed c.args.self.now.roster c.args.self.now.opened c.args.self.now.pass.now c.batch.new.pass (viewed (g.M.MeterView.origin c.args.self.now.view.now) (g.M.MeterView.seen c.args.self.now.view.now)) c.batch.result c.args.batch.now c.batch.new.batch c.batch.ensures.fault c.batch.ensures.waits
 
+pub returns-clause-cause : goal.returns-clause-cause
+returns-clause-cause g c = c.batch.ensures.cause
+
 pub invariant_of-self : goal.invariant_of-self
 invariant_of-self g c =
     let same = batch_same c.args.self.now.shared.now.fixed c.args.self.now.roster c.args.self.now.opened c.args.self.now.pass.now c.batch.new.pass (viewed (g.M.MeterView.origin c.args.self.now.view.now) (g.M.MeterView.seen c.args.self.now.view.now)) c.batch.result c.args.batch.now c.batch.new.batch c.batch.ensures.ok c.batch.ensures.fault in
