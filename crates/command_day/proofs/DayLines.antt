@@ -13,7 +13,7 @@ use Rattle.command_runs.specs.Meanings.{PutsEnd}
 use Rattle.command_runs.specs.Scripts.{PutsClosing}
 use Rattle.command_runs.specs.declared.limits.TheConstants.{LINE_LIMIT}
 use Rattle.command_runs.specs.declared.outcome.Outcome.{Outcome}
-use Rattle.command_runs.proofs.Answered.{RunsLines, lines_begin, lines_go_on}
+use Rattle.command_runs.proofs.Answered.{RunsLines, lines_begin, lines_closed, lines_cut, lines_go_on, lines_past, lines_stopped}
 use Rattle.day_rules.specs.declared.entry.Entry.{Entry}
 use Rattle.deal_floor.specs.declared.roster.Roster.{Roster}
 use Rattle.desk_runs.specs.Answering.{DeskRuns, ServesLine}
@@ -28,7 +28,6 @@ use Rattle.script_day.specs.Script.{Means, closing, terms_by}
 use Rattle.script_lines.specs.Meanings.{calls}
 use Rattle.command_day.specs.Days.{EndsBy, EndsServed, MayBeCall, answering}
 use Rattle.command_day.specs.Steps.{IsEndOf, LinesRan, PutsLine, PutsClosing as DayCloses}
-use Rattle.command_day.proofs.Within.{lines_closed, lines_cut, lines_past, lines_stopped}
 
 -- the ends of a day whose answers are all written
 served_by : (told : List Told) (outcome : Outcome) → EndsBy told outcome → EndsServed told None (Ok outcome)

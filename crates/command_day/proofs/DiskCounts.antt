@@ -9,8 +9,8 @@ use Rattle.command_runs.specs.declared.outcome.Outcome.{Outcome}
 use Rattle.desk_runs.specs.Courses.{Course, given_up, served, unopened}
 use Rattle.desk_runs.specs.OnDisk.{CourseOn}
 use Rattle.desk_runs.proofs.DiskCounts.{day_later, run_rises, run_stays}
-use Rattle.history_runs.specs.Histories.{MayEndAs}
-use Rattle.command_day.specs.Days.{EndsAs, EndsServed, GivesUpBy}
+use Rattle.history_runs.specs.Unopened.{GivesUpBy, MayEndAs}
+use Rattle.command_day.specs.Days.{EndsAs, EndsServed}
 
 -- a run that may be cut short while its line is put has no other ending
 no_fault : (result : Result Outcome Stop) → MayEndAs (Ok Outcome.NoHistory) result → result ≡ Ok Outcome.DiskFault → ⊥

@@ -1,4 +1,3 @@
-pub mod Within
 pub mod DayLines
 pub mod OneScript
 pub mod OneHead

@@ -9,7 +9,7 @@ use Rattle.adx_io.specs.Talk.{ended}
 use Rattle.adx_io.specs.declared.stop.Stop.{Stop}
 use Rattle.answer_lines.specs.declared.faults.Fault.{Fault}
 use Rattle.command_runs.specs.Meanings.{TookPrefix, Wrote}
-use Rattle.command_runs.specs.Scripts.{Answered}
+use Rattle.command_runs.specs.Scripts.{Answered, CutShort}
 use Rattle.command_runs.specs.declared.limits.TheConstants.{INPUT_LIMIT, LINE_LIMIT}
 use Rattle.command_runs.specs.declared.outcome.Outcome.{Outcome}
 use Rattle.command_runs.proofs.Told.{told_map}
@@ -20,14 +20,14 @@ use Rattle.desk_runs.specs.Courses.{AreAlike, Course, GoesOn, GoesOnFrom, given_
 use Rattle.desk_runs.specs.Meanings.{AnswersLine, Told, Writing, call_answer}
 use Rattle.desk_runs.specs.OnDisk.{history_after}
 use Rattle.history_runs.specs.Rosters.{roster_heads}
+use Rattle.history_runs.specs.Unopened.{not_opened}
 use Rattle.script_day.specs.Output.{roster_refused_line, unopened_line, writing}
 use Rattle.script_day.specs.Script.{closing, terms_by}
 use Rattle.script_day.proofs.OneMeaning.{one_meaning}
 use Rattle.script_lines.specs.Meanings.{Meaning as LineMeaning, calls, refused}
 use Rattle.script_lines.specs.Rosters.{IsRosterLine}
 use Rattle.script_lines.proofs.OneMeaning.{one_refusal, one_roster, roster_not_refused}
-use Rattle.command_day.specs.Days.{Calls, HasOneOutput, TookOfWhole, answering, day_command, lines, not_opened}
-use Rattle.command_day.specs.Within.{CutShort}
+use Rattle.command_day.specs.Days.{Calls, HasOneOutput, TookOfWhole, answering, day_command, lines}
 use Rattle.command_day.proofs.OneHead.{Refused, Told as HeadTold, refused_as, refused_same, told_as, told_not_refused, told_same}
 use Rattle.command_day.proofs.OneScript.{Whole, answered_more, put_front, whole_same}
 

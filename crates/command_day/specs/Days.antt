@@ -1,12 +1,10 @@
 -- What a day of script lines means, by what came of it beside its input: the history that its journal stood for, and its
 -- calls, each done or given up. This project's own.
-use Rattle.std.specs.Prelude.{◌≡◌, ◌⊎◌, ℕ, ◌≤◌, List, [], ◌++◌, Option, Some, None, Result, Ok, Err, length}
-use Rattle.adx_desk.specs.declared.fault.DeskFault.{DeskFault}
-use Rattle.adx_io.specs.declared.line_buffer.TheConstants.{CHUNK}
+use Rattle.std.specs.Prelude.{◌≡◌, ℕ, List, [], ◌++◌, Option, Some, None, Result, Ok, Err}
 use Rattle.adx_io.specs.declared.stop.Stop.{Stop}
 use Rattle.command_runs.specs.Firsts.{EndsHeadless, headless, led}
 use Rattle.command_runs.specs.Meanings.{Meaning, TookPrefix}
-use Rattle.command_runs.specs.Scripts.{Answering}
+use Rattle.command_runs.specs.Scripts.{Answering, script}
 use Rattle.command_runs.specs.declared.limits.TheConstants.{INPUT_LIMIT}
 use Rattle.command_runs.specs.declared.outcome.Outcome.{Outcome}
 use Rattle.day_rules.specs.declared.entry.Entry.{Entry}
@@ -14,12 +12,11 @@ use Rattle.deal_floor.specs.declared.roster.Roster.{Roster}
 use Rattle.desk_runs.specs.Courses.{AreAlike, Course, HasDiskFault, HasNoDiskFault, IsSound, given_up, served, unopened}
 use Rattle.desk_runs.specs.Meanings.{IsLine, Told}
 use Rattle.desk_runs.specs.OnDisk.{history_after}
-use Rattle.history_runs.specs.Histories.{MayEndAs, unopened_end}
 use Rattle.history_runs.specs.Rosters.{roster_heads}
-use Rattle.script_day.specs.Output.{toolong_line, unopened_line, writing}
+use Rattle.history_runs.specs.Unopened.{GivesUpBy, not_opened}
+use Rattle.script_day.specs.Output.{toolong_line, writing}
 use Rattle.script_day.specs.Script.{Means, closing, terms_by}
 use Rattle.script_lines.specs.Meanings.{calls}
-use Rattle.command_day.specs.Within.{script_within}
 
 -- how a day ends whose script was read to its end, by its calls
 abbrev pub EndsBy : List Told → Outcome → Type 0
@@ -54,31 +51,13 @@ answering r start = record {
 
 -- what the lines of a roster's day mean that began with this history, and had these calls; so many bytes may be read
 abbrev pub lines : Roster → List Entry → List Told → Option Told → ℕ → Meaning
-lines r start told unwritten allowed = script_within (answering r start) allowed ([], None) 2 (told, unwritten)
-
--- a day that wasn't opened: why is said, and nothing is read
-abbrev pub not_opened : DeskFault → Meaning
-not_opened why = record {
-  ends = λ outcome taken left out. (unopened_end why ≡ Ok outcome) × (length taken ≤ CHUNK) × (out ≡ unopened_line why);
-  awaits = λ taken out. ⊥;
-  breaks = λ taken left put last. (length taken ≤ CHUNK) × (put ≡ []) × ((last ≡ unopened_line why) ⊎ (last ≡ []));
-}
+lines r start told unwritten allowed = script (answering r start) ([], None) 2 allowed (told, unwritten)
 
 -- what the command `day` means, by how the day went
 abbrev pub day_command : Course → Meaning
 day_command unopened = headless roster_heads INPUT_LIMIT
 day_command (given_up r why) = led roster_heads INPUT_LIMIT r (λ allowed. not_opened why)
 day_command (served r start told unwritten) = led roster_heads INPUT_LIMIT r (lines r start told unwritten)
-
--- how the run of a day ends whose opening gave up: by the cause or, where that has a line, while the line is put
-abbrev pub GivesUpBy : DeskFault → Result Outcome Stop → Type 0
-GivesUpBy DeskFault.DiskFault result = result ≡ Ok Outcome.DiskFault
-GivesUpBy (DeskFault.JournalFull size) result = MayEndAs (Ok Outcome.NoHistory) result
-GivesUpBy (DeskFault.BadEntry at) result = MayEndAs (Ok Outcome.NoHistory) result
-GivesUpBy (DeskFault.OtherRoster kept) result = MayEndAs (Ok Outcome.NoHistory) result
-GivesUpBy (DeskFault.NotAJournal at) result = MayEndAs (Ok Outcome.NoHistory) result
-GivesUpBy (DeskFault.BadLength at) result = MayEndAs (Ok Outcome.NoHistory) result
-GivesUpBy DeskFault.OutOfMemory result = result ≡ Err Stop.OutOfMemory
 
 -- how the run of a day ends that was served: at the end of its input by the disk's faults, or before that refused or
 -- stopped; an answer isn't written for want of memory alone

@@ -1,4 +1,3 @@
-pub mod Within
 pub mod Days
 pub mod Runs
 pub mod Steps

@@ -20,9 +20,9 @@ use Rattle.desk_runs.specs.Courses.{Course, given_up, served, taken_calls, unope
 use Rattle.desk_runs.specs.Meanings.{Told}
 use Rattle.desk_runs.specs.OnDisk.{CourseOn, ServesRun}
 use Rattle.script_day.specs.Clauses.{LineAnswered, LineLeft}
-use Rattle.script_day.specs.Output.{unopened_line}
 use Rattle.script_day.specs.Script.{closing}
-use Rattle.command_day.specs.Days.{EndsAs, EndsServed, lines, not_opened}
+use Rattle.history_runs.specs.Unopened.{not_opened}
+use Rattle.command_day.specs.Days.{EndsAs, EndsServed, lines}
 
 -- a line of which this is known was answered on a desk, and its answer put, or a prefix of it; or memory was refused, and
 -- nothing was put
@@ -44,21 +44,6 @@ PutsClosing r desk number Known held held_now result =
     ((outcome : Outcome) × (out : List ℕ) × IsEndOf desk.faults outcome
     × ((piece : List ℕ) → Known piece → out ≡ closing r number piece desk.history) × PutsEnd outcome held held_now out result)
     ⊎ ((result ≡ Err Stop.OutOfMemory) × (held_now ≡ held))
-
--- the line of a day that wasn't opened was put, or a prefix of it; or memory was refused, and nothing was
-abbrev pub PutsWhy : DeskFault → (held held_now : Option (List ℕ)) → Result Outcome Stop → Type 0
-PutsWhy why held held_now result =
-    PutsEnd Outcome.NoHistory held held_now (unopened_line why) result ⊎ ((held_now ≡ held) × (result ≡ Err Stop.OutOfMemory))
-
--- an opening that gave up: its line is put, or nothing where it has none
-abbrev pub PutsUnopened : DeskFault → (held held_now : Option (List ℕ)) → Result Outcome Stop → Type 0
-PutsUnopened DeskFault.DiskFault held held_now result = (held_now ≡ held) × (result ≡ Ok Outcome.DiskFault)
-PutsUnopened (DeskFault.JournalFull size) held held_now result = PutsWhy (DeskFault.JournalFull size) held held_now result
-PutsUnopened (DeskFault.BadEntry at) held held_now result = PutsWhy (DeskFault.BadEntry at) held held_now result
-PutsUnopened (DeskFault.OtherRoster kept) held held_now result = PutsWhy (DeskFault.OtherRoster kept) held held_now result
-PutsUnopened (DeskFault.NotAJournal at) held held_now result = PutsWhy (DeskFault.NotAJournal at) held held_now result
-PutsUnopened (DeskFault.BadLength at) held held_now result = PutsWhy (DeskFault.BadLength at) held held_now result
-PutsUnopened DeskFault.OutOfMemory held held_now result = (held_now ≡ held) × (result ≡ Err Stop.OutOfMemory)
 
 -- what came of a roster's day: opening it gave up; or it was served from a history, with these calls, and one more whose
 -- answer wasn't written, if there is one

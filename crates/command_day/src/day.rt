@@ -4,54 +4,17 @@ ghost use Rattle.adx_io.specs.Talk.{HasCauses};
 ghost use Rattle.adx_io.specs.TalkState.{place_of, state_of};
 ghost use Rattle.adx_io.specs.declared.line_buffer.TheConstants.{CHUNK};
 ghost use Rattle.command_day.specs.Runs.{DayRuns};
-ghost use Rattle.command_day.specs.Steps.{Day, LeavesDay, PutsUnopened, day_after};
+ghost use Rattle.command_day.specs.Steps.{Day, LeavesDay, day_after};
 ghost use Rattle.command_runs.specs.Talks.{TalkWrote};
-ghost use Rattle.history_runs.specs.Histories.{unopened_end};
 
 use crate::lines::run_lines;
-use adx_desk::{Desk, DeskFault};
+use adx_desk::Desk;
 use adx_io::{Disk, Sink, Source, Stop, Talk};
 use adx_units::OutOfMemory;
-use command_runs::{Led, NoLine, Outcome, put_end, run_led};
+use command_runs::{Led, NoLine, Outcome, run_led};
 use deal_floor::Roster;
-use history_runs::{push_roster_lack, roster_of};
-use script_day::push_unopened;
+use history_runs::{push_roster_lack, roster_of, tell_unopened};
 use std::alloc::Global;
-
-/// How a run ends whose day wasn't opened for this cause.
-fn end_by(fault: &DeskFault) -> Result<Outcome, Stop>
-    ensures { result ≡ unopened_end fault.now }
-{
-    match fault {
-        DeskFault::DiskFault => Ok(Outcome::DiskFault),
-        DeskFault::OutOfMemory => Err(Stop::OutOfMemory),
-        DeskFault::NotAJournal { .. }
-        | DeskFault::BadLength { .. }
-        | DeskFault::BadEntry { .. }
-        | DeskFault::OtherRoster { .. }
-        | DeskFault::JournalFull { .. } => Ok(Outcome::NoHistory),
-    }
-}
-
-/// Ends a day that wasn't opened: after a refusal of the file with the line that says why.
-fn tell_unopened<S: Source, K: Sink>(
-    talk: &mut Talk<'_, S, K>,
-    fault: &DeskFault,
-) -> Result<Outcome, Stop>
-    requires unwritten { (state_of talk.old).out ≡ [] }
-    ensures puts { PutsUnopened fault.now (state_of talk.old).held (state_of talk.new).held result }
-    ensures rest { (talk.new.source ≡ talk.old.source) × (talk.new.buffer ≡ talk.old.buffer) }
-    ensures causes { HasCauses (state_of talk.old) (state_of talk.new) result }
-    ensures same { place_of talk.new ≡ place_of talk.old }
-{
-    match end_by(fault) {
-        Ok(Outcome::NoHistory) => match push_unopened(talk.out, fault) {
-            Ok(()) => put_end(talk, Outcome::NoHistory),
-            Err(_) => Err(Stop::OutOfMemory),
-        },
-        other => other,
-    }
-}
 
 /// Serves the day of a roster: opens it on its disk, answers the lines of the script, and closes it.
 fn serve_roster<S: Source, K: Sink, D: Disk>(

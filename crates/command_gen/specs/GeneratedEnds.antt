@@ -13,7 +13,7 @@ use Rattle.deal_floor.specs.declared.roster.Roster.{Roster}
 use Rattle.desk_runs.specs.Courses.{Course, HasNoDiskFault, given_up, served, unopened}
 use Rattle.desk_runs.specs.Meanings.{Told}
 use Rattle.desk_runs.specs.OnDisk.{CourseOn, history_after}
-use Rattle.history_runs.specs.Histories.{unopened_end}
+use Rattle.history_runs.specs.Unopened.{unopened_end}
 use Rattle.script_day.specs.Output.{unopened_line}
 use Rattle.script_day.specs.Script.{terms_by}
 use Rattle.script_lines.specs.Rosters.{IsRosterLine}

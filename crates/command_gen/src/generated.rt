@@ -9,7 +9,6 @@ ghost use Rattle.command_gen.specs.GeneratedEnds.{EndsUntaken, GeneratedRuns};
 ghost use Rattle.command_gen.specs.Taking.{PutsOutput, PutsTable};
 ghost use Rattle.command_gen.specs.declared.generator.TheConstants.{MOST_ASKS as most_asks};
 ghost use Rattle.command_runs.specs.declared.outcome.Outcome.TheVariants.{DiskFault as FaultOfDisk};
-ghost use Rattle.history_runs.specs.Histories.{unopened_end};
 ghost use Rattle.script_lines.specs.Rosters.{IsRosterLine};
 
 use crate::calls::take_day;
@@ -21,6 +20,7 @@ use adx_io::{Disk, Sink, Stop, put_all};
 use command_runs::Outcome;
 use deal_floor::Roster;
 use desk_runs::push_books;
+use history_runs::unopened_outcome;
 use script_day::push_unopened;
 use std::alloc::Global;
 
@@ -87,21 +87,6 @@ fn run_calls<K: Sink, D: Disk>(
     }
 }
 
-/// How a run ends whose day wasn't opened for this cause.
-fn end_by(fault: &DeskFault) -> Result<Outcome, Stop>
-    ensures { result ≡ unopened_end fault.now }
-{
-    match fault {
-        DeskFault::DiskFault => Ok(Outcome::DiskFault),
-        DeskFault::OutOfMemory => Err(Stop::OutOfMemory),
-        DeskFault::NotAJournal { .. }
-        | DeskFault::BadLength { .. }
-        | DeskFault::BadEntry { .. }
-        | DeskFault::OtherRoster { .. }
-        | DeskFault::JournalFull { .. } => Ok(Outcome::NoHistory),
-    }
-}
-
 /// Ends a day that wasn't opened: after a refusal of the file with a line that says why.
 fn give_up<K: Sink>(alloc: Global, fault: &DeskFault, sink: &mut K) -> Result<Outcome, Stop>
     ensures ends { EndsUntaken fault.now (K.held sink.old) (K.held sink.new) result }
@@ -110,7 +95,7 @@ fn give_up<K: Sink>(alloc: Global, fault: &DeskFault, sink: &mut K) -> Result<Ou
     ensures write_later { K.faults sink.old ≤ K.faults sink.new }
     ensures same { K.place sink.new ≡ K.place sink.old }
 {
-    match end_by(fault) {
+    match unopened_outcome(fault) {
         Ok(Outcome::NoHistory) => {
             let mut out = String::new(alloc);
             match push_unopened(&mut out, fault) {

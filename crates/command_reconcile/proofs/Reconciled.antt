@@ -16,7 +16,8 @@ use Rattle.command_runs.specs.Meanings.{PutsEnd, Wrote}
 use Rattle.command_runs.specs.declared.outcome.Outcome.{Outcome}
 use Rattle.day_rules.specs.declared.entry.Entry.{Entry}
 use Rattle.deal_floor.specs.declared.roster.Roster.{Roster}
-use Rattle.history_runs.specs.Histories.{PutsUnopened}
+use Rattle.history_runs.specs.Unopened.{PutsUnopened, unopened_end}
+use Rattle.history_runs.proofs.Unopened.{unopened_by}
 use Rattle.script_day.specs.Output.{unopened_line}
 
 module _ (allowed : ℕ) (ends : Ending) (held held_now : Option (List ℕ)) where
@@ -87,8 +88,13 @@ no_place r history allowed place pending left none few = subst (λ (p : Option �
 
 -- why the day wasn't opened
 module _ (name : List ℕ) (r : Roster) (allowed : ℕ) (why : DeskFault) (held held_now : Option (List ℕ)) (pending : List ℕ) (few : length pending ≤ CHUNK) (told : Option Tape) where
-  pub told_unopened : (result : Result Outcome Stop) → PutsUnopened why held held_now result → WhereTold (tape_behind pending told) told (λ x y. Wrote (at_end allowed (EndsDay name r allowed (Err why))) x.left y.left held held_now result)
-  told_unopened result (inl (outcome, is, puts)) =
+  abbrev Writes : Result Outcome Stop → Type 0
+  Writes result = WhereTold (tape_behind pending told) told (λ x y. Wrote (at_end allowed (EndsDay name r allowed (Err why))) x.left y.left held held_now result)
+
+  told_line : (result : Result Outcome Stop) → (((outcome : Outcome) × (unopened_end why ≡ Ok outcome) × PutsEnd outcome held held_now (unopened_line why) result) ⊎ ((held_now ≡ held) × (result ≡ Err Stop.OutOfMemory))) → Writes result
+  told_line result (inl (outcome, is, puts)) =
       told_unread allowed (EndsDay name r allowed (Err why)) held held_now pending (unopened_line why) outcome told result (λ left. (few, is, refl)) puts
-  told_unopened result (inr (same, refused)) =
-      subst (λ e. WhereTold (tape_behind pending told) told (λ x y. Wrote (at_end allowed (EndsDay name r allowed (Err why))) x.left y.left held held_now e)) (sym refused) (told_refused allowed (EndsDay name r allowed (Err why)) held held_now pending told same)
+  told_line result (inr (same, refused)) = subst Writes (sym refused) (told_refused allowed (EndsDay name r allowed (Err why)) held held_now pending told same)
+
+  pub told_unopened : (result : Result Outcome Stop) → PutsUnopened why held held_now result → Writes result
+  told_unopened result puts = told_line result (unopened_by held held_now why result puts)

@@ -17,7 +17,8 @@ use Rattle.command_runs.specs.Meanings.{Meaning}
 use Rattle.command_runs.specs.declared.outcome.Outcome.{Outcome}
 use Rattle.day_rules.specs.declared.entry.Entry.{Entry}
 use Rattle.deal_floor.specs.declared.roster.Roster.{Roster}
-use Rattle.history_runs.specs.Histories.{KeepsHistory, MayEndAs, unopened_end}
+use Rattle.history_runs.specs.Histories.{KeepsHistory}
+use Rattle.history_runs.specs.Unopened.{GivesUpBy, unopened_end}
 use Rattle.script_day.specs.Output.{unopened_line}
 
 -- the lines of what is refused
@@ -76,4 +77,4 @@ abbrev pub LeavesDisk : {D : Type 0} → disk.Ghosts D → Roster → Result (Li
 LeavesDisk d r (Ok history) old new result = KeepsHistory d r history old new × EndsRead result
 LeavesDisk d r (Err why) old new result =
     GivesUp d.reads d.may_leave d.moment d.left_since (desk_terms r) old new why × HasDiskCause (d.faults old) (d.faults new) why
-    × MayEndAs (unopened_end why) result
+    × GivesUpBy why result

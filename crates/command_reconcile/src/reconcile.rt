@@ -11,11 +11,10 @@ ghost use Rattle.command_runs.specs.Meanings.{PutsEnd};
 ghost use Rattle.command_runs.specs.Talks.{TalkWrote};
 ghost use Rattle.command_runs.specs.declared.outcome.Outcome.TheVariants.{Refused};
 ghost use Rattle.day_rules.specs.declared.entry.Entry.{Entry as EntryValue};
-ghost use Rattle.history_runs.specs.Histories.{PutsUnopened, unopened_end};
 
 use crate::day_bills::{day_bills, place_named};
 use crate::ledger::read_ledger;
-use adx_desk::{Desk, DeskFault};
+use adx_desk::Desk;
 use adx_io::{Disk, Sink, Source, Stop, Talk};
 use adx_json::push_number;
 use adx_units::OutOfMemory;
@@ -23,8 +22,7 @@ use bill_differences::{Bill, push_reconciliation};
 use command_runs::{Led, NoLine, Outcome, put_end, run_led};
 use day_rules::Entry;
 use deal_floor::Roster;
-use history_runs::{push_roster_lack, roster_of};
-use script_day::push_unopened;
+use history_runs::{push_roster_lack, roster_of, tell_unopened};
 use std::alloc::Global;
 
 /// Puts that the roster has no such bidder.
@@ -127,41 +125,6 @@ fn reconcile_day<S: Source, K: Sink>(
             Err(_) => Err(Stop::OutOfMemory),
         },
         None => refuse_bidder(talk),
-    }
-}
-
-/// How a run ends whose day wasn't opened for this cause.
-fn end_of(fault: &DeskFault) -> Result<Outcome, Stop>
-    ensures { result ≡ unopened_end fault.now }
-{
-    match fault {
-        DeskFault::DiskFault => Ok(Outcome::DiskFault),
-        DeskFault::OutOfMemory => Err(Stop::OutOfMemory),
-        DeskFault::NotAJournal { .. }
-        | DeskFault::BadLength { .. }
-        | DeskFault::BadEntry { .. }
-        | DeskFault::OtherRoster { .. }
-        | DeskFault::JournalFull { .. } => Ok(Outcome::NoHistory),
-    }
-}
-
-/// Puts why a day wasn't opened.
-fn tell_unopened<S: Source, K: Sink>(
-    talk: &mut Talk<'_, S, K>,
-    fault: &DeskFault,
-) -> Result<Outcome, Stop>
-    requires unwritten { (state_of talk.old).out ≡ [] }
-    ensures puts { PutsUnopened fault.now (state_of talk.old).held (state_of talk.new).held result }
-    ensures rest { (talk.new.source ≡ talk.old.source) × (talk.new.buffer ≡ talk.old.buffer) }
-    ensures causes { HasCauses (state_of talk.old) (state_of talk.new) result }
-    ensures same { place_of talk.new ≡ place_of talk.old }
-{
-    match end_of(fault) {
-        Ok(outcome) => match push_unopened(talk.out, fault) {
-            Ok(()) => put_end(talk, outcome),
-            Err(_) => Err(Stop::OutOfMemory),
-        },
-        Err(stop) => Err(stop),
     }
 }
 

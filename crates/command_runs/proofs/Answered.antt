@@ -107,7 +107,7 @@ module _ {A : Type 0} (a : Answering A) where
           front.0,
           front.1,
           behind x y r.bytes (ended n.0) (pending ++ z.left) r.reads.next n.2.next ∙ sym (append_assoc (r.bytes ++ ended n.0) pending z.left),
-          (r.bytes, state, number, r.answered, inr (inl (n.0, n.1.no_newline, (pending, few, refl), answers n.0 n.1.keeps))),
+          (r.bytes, state, number, r.answered, inr (inl (n.0, n.1.no_newline, omega (arith, r.reads.counted, n.2.counted, length-append r.bytes (ended n.0)), (pending, few, refl), answers n.0 n.1.keeps))),
           front.2,
           all r.put front.0 r.took front.3,
         ))
@@ -118,7 +118,7 @@ module _ {A : Type 0} (a : Answering A) where
           [],
           [],
           behind x y r.bytes (ended n.0) (pending ++ z.left) r.reads.next n.2.next ∙ sym (append_assoc (r.bytes ++ ended n.0) pending z.left),
-          (r.bytes, state, number, r.answered, inr (inr (inl (n.0, n.1.no_newline, (pending, few, refl), gives_up n.0 n.1.keeps, refl)))),
+          (r.bytes, state, number, r.answered, inr (inr (inl (n.0, n.1.no_newline, omega (arith, r.reads.counted, n.2.counted, length-append r.bytes (ended n.0)), (pending, few, refl), gives_up n.0 n.1.keeps, refl)))),
           refl,
           subst (Took before.held held_now) (sym (append-nil r.put)) (none r.put r.took unput),
         ))
@@ -136,16 +136,17 @@ module _ {A : Type 0} (a : Answering A) where
             (taken, put, out, puts.0, puts.1, is, (bytes, state, number, answered, inr (inr (inr (piece, outcome, no_newline, refl, closes)))), puts.2, all put puts.0 took puts.3)
 
         -- nothing more was put
-        cut_so : (input bytes piece put left : List ℕ) → Answered a s first bytes put state number → HasNoNewline piece → input ≡ (bytes ++ piece) ++ (pending ++ left) → Took before.held mid.held put → held_now ≡ read.held
+        cut_so : (input bytes piece put left : List ℕ) → Answered a s first bytes put state number → HasNoNewline piece → length (bytes ++ piece) ≤ before.allowed → input ≡ (bytes ++ piece) ++ (pending ++ left)
+            → Took before.held mid.held put → held_now ≡ read.held
             → (taken put2 last front back : List ℕ) × (input ≡ taken ++ left) × (script a s first before.allowed state).breaks taken left put2 last × (last ≡ front ++ back) × Took before.held held_now (put2 ++ front)
-        cut_so input bytes piece put left answered no_newline is took unput = (
+        cut_so input bytes piece put left answered no_newline within is took unput = (
           (bytes ++ piece) ++ pending,
           put,
           [],
           [],
           [],
           is ∙ sym (append_assoc (bytes ++ piece) pending left),
-          (bytes, state, number, answered, inl (piece, no_newline, (pending, few, refl), refl, refl)),
+          (bytes, state, number, answered, inl (piece, no_newline, within, (pending, few, refl), refl, refl)),
           refl,
           subst (Took before.held held_now) (sym (append-nil put)) (none put took unput),
         )
@@ -157,7 +158,7 @@ module _ {A : Type 0} (a : Answering A) where
             (behind x y r.bytes n.0 z.left r.reads.next (n.2.next ∙ ap (λ (p : List ℕ). n.0 ++ (p ++ z.left)) looked))
             (inl (ends, refl, omega (arith, r.reads.counted, n.2.counted, length-append r.bytes n.0), closes n.0 n.1.keeps)) r.took puts)
         lines_closed result looked next (inr (is, unput)) = subst (Ends state) (sym is) (told_behind before.tape mid.tape pending told Runs (ReadsNext LINE_LIMIT mid read (Ok Next.End)) _ running next (λ x y z r n.
-            cut_so x.left r.bytes n.0 r.put z.left r.answered n.1.no_newline (behind x y r.bytes n.0 (pending ++ z.left) r.reads.next n.2.next) r.took unput))
+            cut_so x.left r.bytes n.0 r.put z.left r.answered n.1.no_newline (omega (arith, r.reads.counted, n.2.counted, length-append r.bytes n.0)) (behind x y r.bytes n.0 (pending ++ z.left) r.reads.next n.2.next) r.took unput))
 
         pub lines_past : (result : Result Outcome Stop) → pending ≡ [] → WhereTold mid.tape (tape_behind pending told) (ReadsNext LINE_LIMIT mid read (Ok Next.PastLimit)) → PutsEnd Outcome.Refused read.held held_now (a.passes number) result → Ends state result
         lines_past result looked next puts = told_behind before.tape mid.tape pending told Runs (ReadsNext LINE_LIMIT mid read (Ok Next.PastLimit)) _ running next (λ x y z r n.
@@ -174,6 +175,6 @@ module _ {A : Type 0} (a : Answering A) where
           none r.put r.took unput,
         ))
         lines_stopped Stop.WriteFault looked next unput = told_behind before.tape mid.tape pending told Runs (ReadsNext LINE_LIMIT mid read (Err Stop.WriteFault)) _ running next (λ x y z r n.
-            cut_so x.left r.bytes n.0 r.put z.left r.answered n.1 (behind x y r.bytes n.0 (pending ++ z.left) r.reads.next n.2.next) r.took unput)
+            cut_so x.left r.bytes n.0 r.put z.left r.answered n.1 (omega (arith, r.reads.counted, n.2.counted, length-append r.bytes n.0)) (behind x y r.bytes n.0 (pending ++ z.left) r.reads.next n.2.next) r.took unput)
         lines_stopped Stop.OutOfMemory looked next unput = told_behind before.tape mid.tape pending told Runs (ReadsNext LINE_LIMIT mid read (Err Stop.OutOfMemory)) _ running next (λ x y z r n.
-            cut_so x.left r.bytes n.0 r.put z.left r.answered n.1 (behind x y r.bytes n.0 (pending ++ z.left) r.reads.next n.2.next) r.took unput)
+            cut_so x.left r.bytes n.0 r.put z.left r.answered n.1 (omega (arith, r.reads.counted, n.2.counted, length-append r.bytes n.0)) (behind x y r.bytes n.0 (pending ++ z.left) r.reads.next n.2.next) r.took unput)

@@ -1,6 +1,5 @@
 -- What came of a first line, by what was read of it and what was put.
-use Rattle.std.proofs.Common.{◌≡◌, ◌≢◌, inl, inr, ℕ, ◌+◌, ◌-◌, ◌≤◌, List, [], ◌∷◌, ◌++◌, length, take, Option, Some, None, Result, Ok, Err, refl, sym, ap, ◌∙◌, subst, arith, append_assoc, zero-le}
-use Rattle.std.proofs.lemmas.List.Elements.{All-nil}
+use Rattle.std.proofs.Common.{◌≡◌, ◌≢◌, inl, inr, ℕ, ◌+◌, ◌-◌, ◌≤◌, List, [], ◌∷◌, ◌++◌, length, take, Option, Some, None, Result, Ok, Err, refl, sym, ap, ◌∙◌, subst, arith, append_assoc}
 use Rattle.std.proofs.Math.Seq.{take-nil}
 use Rattle.adx_io.specs.Lines.{HasNoNewline, Keeps, tape_behind}
 use Rattle.adx_io.specs.Streams.{Tape, Took, WhereTold}
@@ -54,10 +53,6 @@ lacks_end limit NoLine.Cut line left none few ends short = (none, short, few, en
 lacks_end limit NoLine.Long line left none few ends long = inr (inl (none, long, few, ends))
 
 module _ {H : Type 0} (heads : Heads H) (limit : ℕ) where
-  -- nothing was read yet
-  pub unread : (left : List ℕ) → (headless heads limit).breaks [] left [] []
-  unread left = (refl, inr (([], All-nil (λ b. b ≢ 10), inl ([], zero-le, refl)), refl))
-
   -- a line that was found to tell a head
   pub found_led : (line before now : List ℕ) (h : H) → FindsFirst heads limit line before now (Some h) → (length line ≤ LINE_LIMIT) × heads.tells line h
   found_led line before now h (inl found) = (found.0, found.1.0)

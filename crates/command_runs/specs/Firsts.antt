@@ -94,6 +94,7 @@ EndsHeadless (Ok outcome) = outcome ≡ Outcome.Refused
 EndsHeadless (Err stop) = Unit {0}
 
 -- What a run leaves of what its command stands on: all as it was where no head was told.
-abbrev pub LeavesFirst : {L H C : Type 0} → (L → L → H → C → Result Outcome Stop → Type 0) → L → L → Option (H × C) → Result Outcome Stop → Type 0
+abbrev pub LeavesFirst : {L H C : Type 0} → (L → L → H → C → Result Outcome Stop → Type 0) → L → L → Option (H × C)
+    → Result Outcome Stop → Type 0
 LeavesFirst leaves old new None result = (new ≡ old) × EndsHeadless result
 LeavesFirst leaves old new (Some (h, c)) result = leaves old new h c result

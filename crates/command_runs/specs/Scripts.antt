@@ -24,7 +24,8 @@ module _ {A : Type 0} (a : Answering A) where
   abbrev pub Answers : A → ℕ → List (List ℕ) → List ℕ → A → Type 0
   Answers s number [] out now = (out ≡ []) × (now ≡ s)
   Answers s number (line ∷ lines) out now =
-      (between : A) × (first rest : List ℕ) × a.answers s number line first between × Answers between (suc number) lines rest now × (out ≡ first ++ rest)
+      (between : A) × (first rest : List ℕ) × a.answers s number line first between
+      × Answers between (suc number) lines rest now × (out ≡ first ++ rest)
 
   -- the bytes are whole lines, which were answered so; the next line has the number
   pub record Answered (s : A) (first : ℕ) (bytes out : List ℕ) (now : A) (number : ℕ) : Type 0 where
@@ -38,17 +39,22 @@ module _ {A : Type 0} (a : Answering A) where
   abbrev pub Closes : ℕ → A → ℕ → List ℕ → List ℕ → Outcome → List ℕ → List ℕ → List ℕ → Type 0
   Closes allowed now number bytes piece outcome taken left last =
       ((left ≡ []) × (taken ≡ bytes ++ piece) × (length taken ≤ allowed) × a.closes now number piece outcome last)
-      ⊎ ((more : ℕ) × (taken ≡ (bytes ++ piece) ++ more ∷ []) × (length (bytes ++ piece) ≡ allowed) × (outcome ≡ Outcome.Refused) × (last ≡ a.passes number))
+      ⊎ ((more : ℕ) × (taken ≡ (bytes ++ piece) ++ more ∷ []) × (length (bytes ++ piece) ≡ allowed)
+      × (outcome ≡ Outcome.Refused) × (last ≡ a.passes number))
 
   -- What came behind whole lines whose answers all stood in the sink, where the run was cut short: no further line was
   -- answered; one further line was, and its answer was being put; one was taken, and memory was refused before its answer
-  -- was written; or the end of the output was being put.
-  abbrev pub Further : ℕ → A → A → ℕ → List ℕ → List ℕ → List ℕ → List ℕ → Type 0
-  Further allowed mid now number bytes taken left last =
-      ((piece : List ℕ) × HasNoNewline piece × IsAhead (bytes ++ piece) taken × (now ≡ mid) × (last ≡ []))
-      ⊎ (((line : List ℕ) × HasNoNewline line × IsAhead (bytes ++ ended line) taken × a.answers mid number line last now)
-      ⊎ (((line : List ℕ) × HasNoNewline line × IsAhead (bytes ++ ended line) taken × a.gives_up mid number line now × (last ≡ []))
-      ⊎ ((piece : List ℕ) × (outcome : Outcome) × HasNoNewline piece × (now ≡ mid) × Closes allowed now number bytes piece outcome taken left last)))
+  -- was written; or the end of the output was being put. The lines that were answered are within what may be read.
+  abbrev pub CutShort : ℕ → (mid now : A) → ℕ → (bytes taken left last : List ℕ) → Type 0
+  CutShort allowed mid now number bytes taken left last =
+      ((piece : List ℕ) × HasNoNewline piece × (length (bytes ++ piece) ≤ allowed) × IsAhead (bytes ++ piece) taken
+      × (now ≡ mid) × (last ≡ []))
+      ⊎ (((line : List ℕ) × HasNoNewline line × (length (bytes ++ ended line) ≤ allowed) × IsAhead (bytes ++ ended line) taken
+      × a.answers mid number line last now)
+      ⊎ (((line : List ℕ) × HasNoNewline line × (length (bytes ++ ended line) ≤ allowed) × IsAhead (bytes ++ ended line) taken
+      × a.gives_up mid number line now × (last ≡ []))
+      ⊎ ((piece : List ℕ) × (outcome : Outcome) × HasNoNewline piece × (now ≡ mid)
+      × Closes allowed now number bytes piece outcome taken left last)))
 
   -- What a command means that answers lines, from one state to another, the first line having this number and so many
   -- bytes being allowed.
@@ -58,24 +64,31 @@ module _ {A : Type 0} (a : Answering A) where
         (bytes piece put last : List ℕ) × (number : ℕ) × Answered s first bytes put now number × HasNoNewline piece
         × Closes allowed now number bytes piece outcome taken left last × (out ≡ put ++ last);
     awaits = λ taken out.
-        (bytes piece : List ℕ) × (number : ℕ) × Answered s first bytes out now number × HasNoNewline piece × (taken ≡ bytes ++ piece) × (length taken ≤ allowed);
+        (bytes piece : List ℕ) × (number : ℕ) × Answered s first bytes out now number × HasNoNewline piece
+        × (taken ≡ bytes ++ piece) × (length taken ≤ allowed);
     breaks = λ taken left put last.
-        (bytes : List ℕ) × (mid : A) × (number : ℕ) × Answered s first bytes put mid number × Further allowed mid now number bytes taken left last;
+        (bytes : List ℕ) × (mid : A) × (number : ℕ) × Answered s first bytes put mid number
+        × CutShort allowed mid now number bytes taken left last;
   }
 
 -- What the steps of such a command do. Private clauses cite what follows.
 
 -- a line of which this is known was answered, and its answer put; or a front of it was; or memory was refused, and nothing
 -- was put
-abbrev pub PutsAnswer : {A : Type 0} → Answering A → A → A → ℕ → (List ℕ → Type 0) → Option (List ℕ) → Option (List ℕ) → Result (Unit {0}) Stop → Type 0
-PutsAnswer a s now number Known held held_now (Ok done) = (out : List ℕ) × ((line : List ℕ) → Known line → a.answers s number line out now) × Took held held_now out
+abbrev pub PutsAnswer : {A : Type 0} → Answering A → A → A → ℕ → (List ℕ → Type 0) → (held held_now : Option (List ℕ))
+    → Result (Unit {0}) Stop → Type 0
+PutsAnswer a s now number Known held held_now (Ok done) =
+    (out : List ℕ) × ((line : List ℕ) → Known line → a.answers s number line out now) × Took held held_now out
 PutsAnswer a s now number Known held held_now (Err Stop.ReadFault) = ⊥
 PutsAnswer a s now number Known held held_now (Err Stop.WriteFault) =
     (out : List ℕ) × ((line : List ℕ) → Known line → a.answers s number line out now) × TookPrefix held held_now out
-PutsAnswer a s now number Known held held_now (Err Stop.OutOfMemory) = ((line : List ℕ) → Known line → a.gives_up s number line now) × (held_now ≡ held)
+PutsAnswer a s now number Known held held_now (Err Stop.OutOfMemory) =
+    ((line : List ℕ) → Known line → a.gives_up s number line now) × (held_now ≡ held)
 
 -- what is written at the end was put, or a front of it; or memory was refused, and nothing was
-abbrev pub PutsClosing : {A : Type 0} → Answering A → A → ℕ → (List ℕ → Type 0) → Option (List ℕ) → Option (List ℕ) → Result Outcome Stop → Type 0
+abbrev pub PutsClosing : {A : Type 0} → Answering A → A → ℕ → (List ℕ → Type 0) → (held held_now : Option (List ℕ))
+    → Result Outcome Stop → Type 0
 PutsClosing a now number Known held held_now result =
-    ((outcome : Outcome) × (out : List ℕ) × ((piece : List ℕ) → Known piece → a.closes now number piece outcome out) × PutsEnd outcome held held_now out result)
+    ((outcome : Outcome) × (out : List ℕ) × ((piece : List ℕ) → Known piece → a.closes now number piece outcome out)
+    × PutsEnd outcome held held_now out result)
     ⊎ ((result ≡ Err Stop.OutOfMemory) × (held_now ≡ held))

@@ -1,9 +1,10 @@
 //! How a command runs from an input to an output.
 //!
 //! A `Command` reads an input and writes an output; `run_command` runs it over a source and a sink. Its meaning is what it
-//! writes for the bytes that it took, by how the run ended (`specs/Meanings`). Three kinds of command have a trait of their
-//! own: `Led` reads a first line, `Judge` reads one document whole, `Answer` answers line by line. A run ends with an
-//! `Outcome`, or with the `Stop` of its source, its sink or its memory, and has one exit status.
+//! writes for the bytes that it took, by how the run ended (`specs/Meanings`). Two kinds of command have a trait of their
+//! own: `Led` reads a first line, `Judge` reads one document whole. What a command means that answers line by line stands in
+//! `specs/Scripts`. A run ends with an `Outcome`, or with the `Stop` of its source, its sink or its memory, and has one exit
+//! status.
 //! Stands on `adx_io` alone. It knows no format, no day and no disk.
 #![tactic(auto)]
 
@@ -13,7 +14,6 @@ mod first;
 mod limits;
 mod outcome;
 mod put;
-mod script;
 mod through;
 
 pub use command::{Command, run_command};
@@ -22,5 +22,4 @@ pub use first::{FirstLine, Led, NoLine, run_led};
 pub use limits::{DOCUMENT_LIMIT, INPUT_LIMIT, LINE_LIMIT};
 pub use outcome::{Outcome, status_of};
 pub use put::put_end;
-pub use script::{Answer, answer_lines};
 pub use through::skip_rest;

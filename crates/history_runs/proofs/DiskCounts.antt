@@ -8,7 +8,9 @@ use Rattle.adx_io.specs.declared.stop.Stop.{Stop}
 use Rattle.command_runs.specs.Firsts.{EndsHeadless, LeavesFirst}
 use Rattle.command_runs.specs.declared.outcome.Outcome.{Outcome}
 use Rattle.deal_floor.specs.declared.roster.Roster.{Roster}
-use Rattle.history_runs.specs.Histories.{LeavesDay, MayEndAs, Opening, unopened_end}
+use Rattle.history_runs.specs.Histories.{LeavesDay, Opening}
+use Rattle.history_runs.specs.Unopened.{MayEndAs, unopened_end}
+use Rattle.history_runs.proofs.Unopened.{gives_up_may}
 
 same_later : (before now : ℕ) → now ≡ before → before ≤ now
 same_later before now same = omega (arith, same)
@@ -65,12 +67,12 @@ module _ {D : Type 0} (d : disk.Ghosts D) (old new : D) (result : Result Outcome
   pub disk_rises : (course : Option (Roster × Opening)) → IsLeft course → result ≡ Ok Outcome.DiskFault → Rises (d.faults old) (d.faults new)
   disk_rises None left is = absurd (no_fault result left.1 is)
   disk_rises (Some (r, Opening.opened history)) left is = absurd (cc (as_wanted (Ok Outcome.Done) result Outcome.DiskFault left.1 is))
-  disk_rises (Some (r, Opening.given_up why)) left is = rises_by (d.faults old) (d.faults new) why left.1 (as_wanted (unopened_end why) result Outcome.DiskFault left.2 is)
+  disk_rises (Some (r, Opening.given_up why)) left is = rises_by (d.faults old) (d.faults new) why left.1 (as_wanted (unopened_end why) result Outcome.DiskFault (gives_up_may why result left.2) is)
   disk_rises (Some (r, Opening.unopened)) left is = absurd (left.2 is)
 
   pub disk_stays : (course : Option (Roster × Opening)) → IsLeft course → (result ≡ Ok Outcome.Done) ⊎ (result ≡ Ok Outcome.NoHistory) → d.faults new ≡ d.faults old
   disk_stays None left is = ap d.faults left.0
   disk_stays (Some (r, Opening.opened history)) left is = left.0.counted
-  disk_stays (Some (r, Opening.given_up why)) left (inl is) = stays_by (d.faults old) (d.faults new) why left.1 (inl (as_wanted (unopened_end why) result Outcome.Done left.2 is))
-  disk_stays (Some (r, Opening.given_up why)) left (inr is) = stays_by (d.faults old) (d.faults new) why left.1 (inr (as_wanted (unopened_end why) result Outcome.NoHistory left.2 is))
+  disk_stays (Some (r, Opening.given_up why)) left (inl is) = stays_by (d.faults old) (d.faults new) why left.1 (inl (as_wanted (unopened_end why) result Outcome.Done (gives_up_may why result left.2) is))
+  disk_stays (Some (r, Opening.given_up why)) left (inr is) = stays_by (d.faults old) (d.faults new) why left.1 (inr (as_wanted (unopened_end why) result Outcome.NoHistory (gives_up_may why result left.2) is))
   disk_stays (Some (r, Opening.unopened)) left is = ap d.faults left.0

@@ -1,3 +1,4 @@
+pub mod Unopened
 pub mod Printed
 pub mod Putting
 pub mod Opened

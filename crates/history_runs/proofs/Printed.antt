@@ -1,5 +1,5 @@
 -- What a run that prints of a history wrote, by what was read and what was put.
-use Rattle.std.proofs.Common.{◌≡◌, ◌≢◌, inl, inr, ℕ, List, [], ◌∷◌, ◌++◌, Option, Result, Ok, Err, refl, sym, ap, ◌∙◌, subst, append_assoc, append-nil}
+use Rattle.std.proofs.Common.{◌≡◌, ◌≢◌, ◌⊎◌, inl, inr, ℕ, List, [], ◌∷◌, ◌++◌, Option, Result, Ok, Err, refl, sym, ap, ◌∙◌, subst, append_assoc, append-nil}
 use Rattle.adx_io.specs.Streams.{Tape, WhereTold}
 use Rattle.adx_io.specs.declared.rest.Rest.{Rest}
 use Rattle.adx_io.specs.declared.stop.Stop.{Stop}
@@ -15,14 +15,9 @@ use Rattle.day_rules.specs.declared.entry.Entry.{Entry}
 use Rattle.deal_floor.specs.declared.roster.Roster.{Roster}
 use Rattle.script_day.specs.Output.{roster_refused_line, unopened_line}
 use Rattle.script_lines.specs.declared.refusal.RosterRefusal.{RosterRefusal}
-use Rattle.history_runs.specs.Histories.{MayEndAs, Opening, Printed, Prints, PutsTold, PutsUnopened, tells, unopened_end}
-
--- how a run may end whose last bytes were put so
-pub may_end : (outcome : Outcome) (held held_now : Option (List ℕ)) (bytes : List ℕ) (result : Result Outcome Stop) → PutsEnd outcome held held_now bytes result → MayEndAs (Ok outcome) result
-may_end outcome held held_now bytes (Ok ended) puts = inl (ap Ok puts.0)
-may_end outcome held held_now bytes (Err Stop.ReadFault) puts = absurd puts
-may_end outcome held held_now bytes (Err Stop.WriteFault) puts = inr (inl refl)
-may_end outcome held held_now bytes (Err Stop.OutOfMemory) puts = inr (inr refl)
+use Rattle.history_runs.specs.Histories.{Opening, Printed, Prints, PutsTold, tells}
+use Rattle.history_runs.specs.Unopened.{MayEndAs, PutsUnopened, unopened_end}
+use Rattle.history_runs.proofs.Unopened.{may_end, unopened_by}
 
 -- all that is printed of a history was put
 pub printed_whole : (prints : Prints) (r : Roster) (history : List Entry) (held held_now : Option (List ℕ)) → Printed prints r history held held_now (Ok tt) → PutsTold prints r (Opening.opened history) held held_now (Ok Outcome.Done)
@@ -40,13 +35,14 @@ pub opened_ends : (prints : Prints) (r : Roster) (history : List Entry) (held he
 opened_ends prints r history held held_now result (inl p) = subst (λ o. MayEndAs (Ok o) result) (p.2 []).1 (may_end p.0 held held_now p.1 result p.3)
 opened_ends prints r history held held_now result (inr nothing) = inr (inr nothing.1)
 
-pub unopened_ends : (why : DeskFault) (held held_now : Option (List ℕ)) (result : Result Outcome Stop) → PutsUnopened why held held_now result → MayEndAs (unopened_end why) result
-unopened_ends why held held_now result (inl p) = subst (λ wanted. MayEndAs wanted result) (sym p.1) (may_end p.0 held held_now (unopened_line why) result p.2)
-unopened_ends why held held_now result (inr nothing) = inr (inr nothing.1)
+-- why the day wasn't opened, as what is written once the input was read
+why_said : (prints : Prints) (r : Roster) (why : DeskFault) (held held_now : Option (List ℕ)) (result : Result Outcome Stop) → (((outcome : Outcome) × (unopened_end why ≡ Ok outcome) × PutsEnd outcome held held_now (unopened_line why) result) ⊎ ((held_now ≡ held) × (result ≡ Err Stop.OutOfMemory)))
+    → PutsTold prints r (Opening.given_up why) held held_now result
+why_said prints r why held held_now result (inl p) = inl (p.0, unopened_line why, (λ bytes. (refl, p.1, refl)), p.2)
+why_said prints r why held held_now result (inr nothing) = inr nothing
 
 pub unopened_said : (prints : Prints) (r : Roster) (why : DeskFault) (held held_now : Option (List ℕ)) (result : Result Outcome Stop) → PutsUnopened why held held_now result → PutsTold prints r (Opening.given_up why) held held_now result
-unopened_said prints r why held held_now result (inl p) = inl (p.0, unopened_line why, (λ bytes. (refl, p.1, refl)), p.2)
-unopened_said prints r why held held_now result (inr nothing) = inr nothing
+unopened_said prints r why held held_now result puts = why_said prints r why held held_now result (unopened_by held held_now why result puts)
 
 -- a run whose line that refuses its input is put ends in no other way
 pub not_refused : (held held_now : Option (List ℕ)) (bytes : List ℕ) (result : Result Outcome Stop) (other : Outcome) → PutsEnd Outcome.Refused held held_now bytes result → other ≢ Outcome.Refused → result ≢ Ok other

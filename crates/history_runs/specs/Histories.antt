@@ -16,6 +16,7 @@ use Rattle.command_runs.specs.declared.outcome.Outcome.{Outcome}
 use Rattle.day_rules.specs.declared.entry.Entry.{Entry}
 use Rattle.day_rules.specs.Legal.{IsLegal}
 use Rattle.deal_floor.specs.declared.roster.Roster.{Roster}
+use Rattle.history_runs.specs.Unopened.{GivesUpBy, MayEndAs, unopened_end}
 use Rattle.script_day.specs.Output.{roster_refused_line, unopened_line}
 use Rattle.script_lines.specs.declared.refusal.RosterRefusal.{RosterRefusal}
 
@@ -29,21 +30,12 @@ pub data Opening : Type 0 where
   given_up : DeskFault → Opening
   unopened : Opening
 
--- how a run ends whose day wasn't opened for this cause
-abbrev pub unopened_end : DeskFault → Result Outcome Stop
-unopened_end DeskFault.DiskFault = Ok Outcome.DiskFault
-unopened_end (DeskFault.JournalFull size) = Ok Outcome.NoHistory
-unopened_end (DeskFault.BadEntry at) = Ok Outcome.NoHistory
-unopened_end (DeskFault.OtherRoster kept) = Ok Outcome.NoHistory
-unopened_end (DeskFault.NotAJournal at) = Ok Outcome.NoHistory
-unopened_end (DeskFault.BadLength at) = Ok Outcome.NoHistory
-unopened_end DeskFault.OutOfMemory = Err Stop.OutOfMemory
-
 -- What is written once the input was read: what the command prints of the day's history; or why the day wasn't opened; or,
 -- past the limit of an input, that its roster is too long. Nothing depends on what comes after the roster's line.
 abbrev pub tells : Prints → Roster → Opening → Judging
 tells prints r (opened history) rest bytes outcome out = (rest ≡ Rest.Whole) × (outcome ≡ Outcome.Done) × prints r history out
-tells prints r (given_up why) rest bytes outcome out = (rest ≡ Rest.Whole) × (unopened_end why ≡ Ok outcome) × (out ≡ unopened_line why)
+tells prints r (given_up why) rest bytes outcome out =
+    (rest ≡ Rest.Whole) × (unopened_end why ≡ Ok outcome) × (out ≡ unopened_line why)
 tells prints r unopened rest bytes outcome out =
     (rest ≡ Rest.PastLimit) × (outcome ≡ Outcome.Refused) × (out ≡ roster_refused_line RosterRefusal.Long)
 
@@ -55,10 +47,6 @@ Printed prints r history held held_now (Err Stop.ReadFault) = ⊥
 Printed prints r history held held_now (Err Stop.WriteFault) = (out : List ℕ) × prints r history out × TookPrefix held held_now out
 Printed prints r history held held_now (Err Stop.OutOfMemory) =
     (held_now ≡ held) ⊎ ((out : List ℕ) × prints r history out × TookPrefix held held_now out)
-
--- the run may end as was wanted, or cut short by the sink or for want of memory
-abbrev pub MayEndAs : Result Outcome Stop → Result Outcome Stop → Type 0
-MayEndAs wanted result = (result ≡ wanted) ⊎ ((result ≡ Err Stop.WriteFault) ⊎ (result ≡ Err Stop.OutOfMemory))
 
 module _ {D : Type 0} (d : disk.Ghosts D) where
   -- A roster's day was opened on a disk with this history, and nothing was added to it. No call of the disk failed.
@@ -79,8 +67,9 @@ module _ {D : Type 0} (d : disk.Ghosts D) where
   LeavesDay r (opened history) old new result = KeepsHistory r history old new × MayEndAs (Ok Outcome.Done) result
   LeavesDay r (given_up why) old new result =
       GivesUp d.reads d.may_leave d.moment d.left_since (desk_terms r) old new why × HasDiskCause (d.faults old) (d.faults new) why
-      × MayEndAs (unopened_end why) result
-  LeavesDay r unopened old new result = (new ≡ old) × (result ≢ Ok Outcome.Done) × (result ≢ Ok Outcome.DiskFault) × (result ≢ Ok Outcome.NoHistory)
+      × GivesUpBy why result
+  LeavesDay r unopened old new result =
+      (new ≡ old) × (result ≢ Ok Outcome.Done) × (result ≢ Ok Outcome.DiskFault) × (result ≢ Ok Outcome.NoHistory)
 
 -- What the steps of such a command do. Private clauses cite what follows.
 
@@ -100,9 +89,3 @@ abbrev pub PrintsDay : {D : Type 0} → disk.Ghosts D → Prints → Roster → 
     → (held held_now : Option (List ℕ)) → Result Outcome Stop → Type 0
 PrintsDay d prints r old new held held_now result =
     (o : Opening) × LeavesDay d r o old new result × PutsTold prints r o held held_now result
-
--- the same of a day that wasn't opened
-abbrev pub PutsUnopened : DeskFault → Option (List ℕ) → Option (List ℕ) → Result Outcome Stop → Type 0
-PutsUnopened why held held_now result =
-    ((outcome : Outcome) × (unopened_end why ≡ Ok outcome) × PutsEnd outcome held held_now (unopened_line why) result)
-    ⊎ PutsNothing held held_now result

@@ -9,20 +9,20 @@ ghost use Rattle.command_runs.specs.Meanings.{PutsEnd};
 ghost use Rattle.command_runs.specs.Talks.{TalkWrote};
 ghost use Rattle.command_runs.specs.declared.outcome.Outcome.TheVariants.{Refused};
 ghost use Rattle.day_rules.specs.DayState.{IsDay};
-ghost use Rattle.history_runs.specs.Histories.{LeavesDay, Opening, PrintsDay, PutsTold, PutsUnopened, tells, unopened_end};
+ghost use Rattle.history_runs.specs.Histories.{LeavesDay, Opening, PrintsDay, PutsTold, tells};
 ghost use Rattle.history_runs.specs.Histories.Opening.{opened};
 ghost use Rattle.history_runs.specs.Runs.{RunsHistory};
 ghost use Rattle.script_day.specs.Output.{roster_refused_line};
 ghost use Rattle.script_lines.specs.declared.refusal.RosterRefusal.TheVariants.{Long};
 
+use crate::opening::tell_unopened;
 use crate::roster::{push_roster_lack, roster_of};
-use adx_desk::{Desk, DeskFault};
+use adx_desk::Desk;
 use adx_io::{Disk, Rest, Sink, Source, Stop, Talk};
 use adx_units::OutOfMemory;
 use command_runs::{Led, NoLine, Outcome, put_end, run_led, skip_rest};
 use day_rules::Entry;
 use deal_floor::Roster;
-use script_day::push_unopened;
 use std::alloc::Global;
 
 /// A command's own part where it prints something of a day's history.
@@ -52,41 +52,6 @@ pub trait Print {
         ensures rest { talk.new.source ≡ talk.old.source }
         ensures causes { HasCauses (state_of talk.old) (state_of talk.new) result }
         ensures same { place_of talk.new ≡ place_of talk.old };
-}
-
-/// How a run ends whose day wasn't opened for this cause.
-fn end_of(fault: &DeskFault) -> Result<Outcome, Stop>
-    ensures { result ≡ unopened_end fault.now }
-{
-    match fault {
-        DeskFault::DiskFault => Ok(Outcome::DiskFault),
-        DeskFault::OutOfMemory => Err(Stop::OutOfMemory),
-        DeskFault::NotAJournal { .. }
-        | DeskFault::BadLength { .. }
-        | DeskFault::BadEntry { .. }
-        | DeskFault::OtherRoster { .. }
-        | DeskFault::JournalFull { .. } => Ok(Outcome::NoHistory),
-    }
-}
-
-/// Puts why a day wasn't opened.
-fn tell_unopened<S: Source, K: Sink>(
-    talk: &mut Talk<'_, S, K>,
-    fault: &DeskFault,
-) -> Result<Outcome, Stop>
-    requires unwritten { (state_of talk.old).out ≡ [] }
-    ensures puts { PutsUnopened fault.now (state_of talk.old).held (state_of talk.new).held result }
-    ensures rest { talk.new.source ≡ talk.old.source }
-    ensures causes { HasCauses (state_of talk.old) (state_of talk.new) result }
-    ensures same { place_of talk.new ≡ place_of talk.old }
-{
-    match end_of(fault) {
-        Ok(outcome) => match push_unopened(talk.out, fault) {
-            Ok(()) => put_end(talk, outcome),
-            Err(_) => Err(Stop::OutOfMemory),
-        },
-        Err(stop) => Err(stop),
-    }
 }
 
 /// Prints of a history, and ends the run.

@@ -7,7 +7,9 @@
 #![tactic(auto)]
 
 mod history;
+mod opening;
 mod roster;
 
 pub use history::{Print, run_history};
+pub use opening::{tell_unopened, unopened_outcome};
 pub use roster::{push_roster_lack, roster_of};

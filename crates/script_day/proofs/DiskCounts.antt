@@ -1,5 +1,5 @@
 -- The disk's count of faults over a day: it rises where the day ended by the disk's fault, and it stays where it was done.
-use Rattle.std.proofs.Common.{◌≡◌, ◌≢◌, ◌⊎◌, inl, inr, ℕ, List, Option, Result, Ok, Err, sym, ap, ◌∙◌, subst}
+use Rattle.std.proofs.Common.{◌≡◌, ◌≢◌, ◌⊎◌, inl, inr, ℕ, List, Option, Result, Err, sym, ◌∙◌, subst}
 use Rattle.adx_desk.specs.Openings.{HasDiskCause}
 use Rattle.adx_desk.specs.declared.fault.DeskFault.{DeskFault}
 use Rattle.adx_io.specs.Streams.{Rises}
@@ -7,7 +7,7 @@ use Rattle.desk_runs.specs.Courses.{Course, unopened, given_up, served}
 use Rattle.script_day.specs.Courses.{EndsBy, EndsServed, GivesUpBy, IsCutShort}
 use Rattle.desk_runs.specs.OnDisk.{CourseOn}
 use Rattle.script_day.specs.declared.ending.Ending.{Ending}
-use Rattle.desk_runs.proofs.DiskCounts.{run_rises, run_stays}
+use Rattle.desk_runs.proofs.DiskCounts.{run_rises}
 
 -- a run that was cut short has no other ending
 not_refused : (result : Result (Unit {0}) Ending) → (result ≡ Err Ending.NoHistory) ⊎ IsCutShort result → result ≡ Err Ending.DiskFault → ⊥
@@ -41,13 +41,3 @@ module _ {D : Type 0} (faults : D → ℕ) (reads : D → Option (List ℕ)) (ma
   day_rises (served r start told unwritten) old new result ends serves at =
       let faulted = subst (EndsServed told unwritten) at ends in
       run_rises (faults old) (faults new) told unwritten faulted.0 faulted.1 serves.counted
-
-  -- and stayed where it was done, or the file stands for no history
-  pub day_stays : (course : Course) (old new : D) (result : Result (Unit {0}) Ending) → EndsBy course result → CourseOn faults reads may_leave moment left_since course old new → (result ≡ Ok tt) ⊎ (result ≡ Err Ending.NoHistory) → faults new ≡ faults old
-  day_stays unopened old new result ends same at = ap faults same
-  day_stays (given_up r why) old new result ends (gives_up, cause) (inl at) = cause_stays (faults old) (faults new) why result ends cause (λ e. cc (sym at ∙ e))
-  day_stays (given_up r why) old new result ends (gives_up, cause) (inr at) = cause_stays (faults old) (faults new) why result ends cause (λ e. cc (sym at ∙ e))
-  day_stays (served r start told unwritten) old new result ends serves (inl at) =
-      let passed = subst (EndsServed told unwritten) at ends in
-      run_stays (faults old) (faults new) told unwritten passed.0 passed.1 serves.counted
-  day_stays (served r start told unwritten) old new result ends serves (inr at) = absurd (subst (EndsServed told unwritten) at ends)

@@ -15,26 +15,10 @@ told_map None b R Q r step = r
 told_map (Some x) None R Q r step = absurd r
 told_map (Some x) (Some y) R Q r step = step x y r
 
--- one step after another, the second at a talk that may be ahead of its source
-pub told_behind : (a b : Option Tape) (pending : List ℕ) (t : Option Tape) (R S Q : Tape → Tape → Type 0)
-    → WhereTold a b R → WhereTold b (tape_behind pending t) S → ((x y z : Tape) → R x y → S y (with_pending pending z) → Q x z) → WhereTold a t Q
-told_behind None None pending None R S Q r s step = refl
-told_behind None None pending (Some z) R S Q r s step = absurd (cc s)
-told_behind None (Some y) pending t R S Q r s step = absurd (cc r)
-told_behind (Some x) None pending t R S Q r s step = absurd r
-told_behind (Some x) (Some y) pending None R S Q r s step = absurd s
-told_behind (Some x) (Some y) pending (Some z) R S Q r s step = step x y z r s
-
 -- a talk that is ahead of its source, and where nothing happened
 pub told_ahead : (pending : List ℕ) (t : Option Tape) (Q : Tape → Tape → Type 0) → ((z : Tape) → Q (with_pending pending z) z) → WhereTold (tape_behind pending t) t Q
 told_ahead pending None Q here = refl
 told_ahead pending (Some z) Q here = here z
-
--- at the beginning a talk isn't ahead
-pub told_first : (a : Option Tape) (b : Option Tape) (R Q : Tape → Tape → Type 0) → WhereTold (tape_behind [] a) b R → ((x y : Tape) → R (with_pending [] x) y → Q x y) → WhereTold a b Q
-told_first None b R Q r step = r
-told_first (Some x) None R Q r step = absurd r
-told_first (Some x) (Some y) R Q r step = step x y r
 
 -- one step at a talk that may be ahead of its source
 pub told_source : (a : Option Tape) (pending : List ℕ) (t : Option Tape) (R Q : Tape → Tape → Type 0) → WhereTold a (tape_behind pending t) R → ((x z : Tape) → R x (with_pending pending z) → Q x z) → WhereTold a t Q

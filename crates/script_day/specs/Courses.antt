@@ -1,5 +1,5 @@
 -- How a day ends, by what came of it beside its input. This project's own.
-use Rattle.std.specs.Prelude.{◌≡◌, ◌≢◌, ◌⊎◌, List, Option, None, Result, Ok, Err}
+use Rattle.std.specs.Prelude.{◌≡◌, ◌⊎◌, List, Option, None, Result, Ok, Err}
 use Rattle.adx_io.specs.declared.stop.Stop.{Stop}
 use Rattle.adx_desk.specs.declared.fault.DeskFault.{DeskFault}
 use Rattle.desk_runs.specs.Meanings.{Told}
@@ -15,10 +15,6 @@ ending_by (DeskFault.OtherRoster kept) = Ending.NoHistory
 ending_by (DeskFault.NotAJournal at) = Ending.NoHistory
 ending_by (DeskFault.BadLength at) = Ending.NoHistory
 ending_by DeskFault.OutOfMemory = Ending.Stopped Stop.OutOfMemory
-
--- the same; want of memory is no refusal
-abbrev pub EndsUnopened : DeskFault → Ending → Type 0
-EndsUnopened why ending = (ending ≡ ending_by why) × (why ≢ DeskFault.OutOfMemory)
 
 -- the run was stopped by the sink or for want of memory
 abbrev pub IsCutShort : Result (Unit {0}) Ending → Type 0

@@ -16,5 +16,5 @@ mod refusals;
 pub use ending::Ending;
 pub use first::first_roster;
 pub use limits::{INPUT_LIMIT, LINE_LIMIT};
-pub use opening::{ending_of, give_up, push_unopened};
+pub use opening::{give_up, push_unopened};
 pub use refusals::push_roster_refused;

@@ -65,7 +65,7 @@ pub fn push_unopened(out: &mut String, fault: &DeskFault) -> Result<(), OutOfMem
 
 /// How a day ends that wasn't opened: by the disk's fault or for want of memory as such, and else as one whose file stands
 /// for no history.
-pub fn ending_of(fault: &DeskFault) -> Ending
+fn ending_of(fault: &DeskFault) -> Ending
     ensures { result ≡ ending_by fault.now }
 {
     match fault {

@@ -10,9 +10,9 @@ use Rattle.day_rules.specs.Legal.{IsLegal}
 use Rattle.desk_runs.specs.Courses.{taken_calls}
 use Rattle.desk_runs.proofs.DeskRuns.{desk_begins}
 use Rattle.desk_runs.proofs.Lent.{course_lent, run_lent}
-use Rattle.command_day.specs.Days.{not_opened}
+use Rattle.history_runs.specs.Unopened.{not_opened}
 use Rattle.command_day.specs.Steps.{was_given_up, was_served}
-use Rattle.command_day.proofs.Ends.{gives_up, told_unopened}
+use Rattle.history_runs.proofs.Unopened.{gives_up, told_unopened}
 use Rattle.command_day.proofs.day.serve_roster.Goals as goal
 
 pub returns-in-Ok-clause-ran : goal.returns-in-Ok-clause-ran

@@ -7,7 +7,7 @@ use Rattle.command_runs.specs.Meanings.{Wrote}
 use Rattle.command_runs.specs.Talks.{TalkWrote}
 use Rattle.day_rules.specs.declared.entry.Entry.{Entry}
 use Rattle.history_runs.proofs.Opened.{stands_lent}
-use Rattle.history_runs.proofs.Printed.{unopened_ends}
+use Rattle.history_runs.proofs.Unopened.{gives_up}
 use Rattle.desk_runs.proofs.Lent.{course_lent}
 use Rattle.command_reconcile.specs.Reconciling.{EndsDay, at_end, reconciling}
 use Rattle.command_reconcile.proofs.Reconciled.{told_unopened}
@@ -39,7 +39,7 @@ returns-in-Err-clause-ran g c =
     let puts = c.tell_unopened.ensures.puts in
     let left = course_lent (λ (e : MutBor _). e.now) g.D.Disk.faults g.D.Disk.reads g.D.Disk.may_leave g.D.Disk.moment g.D.Disk.left_since roster why _ c.in-Err.refused.1 c.args.disk.now _ refl (search rules) c.in-Err.ensures.gives_up c.in-Err.ensures.cause in (
       Err why,
-      (left.0, left.1, unopened_ends why before.held held result puts),
+      (left.0, left.1, gives_up why before.held held result puts),
       subst (λ (t : Option Tape). WhereTold before.tape t (λ x y. Wrote (at_end before.allowed (EndsDay c.args.name.now roster before.allowed (Err why))) x.left y.left before.held held result)) (sym (ap (λ (x : MutBor _). g.S.Source.tape x.now) c.tell_unopened.ensures.rest.0))
           (told_unopened c.args.name.now roster before.allowed why before.held held talk.buffer.now.pending c.requires.ahead (g.S.Source.tape talk.source.now) result puts),
     )

@@ -7,7 +7,8 @@ use Rattle.desk_runs.proofs.Lent.{course_lent}
 use Rattle.adx_desk.specs.Histories.{DeskTerms}
 use Rattle.history_runs.specs.Histories.{Opening, PutsTold}
 use Rattle.history_runs.proofs.Opened.{stands_lent}
-use Rattle.history_runs.proofs.Printed.{opened_ends, unopened_ends, unopened_said}
+use Rattle.history_runs.proofs.Printed.{opened_ends, unopened_said}
+use Rattle.history_runs.proofs.Unopened.{gives_up}
 use Rattle.history_runs.proofs.history.print_day.Goals as goal
 
 pub print_history-ended-requires-clause-day : goal.print_history-ended-requires-clause-day
@@ -41,6 +42,6 @@ returns-in-Err-clause-puts g c =
     let puts = c.tell_unopened.ensures.puts in
     let left = course_lent (λ (e : MutBor _). e.now) g.D.Disk.faults g.D.Disk.reads g.D.Disk.may_leave g.D.Disk.moment g.D.Disk.left_since roster why _ c.in-Err.refused.1 c.args.disk.now _ refl (search rules) c.in-Err.ensures.gives_up c.in-Err.ensures.cause in (
       Opening.given_up why,
-      (left.0, left.1, unopened_ends why held held_now c.tell_unopened.result puts),
+      (left.0, left.1, gives_up why held held_now c.tell_unopened.result puts),
       unopened_said g.P.Print.prints roster why held held_now c.tell_unopened.result puts,
     )
