@@ -10,6 +10,7 @@ use Rattle.command_archive.proofs.Unbegun.{unkept, unlisted_days}
 use Rattle.command_check.proofs.Ended.{unbegun as unchecked}
 use Rattle.command_close.specs.ClosedDays.{IsClosedDay}
 use Rattle.command_close.specs.Guarantees.{IsGuarantee}
+use Rattle.command_conn.specs.Exchanges.{conn_command}
 use Rattle.command_day.specs.Days.{day_command}
 use Rattle.command_day.proofs.OneOutput.{took_told}
 use Rattle.command_notices.specs.PostLines.{AreNotices}
@@ -24,22 +25,10 @@ use Rattle.day_archive.specs.declared.keeper.Keeper as keepers
 use Rattle.history_runs.specs.Histories.{Prints}
 use Rattle.history_runs.specs.Runs.{history_command}
 use Rattle.desk_runs.specs.Courses.{unopened}
-use Rattle.script_day.specs.declared.ending.Ending.{Ending}
 use Rattle.command_gen.specs.GeneratedEnds.{GeneratedRuns}
-use Rattle.exchange_day.proofs.Ends.{unbegun as unconnected}
-use Rattle.adx_commands.specs.Commands.{Does, DoesAsRead, IsCommand, Outside, Runs, RunsBidder, RunsDay, RunsPrint}
-use Rattle.adx_commands.specs.Statuses.{status_of}
+use Rattle.adx_commands.specs.Commands.{Does, DoesAsRead, IsCommand, Outside, Runs, RunsBidder, RunsConnection, RunsDay, RunsPrint}
 
 -- ---- the status of words that are no command
-
-not_two : (ending : Result (Unit {0}) Ending) → 2 ≡ status_of ending → ⊥
-not_two (Ok done) is = omega (arith, is)
-not_two (Err Ending.Refused) is = omega (arith, is)
-not_two (Err Ending.DiskFault) is = omega (arith, is)
-not_two (Err Ending.NoHistory) is = omega (arith, is)
-not_two (Err (Ending.Stopped Stop.ReadFault)) is = omega (arith, is)
-not_two (Err (Ending.Stopped Stop.WriteFault)) is = omega (arith, is)
-not_two (Err (Ending.Stopped Stop.OutOfMemory)) is = omega (arith, is)
 
 not_two_by : (ended : Result Outcome Stop) → 2 ≡ status_by ended → ⊥
 not_two_by (Ok Outcome.Done) is = omega (arith, is)
@@ -60,9 +49,6 @@ told_otherwise (inr (inl (failed, taken))) = omega (arith, failed)
 told_otherwise (inr (inr (refused, taken))) = omega (arith, refused)
 
 -- ---- memory was refused before anything was asked for
-
-abbrev no_memory : Result (Unit {0}) Ending
-no_memory = Err (Ending.Stopped Stop.OutOfMemory)
 
 -- between these nothing happened
 abbrev still : {S K D P : Type 0} → S → K → D → P → Outside S K D P
@@ -99,6 +85,15 @@ module _ {S K D P : Type 0} (s : sources.Ghosts S) (k : sinks.Ghosts K) (d : dis
         of_whole = took_told unopened (s.tape source) (s.tape source) (k.held sink) (k.held sink) (Err Stop.OutOfMemory) wrote;
       }
 
+  unconnected : RunsConnection d (s.tape source) (s.tape source) (k.held sink) (k.held sink) disk disk 12
+  unconnected = record {
+    course = None;
+    ended = Err Stop.OutOfMemory;
+    told = refl;
+    leaves = (refl, tt);
+    wrote = unbegun_wrote (conn_command None) (s.tape source) (k.held sink) (λ left. (refl, inr (([], All-nil (λ b. b ≢ 10), inl ([], zero-le, refl)), refl)));
+  }
+
   generated_untaken : (seed asks : ℕ) → GeneratedRuns d seed asks (k.held sink) (k.held sink) disk disk (Err Stop.OutOfMemory)
   generated_untaken seed asks = record { course = unopened; ends = (refl, refl); on_disk = refl }
 
@@ -126,7 +121,7 @@ module _ {S K D P : Type 0} (s : sources.Ghosts S) (k : sinks.Ghosts K) (d : dis
   -- whatever was to run ends so
   unstarted : (read : Option Command) → Runs s k d p (still source sink disk keeper) 12 read
   unstarted (Some (Command.Day journal)) = unserved
-  unstarted (Some (Command.Connection journal)) = record { ending = no_memory; told = refl; ends = unconnected d.faults d.reads d.may_leave d.moment d.left_since (s.tape source) (k.held sink) disk }
+  unstarted (Some (Command.Connection journal)) = unconnected
   unstarted (Some (Command.Notices journal)) = unclosed AreNotices
   unstarted (Some Command.Bidder) = bidder_unserved
   unstarted (Some (Command.Close journal false)) = unclosed IsClosedDay
@@ -168,7 +163,7 @@ reconciled s k d p o status read journal name asked ended is named kept told ran
 module _ {S K D P : Type 0} (s : sources.Ghosts S) (k : sinks.Ghosts K) (d : disks.Ghosts D) (p : keepers.Ghosts P) (o : Outside S K D P) where
   not_refused : (command : Command) → Runs s k d p o 2 (Some command) → ⊥
   not_refused (Command.Day journal) runs = not_two_by runs.ended runs.told
-  not_refused (Command.Connection journal) runs = not_two runs.ending runs.told
+  not_refused (Command.Connection journal) runs = not_two_by runs.ended runs.told
   not_refused (Command.Notices journal) runs = not_two_by runs.ended runs.told
   not_refused Command.Bidder runs = not_two_by runs.ended runs.told
   not_refused (Command.Close journal false) runs = not_two_by runs.ended runs.told

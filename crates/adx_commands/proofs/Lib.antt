@@ -1,4 +1,3 @@
-pub mod Statuses
 pub mod Outcomes
 pub mod Commands
 pub mod Beginnings

@@ -6,6 +6,8 @@ use Rattle.adx_io.specs.declared.stop.Stop.{Stop}
 use Rattle.bidder_core.specs.Seen.{BidderState}
 use Rattle.command_bidder.specs.Bidders.{MayEnd}
 use Rattle.command_bidder.proofs.Bidders.{no_disk_fault}
+use Rattle.command_conn.specs.Exchanges.{Day}
+use Rattle.command_conn.proofs.DiskCounts.{IsLeft as IsConnLeft, disk_later as conn_later, disk_rises as conn_rises, disk_stays as conn_stays}
 use Rattle.command_day.specs.Days.{EndsAs}
 use Rattle.command_day.proofs.DiskCounts.{disk_later as day_later, disk_rises as day_rises, disk_stays as day_stays}
 use Rattle.command_gen.specs.GeneratedEnds.{GeneratedRuns}
@@ -120,6 +122,15 @@ counted_day d course old new result status ends left told = record {
   disk_fault = λ is. day_rises d course old new result ends left (disk_failed result (sym told ∙ is));
   disk_passed = λ is. day_stays d course old new result ends left (passed result (subst (λ n. (n ≡ 0) ⊎ (n ≡ 7)) told is));
   disk_later = day_later d course old new left;
+}
+
+-- and where an exchange was served on a connection
+pub counted_conn : {D : Type 0} (d : disks.Ghosts D) (course : Option (Roster × Day)) (old new : D) (result : Result Outcome Stop) (status : ℕ) → IsConnLeft d old new result course → status ≡ status_by result
+    → HasDiskCauses (d.faults old) (d.faults new) status
+counted_conn d course old new result status left told = record {
+  disk_fault = λ is. conn_rises d old new result course left (disk_failed result (sym told ∙ is));
+  disk_passed = λ is. conn_stays d old new result course left (passed result (subst (λ n. (n ≡ 0) ⊎ (n ≡ 7)) told is));
+  disk_later = conn_later d old new result course left;
 }
 
 -- a bidder's run meets no disk

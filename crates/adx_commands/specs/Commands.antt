@@ -14,6 +14,7 @@ use Rattle.command_archive.specs.declared.list.Query.{Query}
 use Rattle.command_check.specs.Runs.{ChecksInput}
 use Rattle.command_close.specs.ClosedDays.{IsClosedDay}
 use Rattle.command_close.specs.Guarantees.{IsGuarantee}
+use Rattle.command_conn.specs.Exchanges.{Day, LeavesDay as LeavesExchange, conn_command}
 use Rattle.command_day.specs.Days.{EndsAs, TookOfWhole, day_command}
 use Rattle.command_gen.specs.GeneratedEnds.{GeneratedRuns}
 use Rattle.command_notices.specs.PostLines.{AreNotices}
@@ -31,12 +32,9 @@ use Rattle.day_archive.specs.declared.keeper.Keeper as keepers
 use Rattle.deal_floor.specs.declared.roster.Roster.{Roster}
 use Rattle.desk_runs.specs.Courses.{Course, GoesOn}
 use Rattle.desk_runs.specs.OnDisk.{CourseOn}
-use Rattle.exchange_day.specs.Connecting.{EndsExchange}
 use Rattle.history_runs.specs.Histories.{LeavesDay, Opening, Prints}
 use Rattle.history_runs.specs.Runs.{history_command}
 use Rattle.script_day.specs.Endings.{TookFront}
-use Rattle.script_day.specs.declared.ending.Ending.{Ending}
-use Rattle.adx_commands.specs.Statuses.{status_of}
 
 -- the words serve a day, in plain spelling: with no journal, or with one in a file
 abbrev pub IsDay : List (List ℕ) → Type 0
@@ -111,12 +109,17 @@ pub record RunsDay {D : Type 0} (d : disks.Ghosts D) (tape tape_now : Option Tap
   pub of_whole : WhereTold tape tape_now (λ before now.
       (more : Course) → GoesOn course more → TookOfWhole (day_command more) before.left held held_now)
 
--- A day on a connection ended so over a source, a sink and a disk, told by the exit status.
+-- A day of an exchange on a connection ran so over a source, a sink and a disk, told by the exit status. The course is the
+-- roster of the first line, if there is one, and what came of its day; by it, how the run ended, what became of the disk, and
+-- what was written for the input.
 pub record RunsConnection {D : Type 0} (d : disks.Ghosts D) (tape tape_now : Option Tape) (held held_now : Option (List ℕ))
     (old new : D) (status : ℕ) : Type 0 where
-  pub ending : Result (Unit {0}) Ending
-  pub told : status ≡ status_of ending
-  pub ends : EndsExchange d.faults d.reads d.may_leave d.moment d.left_since tape tape_now held held_now old new ending
+  pub course : Option (Roster × Day)
+  pub ended : Result Outcome Stop
+  pub told : status ≡ status_by ended
+  pub leaves : LeavesFirst (λ before now r day. LeavesExchange d r day before now) old new course ended
+  pub wrote : WhereTold tape tape_now
+      (λ before now. Wrote (conn_command course) before.left now.left held held_now ended)
 
 -- A bidder's run ended so over a source and a sink, told by the exit status. The course is the bidder of the first line, if
 -- there is one, and what the connection left of it.

@@ -1,18 +1,6 @@
--- The exit statuses of a command, and the causes of those of a fault. This project's own.
-use Rattle.std.specs.Prelude.{◌≡◌, ◌≢◌, ◌⊎◌, ℕ, ◌≤◌, Result, Ok, Err}
+-- The causes of the exit statuses of a fault. This project's own.
+use Rattle.std.specs.Prelude.{◌≡◌, ◌≢◌, ◌⊎◌, ℕ, ◌≤◌}
 use Rattle.adx_io.specs.Streams.{Rises}
-use Rattle.adx_io.specs.declared.stop.Stop.{Stop}
-use Rattle.script_day.specs.declared.ending.Ending.{Ending}
-
--- the exit status of an ending
-abbrev pub status_of : Result (Unit {0}) Ending → ℕ
-status_of (Ok done) = 0
-status_of (Err Ending.Refused) = 3
-status_of (Err Ending.DiskFault) = 6
-status_of (Err Ending.NoHistory) = 7
-status_of (Err (Ending.Stopped Stop.ReadFault)) = 4
-status_of (Err (Ending.Stopped Stop.WriteFault)) = 5
-status_of (Err (Ending.Stopped Stop.OutOfMemory)) = 12
 
 -- the counts of faults of a source and of a sink rise exactly at their statuses
 pub record HasCauses (source source_now sink sink_now status : ℕ) : Type 0 where

@@ -8,6 +8,7 @@ ghost use Rattle.command_check.specs.Checks.{HasOneAnswer};
 ghost use Rattle.command_check.specs.Runs.{AcceptsInput, ChecksInput};
 ghost use Rattle.command_close.specs.ClosedDays.{HasOneDocument, IsClosedDay};
 ghost use Rattle.command_close.specs.Guarantees.{HasOneGuarantee, IsGuarantee};
+ghost use Rattle.command_conn.specs.Laws.{HasOneOutput as HasOneExchange};
 ghost use Rattle.command_day.specs.Days.{HasOneOutput, HasOutputs};
 ghost use Rattle.command_notices.specs.PostLines.{AreNotices};
 ghost use Rattle.command_words.specs.Helps.{help_text, version_text};
@@ -17,20 +18,20 @@ ghost use Rattle.command_words.specs.declared.command.Topic.{Topic as HelpTopic}
 ghost use Rattle.adx_commands.specs.Statuses.{HasCauses, HasDiskCauses};
 ghost use Rattle.adx_commands.specs.Commands.{AsksNothing, Does, DoesAsRead, IsArchive, IsArchiveList, IsArchivePut, IsBidder, IsCheck, IsClose, IsCommand, IsConnection, IsDay, IsGenerated, IsHelp, IsNotices, IsRatio, IsReconcile, IsVersion, LeavesDisk, LeavesKeeper, Runs, RunsBidder, RunsConnection, RunsDay, RunsGenerated, RunsPrint, RunsReconcile, Tells};
 
-use crate::status::{DONE, NO_COMMAND, OUT_OF_MEMORY, WRITE_FAULT, status_of, status_of_outcome};
+use crate::status::{DONE, NO_COMMAND, OUT_OF_MEMORY, WRITE_FAULT, status_of_outcome};
 use adx_io::{Disk, Sink, Source, put_all};
 use adx_units::Text;
 use command_archive::{Query, keep_day, list_days_of};
 use command_bidder::run_bidder;
 use command_check::check_input;
 use command_close::{close_journal, measure_journal};
+use command_conn::run_conn;
 use command_day::run_day;
 use command_gen::{Generator, run_generated};
 use command_notices::print_notices;
 use command_reconcile::reconcile_ledger;
 use command_words::{Command, VERSION, command_of, help_of};
 use day_archive::Keeper;
-use exchange_day::serve_exchange;
 use std::alloc::Global;
 
 /// What is written to the sink where the words aren't a command.
@@ -84,8 +85,8 @@ fn run<S: Source, K: Sink, D: Disk, P: Keeper>(
             status_of_outcome(ended)
         }
         Some(Command::Connection { .. }) => {
-            let ended = serve_exchange(alloc, source, sink, disk);
-            status_of(ended)
+            let ended = run_conn(alloc, source, sink, disk);
+            status_of_outcome(ended)
         }
         Some(Command::Notices { .. }) => {
             let ended = print_notices(alloc, source, sink, disk);
@@ -222,7 +223,7 @@ fn run_words<S: Source, K: Sink, D: Disk, P: Keeper>(
 /// or where that of `check` is no document or passes 2^31 bytes; 4 where the source failed, and then the sink took the
 /// answers to all whole lines, or the replies to all whole messages, that the source gave, where it gave the first line; 5
 /// where the sink failed, and 12 out of memory, and then the sink took a prefix of the output, for `day` the answers to
-/// all lines that were taken up but at most one; 6 where the disk failed while the day was opened or, for `gen`, at any
+/// all lines that were taken up but at most one, and for `conn` all replies but those to at most the last 32 messages; 6 where the disk failed while the day was opened or, for `gen`, at any
 /// time, and then the sink took nothing, or where the source was read to its end and the disk met a fault in a call
 /// that was given up by it, or, for `conn`, in the record of notices that waited, which were then taken one by one; 7
 /// where the disk's file isn't a journal of the roster's day, and then the sink took a line that says why; 8 where
@@ -297,6 +298,7 @@ pub fn adx<S: Source, K: Sink, D: Disk, P: Keeper>(
     ensures disk_later { D.faults disk.old ≤ D.faults disk.new }
     ensures outputs { HasOutputs }
     ensures one_output { HasOneOutput }
+    ensures one_exchange { HasOneExchange }
     ensures one_document { HasOneDocument }
     ensures one_answer { HasOneAnswer }
     ensures one_guarantee { HasOneGuarantee }

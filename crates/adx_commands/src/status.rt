@@ -1,11 +1,9 @@
 //! The exit status of a command, by how it ended.
 ghost use Rattle.std.specs.Prelude.{◌≡◌};
-ghost use Rattle.adx_commands.specs.Statuses.{status_of as status_by};
 ghost use Rattle.command_runs.specs.Statuses.{status_by as status_by_outcome};
 
 use adx_io::Stop;
 use command_runs::Outcome;
-use script_day::Ending;
 
 /// The status where the input was read to its end.
 pub const DONE: u8 = 0;
@@ -39,21 +37,6 @@ pub const NOT_KEPT: u8 = 10;
 
 /// The status where memory was refused.
 pub const OUT_OF_MEMORY: u8 = 12;
-
-/// The exit status of a command that ended so.
-pub fn status_of(ended: Result<(), Ending>) -> u8
-    ensures { result ≡ status_by ended }
-{
-    match ended {
-        Ok(()) => DONE,
-        Err(Ending::Refused) => REFUSED,
-        Err(Ending::DiskFault) => DISK_FAULT,
-        Err(Ending::NoHistory) => NO_HISTORY,
-        Err(Ending::Stopped(Stop::ReadFault)) => READ_FAULT,
-        Err(Ending::Stopped(Stop::WriteFault)) => WRITE_FAULT,
-        Err(Ending::Stopped(Stop::OutOfMemory)) => OUT_OF_MEMORY,
-    }
-}
 
 /// The exit status of a command that ended with this outcome.
 pub(crate) fn status_of_outcome(ended: Result<Outcome, Stop>) -> u8

@@ -1,7 +1,6 @@
 -- How a bidder runs over an input and an output: its price line, and the connection that comes after it. This project's
 -- own.
-use Rattle.std.specs.Prelude.{◌≡◌, ◌+◌, ℕ, List, Option, Some, None, Result}
-use Rattle.adx_io.specs.declared.line_buffer.TheConstants.{CHUNK}
+use Rattle.std.specs.Prelude.{◌≡◌, ℕ, List, Option, Some, None, Result}
 use Rattle.adx_io.specs.declared.sink.Sink as sink
 use Rattle.adx_io.specs.declared.source.Source as source
 use Rattle.adx_io.specs.declared.stop.Stop.{Stop}
@@ -13,8 +12,7 @@ use Rattle.command_runs.specs.Runs.{Runs}
 use Rattle.command_runs.specs.declared.first.NoLine.{NoLine}
 use Rattle.command_runs.specs.declared.limits.TheConstants.{INPUT_LIMIT}
 use Rattle.command_runs.specs.declared.outcome.Outcome.{Outcome}
-use Rattle.connection_runs.specs.Connections.{EndsServing, connection}
-use Rattle.http_connection.specs.State.{room_of}
+use Rattle.connection_runs.specs.Connections.{EndsServing, connection, most_beyond}
 use Rattle.http_service.specs.declared.limits.TheConstants.{REQUEST_LIMIT}
 use Rattle.price_lines.specs.PriceLines.{IsPriceLine, RefusesPriceLine}
 use Rattle.refusal_lines.specs.Refusals.{roster_refused_line}
@@ -32,11 +30,6 @@ price_heads = record {
   refuses = λ line out. (why : RosterRefusal) × RefusesPriceLine line why × (out ≡ roster_refused_line why);
   lacks = lack_line;
 }
-
--- The most bytes that are taken beyond the last message of a connection: what a connection has room for, and the piece
--- with which the price line came.
-abbrev pub most_beyond : ℕ
-most_beyond = room_of REQUEST_LIMIT + CHUNK
 
 -- what a bidder means to a connection that begins with it so, and leaves it so
 abbrev pub serves : BidderState → BidderState → Meaning

@@ -1,6 +1,7 @@
 //! What a connection means as a run: its replies, by the bytes that came.
 //!
-//! `serve_after` serves the connection that comes after what a talk read, and its contract says what came of it as a run.
+//! `specs/Connections` has the meaning of a run that serves a connection, behind what it read before; `result_of` is how such
+//! a run ends by the end of its connection.
 //! Stands on `http_service` for what comes of a connection, and on `command_runs` for what a run is.
 #![tactic(auto)]
 

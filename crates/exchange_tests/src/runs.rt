@@ -1,7 +1,7 @@
 //! An exchange's run: first lines that are none, connections behind a roster line, and sources, sinks and disks that fail.
 use adx_io::{MemoryDisk, MemorySink, MemorySource, Stop};
-use exchange_day::serve_exchange;
-use script_day::Ending;
+use command_conn::run_conn;
+use command_runs::Outcome;
 use std::alloc::{AllocError, Global};
 use std::test::Fail;
 
@@ -32,15 +32,16 @@ fn bytes_of(alloc: Global, text: &str) -> Result<Vec<u8>, AllocError> {
 }
 
 /// The word of an end.
-fn word_of(ended: Result<(), Ending>) -> &'static str {
+fn word_of(ended: Result<Outcome, Stop>) -> &'static str {
     match ended {
-        Ok(()) => "served",
-        Err(Ending::Refused) => "refused",
-        Err(Ending::DiskFault) => "disk",
-        Err(Ending::NoHistory) => "history",
-        Err(Ending::Stopped(Stop::ReadFault)) => "unread",
-        Err(Ending::Stopped(Stop::WriteFault)) => "unwritten",
-        Err(Ending::Stopped(Stop::OutOfMemory)) => "no memory",
+        Ok(Outcome::Done) => "served",
+        Ok(Outcome::Refused) => "refused",
+        Ok(Outcome::DiskFault) => "disk",
+        Ok(Outcome::NoHistory) => "history",
+        Ok(_) => "other",
+        Err(Stop::ReadFault) => "unread",
+        Err(Stop::WriteFault) => "unwritten",
+        Err(Stop::OutOfMemory) => "no memory",
     }
 }
 
@@ -49,7 +50,7 @@ fn gives(alloc: Global, input: &[u8], output: &[u8], step: usize, end: &str) -> 
     let mut disk = MemoryDisk::new(alloc, b"", &[], None)?;
     let mut source = MemorySource::new(alloc, input, step, &[])?;
     let mut sink = MemorySink::new(alloc, step, &[])?;
-    let ended = word_of(serve_exchange(alloc, &mut source, &mut sink, &mut disk));
+    let ended = word_of(run_conn(alloc, &mut source, &mut sink, &mut disk));
     Ok(ended == end && sink.taken() == output)
 }
 
@@ -102,7 +103,7 @@ fn ends(
     let mut disk = MemoryDisk::new(alloc, b"", calling, None)?;
     let mut source = MemorySource::new(alloc, input.as_slice(), 0, taking)?;
     let mut sink = MemorySink::new(alloc, 0, putting)?;
-    Ok(word_of(serve_exchange(alloc, &mut source, &mut sink, &mut disk)))
+    Ok(word_of(run_conn(alloc, &mut source, &mut sink, &mut disk)))
 }
 
 /// The calls of the source and the sink that fail, and how the run ends. One take gives the whole input and one put takes all
@@ -142,7 +143,7 @@ fn ends_on(alloc: Global, file: &[u8], line: &str) -> Result<(&'static str, bool
     let mut disk = MemoryDisk::new(alloc, file, &[], None)?;
     let mut source = MemorySource::new(alloc, input.as_slice(), 0, &[])?;
     let mut sink = MemorySink::new(alloc, 0, &[])?;
-    let ended = word_of(serve_exchange(alloc, &mut source, &mut sink, &mut disk));
+    let ended = word_of(run_conn(alloc, &mut source, &mut sink, &mut disk));
     Ok((ended, sink.taken() == line.as_bytes()))
 }
 

@@ -5,6 +5,7 @@ use Rattle.command_check.proofs.Ended.{accepted_input}
 use Rattle.command_check.proofs.OneAnswer.{one_answer}
 use Rattle.command_close.proofs.OneDocument.{one_document}
 use Rattle.command_close.proofs.OneGuarantee.{one_guarantee}
+use Rattle.command_conn.proofs.OneOutput.{has_one_output as has_one_exchange}
 use Rattle.command_day.proofs.OneOutput.{has_one_output}
 use Rattle.command_day.proofs.SomeOutput.{has_outputs}
 use Rattle.command_words.specs.declared.command.Command.{Command}
@@ -72,6 +73,9 @@ returns-clause-outputs g c = has_outputs
 
 pub returns-clause-one_output : goal.returns-clause-one_output
 returns-clause-one_output g c = has_one_output
+
+pub returns-clause-one_exchange : goal.returns-clause-one_exchange
+returns-clause-one_exchange g c = has_one_exchange
 
 pub returns-clause-one_answer : goal.returns-clause-one_answer
 returns-clause-one_answer g c = one_answer

@@ -1,8 +1,7 @@
 -- The disk's count is that of the day that ran.
-use Rattle.std.proofs.Common.{arith, refl, ◌≡◌, ◌⊎◌, ◌∙◌, Some, ap, sym, subst}
+use Rattle.std.proofs.Common.{arith, refl, ◌∙◌, Some, ap}
 use Rattle.adx_commands.proofs.Commands.{reconciled}
-use Rattle.adx_commands.proofs.Outcomes.{caused, caused_generated, counted_bidder, counted_day, counted_generated, counted_ledger}
-use Rattle.adx_commands.proofs.Statuses.{is_faulted, is_passed}
+use Rattle.adx_commands.proofs.Outcomes.{caused, caused_generated, counted_bidder, counted_conn, counted_day, counted_generated, counted_ledger}
 use Rattle.adx_commands.proofs.command.run.Goals as goal
 
 pub returns-in-Some-Day-clause-disk_causes : goal.returns-in-Some-Day-clause-disk_causes
@@ -12,11 +11,8 @@ returns-in-Some-Day-clause-disk_causes g c =
 
 pub returns-in-Some-Connection-clause-disk_causes : goal.returns-in-Some-Connection-clause-disk_causes
 returns-in-Some-Connection-clause-disk_causes g c =
-    let ended = c.serve_exchange-ended in record {
-      disk_fault = λ is. ended.ensures.disk_fault (is_faulted ended.result (sym c.status_of.ensures ∙ is));
-      disk_passed = λ is. ended.ensures.disk_passed (is_passed ended.result (subst (λ n. (n ≡ 0) ⊎ (n ≡ 7)) c.status_of.ensures is));
-      disk_later = ended.ensures.disk_later;
-    }
+    let ran = c.run_conn-ended.ensures.runs in
+    counted_conn g.D.Disk ran.course c.args.disk.now c.run_conn-ended.new.disk c.run_conn-ended.result c.status_of_outcome-in-Some-Connection.result ran.leaves c.status_of_outcome-in-Some-Connection.ensures
 
 pub returns-in-Some-Generate-clause-causes : goal.returns-in-Some-Generate-clause-causes
 returns-in-Some-Generate-clause-causes g c =

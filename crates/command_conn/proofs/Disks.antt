@@ -20,7 +20,7 @@ use Rattle.desk_runs.specs.Calls.{HasBooks}
 use Rattle.desk_runs.specs.Courses.{HasNoDiskFault}
 use Rattle.desk_runs.specs.Meanings.{Told, turns_of}
 use Rattle.desk_runs.specs.OnDisk.{FullEach, history_after}
-use Rattle.exchange_day.specs.OnDisk.{KeepsHistory, ServesTogether, StandsAmong}
+use Rattle.command_conn.specs.OnDisk.{KeepsHistory, ServesTogether, StandsAmong}
 
 -- no record is in doubt behind a run, or one of the run, where none was before it
 doubt_of : (terms : Terms) (start : List Entry) (told : List Told) (next : List Entry) → MayBeLeftBy terms start told [] next → (next ≡ []) ⊎ IsLeftInDoubt terms start told next

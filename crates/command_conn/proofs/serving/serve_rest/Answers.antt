@@ -1,7 +1,7 @@
--- What the source and the buffer are behind the connection.
+-- What the source and the buffer are after the connection.
 use Rattle.std.proofs.Common.{rules, ◌≡◌}
-use Rattle.exchange_day.proofs.Connected.{same_moment}
-use Rattle.exchange_day.proofs.serving.serve_rest.Goals as goal
+use Rattle.command_conn.proofs.Connected.{same_moment}
+use Rattle.command_conn.proofs.serving.serve_rest.Goals as goal
 
 pub returns-clause-serves : goal.returns-clause-serves
 returns-clause-serves g c =

@@ -1,0 +1,6 @@
+pub mod Disks
+pub mod Ends
+pub mod Connected
+pub mod Runs
+pub mod DiskCounts
+pub mod OneOutput

@@ -1,0 +1,5 @@
+pub mod OnDisk
+pub mod Exchanges
+pub mod Runs
+pub mod Laws
+pub mod Steps

@@ -1,3 +1,0 @@
-pub mod Disks
-pub mod Ends
-pub mod Connected

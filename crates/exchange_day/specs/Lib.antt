@@ -1,3 +1,0 @@
-pub mod OnDisk
-pub mod Connecting
-pub mod Serving
