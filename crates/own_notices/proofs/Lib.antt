@@ -2,10 +2,10 @@ mod PairsRead
 mod Escapes
 mod Queries
 mod Told
-mod ReadBack
+pub mod ReadBack
 mod Named
-mod Templates
-mod UrlParts
-mod UrlQueries
-mod Bases
+pub mod Templates
+pub mod UrlParts
+pub mod UrlQueries
+pub mod Bases
 mod Whole

@@ -1,0 +1,11 @@
+pub mod Names
+pub mod Exchanges
+pub mod Worlds
+pub mod Delivering
+pub mod Steps
+pub mod Playing
+pub mod Pumps
+pub mod TwoBooks
+pub mod Holding
+pub mod Telling
+pub mod Laws

@@ -1,0 +1,100 @@
+-- Private, cited by the pump of a world alone: what comes of messages, and what the starts of its link are to do. Each message is played at the bidder
+-- first, and the link then answers what the bidder replied.
+use Rattle.std.specs.Prelude.{◌≡◌, ◌⊎◌, ℕ, List, [], ◌∷◌, ◌++◌, drop, true, false, Bool, All, Option, Some, None, Result, Ok, Err, OnOk}
+use Rattle.std.specs.List.{count_by, filter_map}
+use Rattle.adx_units.specs.declared.memory.OutOfMemory.{OutOfMemory}
+use Rattle.adx_links.specs.declared.planned.Planned.{Planned}
+use Rattle.bidder_core.specs.Seen.{BidderState}
+use Rattle.http_connection.specs.declared.conn.ConnEnd.{ConnEnd}
+use Rattle.outbox.specs.Calls.{IsValidAs}
+use Rattle.outbox.specs.declared.calling.Call.{Call}
+use Rattle.outbox.specs.declared.post.Post.{Post}
+use Rattle.two_books.specs.Delivering.{IsDelivered, IsReplied, StopsDelivering}
+use Rattle.two_books.specs.Steps.{IsCutShort, first_fate}
+use Rattle.two_books.specs.Worlds.{IsSendable, message_of}
+use Rattle.two_books.specs.declared.step.Fate.{Fate}
+
+-- a connection that ended by what it brought
+abbrev pub completes : ConnEnd → Bool
+completes ConnEnd.Closed = true
+completes ConnEnd.Cut = true
+completes (ConnEnd.Refused fault) = true
+completes ConnEnd.ReadFault = false
+completes ConnEnd.WriteFault = false
+completes ConnEnd.Spent = true
+completes ConnEnd.OutOfMemory = false
+
+-- a message was delivered, and this replied; where memory was wanting some first of its requests were heard
+abbrev pub Delivers : List ℕ → Result (List ℕ) OutOfMemory → BidderState → BidderState → Type 0
+Delivers bytes (Ok reply) b now = IsDelivered bytes b now × IsReplied bytes b reply now
+Delivers bytes (Err wanting) b now = StopsDelivering bytes b now
+
+-- the same of one whose reply is lost
+abbrev pub Brings : List ℕ → Result Unit OutOfMemory → BidderState → BidderState → Type 0
+Brings bytes (Ok done) b now = IsDelivered bytes b now
+Brings bytes (Err wanting) b now = StopsDelivering bytes b now
+
+-- a start whose put fails, so that nothing comes back; and one that answers a reply
+abbrev pub unanswered : Planned
+unanswered = record { bytes = []; start_fails = false; put_fails = true; take_fails = None }
+
+abbrev pub replying : List ℕ → Planned
+replying reply = record { bytes = reply; start_fails = false; put_fails = false; take_fails = None }
+
+-- what the start for a message is to do, by the message's fate, and what the bidder is then
+abbrev pub Prepares : Fate → List ℕ → BidderState → Planned → BidderState → Type 0
+Prepares Fate.Held bytes b p now = (p ≡ unanswered) × (now ≡ b)
+Prepares Fate.Mute bytes b p now = (p ≡ unanswered) × IsDelivered bytes b now
+Prepares Fate.Through bytes b p now =
+    (reply : List ℕ) × (p ≡ replying reply) × IsDelivered bytes b now × IsReplied bytes b reply now
+
+-- the same where memory may be wanting
+abbrev pub Meets : Fate → List ℕ → Result Planned OutOfMemory → BidderState → BidderState → Type 0
+Meets fate bytes (Ok p) b now = Prepares fate bytes b p now
+Meets fate bytes (Err wanting) b now = StopsDelivering bytes b now
+
+-- the same of messages, one after the other
+abbrev pub ArePlayed : List Call → List Fate → BidderState → List Planned → BidderState → Type 0
+ArePlayed [] fates b [] now = now ≡ b
+ArePlayed [] fates b (p ∷ plan) now = ⊥
+ArePlayed (c ∷ cs) fates b [] now = ⊥
+ArePlayed (c ∷ cs) fates b (p ∷ plan) now =
+    (mid : BidderState) × Prepares (first_fate fates) c.request b p mid × ArePlayed cs (drop 1 fates) mid plan now
+
+-- how many starts nothing comes back of
+abbrev pub fails_of : Planned → Bool
+fails_of p = p.put_fails
+
+abbrev pub failing : List Planned → ℕ
+failing plan = count_by fails_of plan
+
+-- A message was sent with that fate, and what comes of it is planned. Where memory was wanting it was sent or not, and is
+-- not planned.
+abbrev pub SendsMessage : Call → Fate → Result Unit OutOfMemory → List Call → List Call → List Planned → List Planned → BidderState → BidderState → Type 0
+SendsMessage c fate (Ok done) sent sent_now plan plan_now b now =
+    (sent_now ≡ sent ++ c ∷ [])
+    × ((p : Planned) × (plan_now ≡ plan ++ p ∷ []) × Prepares fate c.request b p now)
+SendsMessage c fate (Err wanting) sent sent_now plan plan_now b now =
+    (plan_now ≡ plan)
+    × (((sent_now ≡ sent) × (now ≡ b)) ⊎ ((sent_now ≡ sent ++ c ∷ []) × StopsDelivering c.request b now))
+
+-- the same of a post: without a message nothing is sent; a message for which there was no memory is as one that wasn't.
+-- What was sent is of a valid URL.
+abbrev pub PlaysPost : List ℕ → Option Call → Fate → Result Unit OutOfMemory → List Call → List Call → List Planned → List Planned → BidderState → BidderState → Type 0
+PlaysPost url None fate result sent sent_now plan plan_now b now = (sent_now ≡ sent) × (plan_now ≡ plan) × (now ≡ b)
+PlaysPost url (Some c) fate result sent sent_now plan plan_now b now =
+    SendsMessage c fate result sent sent_now plan plan_now b now × ((sent_now ≡ sent) ⊎ IsValidAs url)
+
+-- The messages of posts were sent, one after the other. Where memory was wanting those of a front of them were, and the
+-- next may have been.
+pub record PlaysAll (posts : List Post) (fates : List Fate) (result : Result Unit OutOfMemory) (old_sent new_sent : List Call) (plan : List Planned) (b now : BidderState) : Type 0 where
+  pub front : List Post
+  pub back : List Post
+  pub between : BidderState
+  pub more : List Call
+  pub split : posts ≡ front ++ back
+  pub all : OnOk result (back ≡ [])
+  pub played : ArePlayed (filter_map message_of front) fates b plan between
+  pub valid : All IsSendable front
+  pub cut : IsCutShort back between more now
+  pub sent : new_sent ≡ old_sent ++ (filter_map message_of front ++ more)
