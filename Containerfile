@@ -3,11 +3,13 @@
 #     ./adx --version
 #     docker build -f Containerfile -t adx crates/adx/out
 #     docker run --rm -i -v adx-days:/days adx day --journal 2025-03-01.journal < examples/first.day
-#     docker run --rm --network host -v adx-days:/days adx serve --roster 2025-03-01.roster --journal 2025-03-01.journal --port 8080 --workers 4
+#     docker run --rm -i -v adx-days:/days --entrypoint tee adx exchange.roster < examples/exchange.roster
+#     docker run --rm --init --network host -v adx-days:/days adx serve --roster exchange.roster --journal served.journal --port 8080 --workers 4
 #
-# serve listens on 127.0.0.1 alone, so it shares the network of the machine, or of the proxy in front of it.
+# serve listens on 127.0.0.1 alone, so it shares the network of the machine, or of the proxy in front of it. With --init a signal ends it at
+# once: as the first process of a container it would be ended by force alone. The journal stands in either case.
 FROM debian:stable-slim
-RUN useradd --system --uid 10001 adx && install -d -o adx -m 700 /days
+RUN useradd --uid 10001 adx && install -d -o adx -g adx -m 700 /days
 COPY adx /usr/local/bin/adx
 USER adx
 WORKDIR /days

@@ -1,5 +1,6 @@
 # What examples/talk.sh and examples/load.sh share: they read it, and it isn't run. They say before in $longest for how many seconds they
 # may run, and in $script their own path.
+# shellcheck shell=bash disable=SC2154
 
 # The program that is run; ADX names another one.
 adx=${ADX:-./adx}
