@@ -129,7 +129,13 @@ impl Numbers {
     {
         match self {
             Numbers::Fixed => out.push(&number.to_le_bytes()),
-            Numbers::Grouped => out.push(groups(u64::from(number)).as_slice()),
+            Numbers::Grouped => {
+                // Most numbers are one group, a piece of known length.
+                if number < 128 {
+                    return out.push(&[number as u8]);
+                }
+                out.push(groups(u64::from(number)).as_slice())
+            }
         }
     }
 

@@ -110,7 +110,9 @@ fn push_text(text: &[u8], numbers: Numbers, out: &mut Frame) -> Result<(), OutOf
     ensures marked { out.new.marked ≡ out.old.marked }
 {
     numbers.push_long(text.len() as u32, out)?;
-    out.push(text)?;
+    if !text.is_empty() {
+        out.push(text)?;
+    }
     Ok(())
 }
 
