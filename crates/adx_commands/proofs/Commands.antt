@@ -70,12 +70,12 @@ module _ {S K D P : Type 0} (s : sources.Ghosts S) (k : sinks.Ghosts K) (d : dis
     ended = Err Stop.OutOfMemory;
     told = refl;
     ends = tt;
-    wrote = unbegun_wrote (bidder_command None) (s.tape source) (k.held sink) (λ left. (refl, inr (([], All-nil (λ b. b ≢ 10), inl ([], zero-le, refl)), refl)));
+    wrote = unbegun_wrote (bidder_command None) (s.tape source) (k.held sink) (λ left. (refl, inr (([], All-nil (λ b. b ≢ 10), zero-le, inl ([], zero-le, refl)), refl)));
   }
 
   unserved : RunsDay d (s.tape source) (s.tape source) (k.held sink) (k.held sink) disk disk 12
   unserved =
-      let wrote = unbegun_wrote (day_command unopened) (s.tape source) (k.held sink) (λ left. (refl, inr (([], All-nil (λ b. b ≢ 10), inl ([], zero-le, refl)), refl))) in record {
+      let wrote = unbegun_wrote (day_command unopened) (s.tape source) (k.held sink) (λ left. (refl, inr (([], All-nil (λ b. b ≢ 10), zero-le, inl ([], zero-le, refl)), refl))) in record {
         course = unopened;
         ended = Err Stop.OutOfMemory;
         told = refl;
@@ -91,7 +91,7 @@ module _ {S K D P : Type 0} (s : sources.Ghosts S) (k : sinks.Ghosts K) (d : dis
     ended = Err Stop.OutOfMemory;
     told = refl;
     leaves = (refl, tt);
-    wrote = unbegun_wrote (conn_command None) (s.tape source) (k.held sink) (λ left. (refl, inr (([], All-nil (λ b. b ≢ 10), inl ([], zero-le, refl)), refl)));
+    wrote = unbegun_wrote (conn_command None) (s.tape source) (k.held sink) (λ left. (refl, inr (([], All-nil (λ b. b ≢ 10), zero-le, inl ([], zero-le, refl)), refl)));
   }
 
   generated_untaken : (seed asks : ℕ) → GeneratedRuns d seed asks (k.held sink) (k.held sink) disk disk (Err Stop.OutOfMemory)
@@ -103,7 +103,7 @@ module _ {S K D P : Type 0} (s : sources.Ghosts S) (k : sinks.Ghosts K) (d : dis
     ended = Err Stop.OutOfMemory;
     told = refl;
     leaves = (refl, tt);
-    wrote = unbegun_wrote (history_command prints None) (s.tape source) (k.held sink) (λ left. (refl, inr (([], All-nil (λ b. b ≢ 10), inl ([], zero-le, refl)), refl)));
+    wrote = unbegun_wrote (history_command prints None) (s.tape source) (k.held sink) (λ left. (refl, inr (([], All-nil (λ b. b ≢ 10), zero-le, inl ([], zero-le, refl)), refl)));
   }
 
   unreconciled : (name : List ℕ) → RunsReconciliation s k d name source source sink sink disk disk (Err Stop.OutOfMemory)
@@ -111,7 +111,7 @@ module _ {S K D P : Type 0} (s : sources.Ghosts S) (k : sinks.Ghosts K) (d : dis
     course = None;
     leaves = (refl, tt);
     runs = record {
-      wrote = unbegun_wrote (reconcile_command name None) (s.tape source) (k.held sink) (λ left. (refl, inr (([], All-nil (λ b. b ≢ 10), inl ([], zero-le, refl)), refl)));
+      wrote = unbegun_wrote (reconcile_command name None) (s.tape source) (k.held sink) (λ left. (refl, inr (([], All-nil (λ b. b ≢ 10), zero-le, inl ([], zero-le, refl)), refl)));
       causes = unbegun_counted (s.faults source) (k.faults sink);
       source_same = refl;
       sink_same = refl;

@@ -223,15 +223,16 @@ fn run_words<S: Source, K: Sink, D: Disk, P: Keeper>(
 /// or where that of `check` is no document or passes 2^31 bytes; 4 where the source failed, and then the sink took the
 /// answers to all whole lines, or the replies to all whole messages, that the source gave, where it gave the first line; 5
 /// where the sink failed, and 12 out of memory, and then the sink took a prefix of the output, for `day` the answers to
-/// all lines that were taken up but at most one, and for `conn` all replies but those to at most the last 32 messages; 6 where the disk failed while the day was opened or, for `gen`, at any
-/// time, and then the sink took nothing, or where the source was read to its end and the disk met a fault in a call
-/// that was given up by it, or, for `conn`, in the record of notices that waited, which were then taken one by one; 7
-/// where the disk's file isn't a journal of the roster's day, and then the sink took a line that says why; 8 where
-/// `check` or `archive-put` doesn't accept the certificate; 9 where the keeper failed, and then the sink took nothing;
-/// 10 where the day is kept already, or a day isn't a date, or the first is after the last, and then the sink took a
-/// line that says which. The count of faults of the source rises exactly at 4 and that of the sink exactly at 5, except
-/// where a count is at its last value; that of the disk rises in just the calls that are answered so, and for `conn` in
-/// such records. Each input has one output for each history at the start and each choice of calls that are given up.
+/// all lines that were taken up but at most one, and for `conn` all replies but those to at most the last 32 messages;
+/// 6 where the disk failed while the day was opened or, for `gen`, at any time, and then the sink took nothing, or
+/// where the source was read to its end and the disk met a fault in a call that was given up by it, or, for `conn`, in
+/// the record of notices that waited, which were then taken one by one; 7 where the disk's file isn't a journal of the
+/// roster's day, and then the sink took a line that says why; 8 where `check` or `archive-put` doesn't accept the
+/// certificate; 9 where the keeper failed, and then the sink took nothing; 10 where the day is kept already, or a day
+/// isn't a date, or the first is after the last, and then the sink took a line that says which. The count of faults of
+/// the source rises exactly at 4 and that of the sink exactly at 5, except where a count is at its last value; that of
+/// the disk rises in just the calls that are answered so, and for `conn` in such records. Each input has one output for
+/// each history at the start and each choice of calls that are given up.
 pub fn adx<S: Source, K: Sink, D: Disk, P: Keeper>(
     alloc: Global,
     words: &[Text],

@@ -1,5 +1,5 @@
 -- Memory was refused before a command on the archive began.
-use Rattle.std.proofs.Common.{inr, ℕ, List, Option, Err, refl}
+use Rattle.std.proofs.Common.{inr, ℕ, List, Option, Err, refl, zero-le}
 use Rattle.adx_io.specs.declared.sink.Sink as sink
 use Rattle.adx_io.specs.declared.source.Source as source
 use Rattle.adx_io.specs.declared.stop.Stop.{Stop}
@@ -20,7 +20,7 @@ unkept s k p from to archive = record {
   told = refl;
   left = (refl, tt);
   runs = record {
-    wrote = unbegun_wrote (document DOCUMENT_LIMIT (keeps unasked)) (s.tape from) (k.held to) (λ left. (refl, inr refl));
+    wrote = unbegun_wrote (document DOCUMENT_LIMIT (keeps unasked)) (s.tape from) (k.held to) (λ left. (refl, inr (refl, zero-le)));
     causes = unbegun_counted (s.faults from) (k.faults to);
     source_same = refl;
     sink_same = refl;

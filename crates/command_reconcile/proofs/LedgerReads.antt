@@ -1,5 +1,5 @@
 -- What is read of a ledger, line by line.
-use Rattle.std.proofs.Common.{◌≡◌, ◌≢◌, ◌∙◌, inl, inr, ℕ, ◌+◌, ◌≤◌, List, [], ◌∷◌, ◌++◌, length, false, true, Option, Some, None, Ok, Err, refl, sym, ap, ap₂, arith, append_assoc, append-nil, length-append}
+use Rattle.std.proofs.Common.{◌≡◌, ◌∙◌, inl, inr, ℕ, ◌+◌, ◌≤◌, List, [], ◌∷◌, ◌++◌, length, false, true, Option, Some, None, Ok, Err, refl, sym, ap, ap₂, arith, append_assoc, append-nil, length-append}
 use Rattle.std.specs.List.{cons_option}
 use Rattle.std.proofs.lemmas.List.Concat.{flat_map-append}
 use Rattle.std.proofs.lemmas.List.Elements.{All-nil, All-push, filter_map-append}
@@ -103,25 +103,22 @@ module _ (before mid now : TalkState) (bills : List Bill) (n : ℕ) (so_far : Wh
           },
         ))
 
+    -- what was taken is within what may be read, with the piece that wasn't looked at
+    within_all : (text line : List ℕ) (room : ℕ) → before.allowed ≡ length text + room → room ≡ length line + now.allowed → length pending ≤ now.allowed → length (text ++ (line ++ pending)) ≤ before.allowed
+    within_all text line room first second within = omega (arith, first, second, within, length-append text (line ++ pending), length-append line pending)
+
     -- memory was refused behind a line
-    pub rows_refused : (more : List Bill) → WhereTold mid.tape (tape_behind pending told) (ReadsNext INPUT_LIMIT mid now (Ok Next.Line)) → WhereTold before.tape told (ReadsLedger before.allowed more (Err Stop.OutOfMemory))
-    rows_refused more next = told_behind before.tape mid.tape pending told (ReadsRows before mid bills n) (ReadsNext INPUT_LIMIT mid now (Ok Next.Line)) (ReadsLedger before.allowed more (Err Stop.OutOfMemory)) so_far next (λ x y z r s. (
+    pub rows_refused : (more : List Bill) → length pending ≤ now.allowed → WhereTold mid.tape (tape_behind pending told) (ReadsNext INPUT_LIMIT mid now (Ok Next.Line)) → WhereTold before.tape told (ReadsLedger before.allowed more (Err Stop.OutOfMemory))
+    rows_refused more within next = told_behind before.tape mid.tape pending told (ReadsRows before mid bills n) (ReadsNext INPUT_LIMIT mid now (Ok Next.Line)) (ReadsLedger before.allowed more (Err Stop.OutOfMemory)) so_far next (λ x y z r s. (
       ledger_text r.0 ++ (ended s.0 ++ pending),
       both (ledger_text r.0) (ended s.0 ++ pending) x.left y.left z.left r.2.next (s.2.next ∙ sym (append_assoc (ended s.0) pending z.left)),
+      within_all (ledger_text r.0) (ended s.0) mid.allowed r.2.counted s.2.counted within,
     ))
 
     -- the reading stopped
-    pub rows_stop : (stop : Stop) → (stop ≢ Stop.OutOfMemory → pending ≡ []) → WhereTold mid.tape (tape_behind pending told) (ReadsNext INPUT_LIMIT mid now (Err stop)) → WhereTold before.tape told (ReadsLedger before.allowed bills (Err stop))
-    rows_stop Stop.ReadFault looked next = told_behind before.tape mid.tape pending told (ReadsRows before mid bills n) (ReadsNext INPUT_LIMIT mid now (Err Stop.ReadFault)) (ReadsLedger before.allowed bills (Err Stop.ReadFault)) so_far next (λ x y z r s. (
-      ledger_text r.0 ++ s.0,
-      both (ledger_text r.0) s.0 x.left y.left z.left r.2.next (s.2.next ∙ ap (λ (p : List ℕ). s.0 ++ (p ++ z.left)) (looked (λ e. cc e))),
-      omega (arith, r.2.counted, s.2.counted, length-append (ledger_text r.0) s.0),
-    ))
-    rows_stop Stop.WriteFault looked next = told_behind before.tape mid.tape pending told (ReadsRows before mid bills n) (ReadsNext INPUT_LIMIT mid now (Err Stop.WriteFault)) (ReadsLedger before.allowed bills (Err Stop.WriteFault)) so_far next (λ x y z r s. (
+    pub rows_stop : (stop : Stop) → length pending ≤ now.allowed → WhereTold mid.tape (tape_behind pending told) (ReadsNext INPUT_LIMIT mid now (Err stop)) → WhereTold before.tape told (ReadsLedger before.allowed bills (Err stop))
+    rows_stop stop within next = told_behind before.tape mid.tape pending told (ReadsRows before mid bills n) (ReadsNext INPUT_LIMIT mid now (Err stop)) (ReadsLedger before.allowed bills (Err stop)) so_far next (λ x y z r s. (
       ledger_text r.0 ++ (s.0 ++ pending),
       both (ledger_text r.0) (s.0 ++ pending) x.left y.left z.left r.2.next (s.2.next ∙ sym (append_assoc s.0 pending z.left)),
-    ))
-    rows_stop Stop.OutOfMemory looked next = told_behind before.tape mid.tape pending told (ReadsRows before mid bills n) (ReadsNext INPUT_LIMIT mid now (Err Stop.OutOfMemory)) (ReadsLedger before.allowed bills (Err Stop.OutOfMemory)) so_far next (λ x y z r s. (
-      ledger_text r.0 ++ (s.0 ++ pending),
-      both (ledger_text r.0) (s.0 ++ pending) x.left y.left z.left r.2.next (s.2.next ∙ sym (append_assoc s.0 pending z.left)),
+      within_all (ledger_text r.0) s.0 mid.allowed r.2.counted s.2.counted within,
     ))

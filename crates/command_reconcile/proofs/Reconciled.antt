@@ -29,13 +29,13 @@ module _ (allowed : ℕ) (ends : Ending) (held held_now : Option (List ℕ)) whe
   put_wrote input taken left out outcome (Err Stop.OutOfMemory) is so (front, back, split, took) = (taken, [], out, front, back, is, (refl, inl (outcome, so)), split, took)
 
   -- nothing was put before the run was cut short
-  pub cut_wrote : (input taken left : List ℕ) → input ≡ taken ++ left → held_now ≡ held → Wrote (at_end allowed ends) input left held held_now (Err Stop.OutOfMemory)
-  cut_wrote input taken left is same = (taken, [], [], [], [], is, (refl, inr refl), refl, same ∙ took_none held)
+  pub cut_wrote : (input taken left : List ℕ) → input ≡ taken ++ left → length taken ≤ allowed → held_now ≡ held → Wrote (at_end allowed ends) input left held held_now (Err Stop.OutOfMemory)
+  cut_wrote input taken left is few same = (taken, [], [], [], [], is, (refl, inr (refl, few)), refl, same ∙ took_none held)
 
   stopped : (bills : List Bill) (stop : Stop) (x y : Tape) → ReadsLedger allowed bills (Err stop) x y → held_now ≡ held → Wrote (at_end allowed ends) x.left y.left held held_now (Err stop)
   stopped bills Stop.ReadFault x y (taken, is, few) same = (taken, [], is, (few, refl), same ∙ took_none held)
-  stopped bills Stop.WriteFault x y (taken, is) same = (taken, [], [], [], [], is, (refl, inr refl), refl, same ∙ took_none held)
-  stopped bills Stop.OutOfMemory x y (taken, is) same = (taken, [], [], [], [], is, (refl, inr refl), refl, same ∙ took_none held)
+  stopped bills Stop.WriteFault x y (taken, is, few) same = (taken, [], [], [], [], is, (refl, inr (refl, few)), refl, same ∙ took_none held)
+  stopped bills Stop.OutOfMemory x y (taken, is, few) same = cut_wrote x.left taken y.left is few same
 
   pub told_stopped : (bills : List Bill) (stop : Stop) (tape now : Option Tape) → WhereTold tape now (ReadsLedger allowed bills (Err stop)) → held_now ≡ held → WhereTold tape now (λ x y. Wrote (at_end allowed ends) x.left y.left held held_now (Err stop))
   told_stopped bills stop tape now reads same = told_map tape now (ReadsLedger allowed bills (Err stop)) _ reads (λ x y r. stopped bills stop x y r same)
@@ -45,8 +45,8 @@ module _ (allowed : ℕ) (ends : Ending) (held held_now : Option (List ℕ)) whe
       → WhereTold (tape_behind pending told) told (λ x y. Wrote (at_end allowed ends) x.left y.left held held_now result)
   told_unread pending out outcome told result so puts = told_ahead pending told _ (λ z. put_wrote (pending ++ z.left) pending z.left out outcome result refl (so z.left) puts)
 
-  pub told_refused : (pending : List ℕ) (told : Option Tape) → held_now ≡ held → WhereTold (tape_behind pending told) told (λ x y. Wrote (at_end allowed ends) x.left y.left held held_now (Err Stop.OutOfMemory))
-  told_refused pending told same = told_ahead pending told _ (λ z. cut_wrote (pending ++ z.left) pending z.left refl same)
+  pub told_refused : (pending : List ℕ) (told : Option Tape) → length pending ≤ allowed → held_now ≡ held → WhereTold (tape_behind pending told) told (λ x y. Wrote (at_end allowed ends) x.left y.left held held_now (Err Stop.OutOfMemory))
+  told_refused pending told few same = told_ahead pending told _ (λ z. cut_wrote (pending ++ z.left) pending z.left refl few same)
 
 module _ (owed : List Bill) (allowed : ℕ) (tape now : Option Tape) (held held_now : Option (List ℕ)) where
   -- the reconciliation of a ledger
@@ -55,7 +55,7 @@ module _ (owed : List Bill) (allowed : ℕ) (tape now : Option Tape) (held held_
   told_all bills result reads (inl (out, is, puts)) = told_map tape now (ReadsLedger allowed bills (Ok None)) _ reads (λ x y r.
       put_wrote allowed (EndsLedger owed allowed) held held_now x.left r.0 y.left out Outcome.Done result r.1 (inl (r.2, r.3, refl, subst (λ (told : List Bill). IsReconciliation owed told out) r.4 is)) puts)
   told_all bills result reads (inr (same, refused)) = subst (λ e. WhereTold tape now (λ x y. Wrote (at_end allowed (EndsLedger owed allowed)) x.left y.left held held_now e)) (sym refused)
-      (told_map tape now (ReadsLedger allowed bills (Ok None)) _ reads (λ x y r. cut_wrote allowed (EndsLedger owed allowed) held held_now x.left r.0 y.left r.1 same))
+      (told_map tape now (ReadsLedger allowed bills (Ok None)) _ reads (λ x y r. cut_wrote allowed (EndsLedger owed allowed) held held_now x.left r.0 y.left r.1 r.3.few same))
 
   -- the line that tells no row
   pub told_failing : (bills : List Bill) (n : ℕ) (result : Result Outcome Stop) → WhereTold tape now (ReadsLedger allowed bills (Ok (Some n))) → PutsEnd Outcome.Refused held held_now (no_row_line n) result
@@ -87,14 +87,14 @@ pub no_place : (r : Roster) (history : List Entry) (allowed : ℕ) (place : Opti
 no_place r history allowed place pending left none few = subst (λ (p : Option ℕ). EndsOpened r history allowed p Outcome.Refused pending left no_bidder_line) (sym none) (few, refl, refl)
 
 -- why the day wasn't opened
-module _ (name : List ℕ) (r : Roster) (allowed : ℕ) (why : DeskFault) (held held_now : Option (List ℕ)) (pending : List ℕ) (few : length pending ≤ CHUNK) (told : Option Tape) where
+module _ (name : List ℕ) (r : Roster) (allowed : ℕ) (why : DeskFault) (held held_now : Option (List ℕ)) (pending : List ℕ) (few : length pending ≤ CHUNK) (within : length pending ≤ allowed) (told : Option Tape) where
   abbrev Writes : Result Outcome Stop → Type 0
   Writes result = WhereTold (tape_behind pending told) told (λ x y. Wrote (at_end allowed (EndsDay name r allowed (Err why))) x.left y.left held held_now result)
 
   told_line : (result : Result Outcome Stop) → (((outcome : Outcome) × (unopened_end why ≡ Ok outcome) × PutsEnd outcome held held_now (unopened_line why) result) ⊎ ((held_now ≡ held) × (result ≡ Err Stop.OutOfMemory))) → Writes result
   told_line result (inl (outcome, is, puts)) =
       told_unread allowed (EndsDay name r allowed (Err why)) held held_now pending (unopened_line why) outcome told result (λ left. (few, is, refl)) puts
-  told_line result (inr (same, refused)) = subst Writes (sym refused) (told_refused allowed (EndsDay name r allowed (Err why)) held held_now pending told same)
+  told_line result (inr (same, refused)) = subst Writes (sym refused) (told_refused allowed (EndsDay name r allowed (Err why)) held held_now pending told within same)
 
   pub told_unopened : (result : Result Outcome Stop) → PutsUnopened why held held_now result → Writes result
   told_unopened result puts = told_line result (unopened_by held held_now why result puts)

@@ -38,9 +38,7 @@ abbrev pub ReadsLedger : ℕ → List Bill → Result (Option ℕ) Stop → Tape
 ReadsLedger allowed bills (Ok None) old new =
     (taken : List ℕ) × (old.left ≡ taken ++ new.left) × (rows : List LedgerRow) × IsLedger allowed taken new.left rows × (bills ≡ ledger_bills rows)
 ReadsLedger allowed bills (Ok (Some n)) old new = (taken : List ℕ) × (old.left ≡ taken ++ new.left) × FailsAt allowed taken new.left n
-ReadsLedger allowed bills (Err Stop.ReadFault) old new = (taken : List ℕ) × (old.left ≡ taken ++ new.left) × (length taken ≤ allowed)
-ReadsLedger allowed bills (Err Stop.WriteFault) old new = (taken : List ℕ) × (old.left ≡ taken ++ new.left)
-ReadsLedger allowed bills (Err Stop.OutOfMemory) old new = (taken : List ℕ) × (old.left ≡ taken ++ new.left)
+ReadsLedger allowed bills (Err stop) old new = (taken : List ℕ) × (old.left ≡ taken ++ new.left) × (length taken ≤ allowed)
 
 -- the reconciliation of these bills was put, or a prefix of it; or memory was refused before
 abbrev pub PutsReconciliation : List Bill → List Bill → Option (List ℕ) → Option (List ℕ) → Result Outcome Stop → Type 0

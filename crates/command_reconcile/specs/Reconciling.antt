@@ -60,7 +60,8 @@ abbrev pub at_end : ℕ → Ending → Meaning
 at_end allowed ends = record {
   ends = ends;
   awaits = λ taken out. (length taken ≤ allowed) × (out ≡ []);
-  breaks = λ taken left put last. (put ≡ []) × (((outcome : Outcome) × ends outcome taken left last) ⊎ (last ≡ []));
+  breaks = λ taken left put last.
+      (put ≡ []) × (((outcome : Outcome) × ends outcome taken left last) ⊎ ((last ≡ []) × (length taken ≤ allowed)));
 }
 
 -- what is meant for what comes after a roster's line, for the bidder with that name, by what came of the roster's day

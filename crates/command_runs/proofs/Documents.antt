@@ -1,5 +1,5 @@
 -- What came of a document, by what was read of it and what was put.
-use Rattle.std.proofs.Common.{◌≡◌, inl, inr, ℕ, ◌≤◌, List, [], ◌∷◌, ◌++◌, length, Option, Result, Ok, Err, refl, sym, ap, ◌∙◌, subst, arith, append_assoc}
+use Rattle.std.proofs.Common.{◌≡◌, inl, inr, ℕ, ◌≤◌, List, [], ◌∷◌, ◌++◌, length, Option, Result, Ok, Err, refl, sym, ap, ◌∙◌, subst, arith, append_assoc, length-append}
 use Rattle.adx_io.specs.Lines.{tape_behind}
 use Rattle.adx_io.specs.Rest.{ReadsRest, Within}
 use Rattle.adx_io.specs.Streams.{Tape, WhereTold}
@@ -47,8 +47,8 @@ module _ (limit : ℕ) (judges : Judging) (held held_now : Option (List ℕ)) wh
   -- the run stopped, and nothing was put
   pub stopped : (stop : Stop) (input taken left : List ℕ) → input ≡ taken ++ left → length taken ≤ limit → held_now ≡ held → Wrote (document limit judges) input left held held_now (Err stop)
   stopped Stop.ReadFault input taken left is few same = (taken, [], is, (few, refl), same ∙ took_none held)
-  stopped Stop.WriteFault input taken left is few same = (taken, [], [], [], [], is, (refl, inr refl), refl, same ∙ took_none held)
-  stopped Stop.OutOfMemory input taken left is few same = (taken, [], [], [], [], is, (refl, inr refl), refl, same ∙ took_none held)
+  stopped Stop.WriteFault input taken left is few same = (taken, [], [], [], [], is, (refl, inr (refl, omega (arith, few))), refl, same ∙ took_none held)
+  stopped Stop.OutOfMemory input taken left is few same = (taken, [], [], [], [], is, (refl, inr (refl, omega (arith, few))), refl, same ∙ took_none held)
 
   pub told_stopped : (stop : Stop) (pending bytes : List ℕ) (tape now : Option Tape) → pending ≡ [] → WhereTold tape now (ReadsRest limit [] bytes (Err stop)) → Within limit [] bytes → held_now ≡ held
       → WhereTold (tape_behind pending tape) now (λ x y. Wrote (document limit judges) x.left y.left held held_now (Err stop))
@@ -57,21 +57,21 @@ module _ (limit : ℕ) (judges : Judging) (held held_now : Option (List ℕ)) wh
       stopped stop x.left bytes y.left (r.2 ∙ ap (λ b. b ++ y.left) (sym r.1)) (small bytes within) same))
 
   -- memory was refused behind the document
-  unjudged : (rest : Rest) (bytes : List ℕ) (old new : Tape) → ReadsRest limit [] bytes (Ok rest) old new → held_now ≡ held → Wrote (document limit judges) old.left new.left held held_now (Err Stop.OutOfMemory)
-  unjudged Rest.Whole bytes old new reads same = (bytes, [], [], [], [], reads.0.2 ∙ ap (λ b. b ++ new.left) (sym reads.0.1), (refl, inr refl), refl, same ∙ took_none held)
-  unjudged Rest.PastLimit bytes old new reads same = (
+  unjudged : (rest : Rest) (bytes : List ℕ) (old new : Tape) → ReadsRest limit [] bytes (Ok rest) old new → Within limit [] bytes → held_now ≡ held → Wrote (document limit judges) old.left new.left held held_now (Err Stop.OutOfMemory)
+  unjudged Rest.Whole bytes old new reads within same = (bytes, [], [], [], [], reads.0.2 ∙ ap (λ b. b ++ new.left) (sym reads.0.1), (refl, inr (refl, omega (arith, small bytes within))), refl, same ∙ took_none held)
+  unjudged Rest.PastLimit bytes old new reads within same = (
     bytes ++ reads.1 ∷ [],
     [],
     [],
     [],
     [],
     reads.2.2 ∙ ap (λ b. b ++ reads.0.left) (sym reads.2.1) ∙ ap (λ l. bytes ++ l) reads.4 ∙ sym (append_assoc bytes (reads.1 ∷ []) new.left),
-    (refl, inr refl),
+    (refl, inr (refl, omega (arith, small bytes within, length-append bytes (reads.1 ∷ [])))),
     refl,
     same ∙ took_none held,
   )
 
-  pub told_unjudged : (rest : Rest) (pending bytes : List ℕ) (tape now : Option Tape) → pending ≡ [] → WhereTold tape now (ReadsRest limit [] bytes (Ok rest)) → held_now ≡ held
+  pub told_unjudged : (rest : Rest) (pending bytes : List ℕ) (tape now : Option Tape) → pending ≡ [] → WhereTold tape now (ReadsRest limit [] bytes (Ok rest)) → Within limit [] bytes → held_now ≡ held
       → WhereTold (tape_behind pending tape) now (λ x y. Wrote (document limit judges) x.left y.left held held_now (Err Stop.OutOfMemory))
-  told_unjudged rest pending bytes tape now none reads same =
-      told_unread pending tape now _ none (told_map tape now (ReadsRest limit [] bytes (Ok rest)) _ reads (λ x y r. unjudged rest bytes x y r same))
+  told_unjudged rest pending bytes tape now none reads within same =
+      told_unread pending tape now _ none (told_map tape now (ReadsRest limit [] bytes (Ok rest)) _ reads (λ x y r. unjudged rest bytes x y r within same))

@@ -1,5 +1,5 @@
 -- What came of a first line, by what was read of it and what was put.
-use Rattle.std.proofs.Common.{◌≡◌, ◌≢◌, inl, inr, ℕ, ◌+◌, ◌-◌, ◌≤◌, List, [], ◌∷◌, ◌++◌, length, take, Option, Some, None, Result, Ok, Err, refl, sym, ap, ◌∙◌, subst, arith, append_assoc}
+use Rattle.std.proofs.Common.{◌≡◌, ◌≢◌, inl, inr, ℕ, ◌+◌, ◌-◌, ◌≤◌, List, [], ◌∷◌, ◌++◌, length, take, Option, Some, None, Result, Ok, Err, refl, sym, ap, ◌∙◌, subst, arith, append_assoc, length-append}
 use Rattle.std.proofs.Math.Seq.{take-nil}
 use Rattle.adx_io.specs.Lines.{HasNoNewline, Keeps, tape_behind}
 use Rattle.adx_io.specs.Streams.{Tape, Took, WhereTold}
@@ -88,14 +88,14 @@ module _ {H : Type 0} (heads : Heads H) (limit : ℕ) where
   unanswered_wrote input taken left held held_now is unanswered same =
       (taken, [], [], [], [], is, (refl, inr (unanswered, refl)), refl, same ∙ took_none held)
 
-  stopped_wrote : (stop : Stop) (input front pending left : List ℕ) (held held_now : Option (List ℕ)) → input ≡ front ++ (pending ++ left) → HasNoNewline front → length front ≤ limit → length pending ≤ CHUNK → (stop ≢ Stop.OutOfMemory → pending ≡ []) → held_now ≡ held
+  stopped_wrote : (stop : Stop) (input front pending left : List ℕ) (held held_now : Option (List ℕ)) → input ≡ front ++ (pending ++ left) → HasNoNewline front → length (front ++ pending) ≤ limit → length pending ≤ CHUNK → (stop ≢ Stop.OutOfMemory → pending ≡ []) → held_now ≡ held
       → Wrote (headless heads limit) input left held held_now (Err stop)
   stopped_wrote Stop.ReadFault input front pending left held held_now is none few small looked same =
-      (front, [], is ∙ ap (λ p. front ++ (p ++ left)) (looked (λ e. cc e)), (none, few, refl), same ∙ took_none held)
+      (front, [], is ∙ ap (λ p. front ++ (p ++ left)) (looked (λ e. cc e)), (none, omega (arith, few, length-append front pending), refl), same ∙ took_none held)
   stopped_wrote Stop.WriteFault input front pending left held held_now is none few small looked same =
-      (front ++ pending, [], [], [], [], is ∙ sym (append_assoc front pending left), (refl, inr ((front, none, inl (pending, small, refl)), refl)), refl, same ∙ took_none held)
+      (front ++ pending, [], [], [], [], is ∙ sym (append_assoc front pending left), (refl, inr ((front, none, few, inl (pending, small, refl)), refl)), refl, same ∙ took_none held)
   stopped_wrote Stop.OutOfMemory input front pending left held held_now is none few small looked same =
-      unanswered_wrote input (front ++ pending) left held held_now (is ∙ sym (append_assoc front pending left)) (front, none, inl (pending, small, refl)) same
+      unanswered_wrote input (front ++ pending) left held held_now (is ∙ sym (append_assoc front pending left)) (front, none, few, inl (pending, small, refl)) same
 
   -- what a talk read
   module _ (before mid : TalkState) (whole : before.allowed ≡ limit) where
@@ -120,9 +120,9 @@ module _ {H : Type 0} (heads : Heads H) (limit : ℕ) where
           found line left none (inr f) = inr (NoLine.Long, inl (line, none, f.0, (pending, few, refl)), f.2)
 
       -- a line, and memory was refused
-      pub told_unanswered : WhereTold before.tape (tape_behind pending told) (ReadsNext LINE_LIMIT before mid (Ok Next.Line)) → held_now ≡ before.held → WhereTold before.tape told (λ x y. Wrote (headless heads limit) x.left y.left before.held held_now (Err Stop.OutOfMemory))
-      told_unanswered reads same = told_source before.tape pending told (ReadsNext LINE_LIMIT before mid (Ok Next.Line)) _ reads (λ x z r.
-          unanswered_wrote x.left (ended r.0 ++ pending) z.left before.held held_now (r.2.next ∙ sym (append_assoc (ended r.0) pending z.left)) (r.0, r.1.no_newline, inr (pending, few, refl)) same)
+      pub told_unanswered : length pending ≤ mid.allowed → WhereTold before.tape (tape_behind pending told) (ReadsNext LINE_LIMIT before mid (Ok Next.Line)) → held_now ≡ before.held → WhereTold before.tape told (λ x y. Wrote (headless heads limit) x.left y.left before.held held_now (Err Stop.OutOfMemory))
+      told_unanswered within reads same = told_source before.tape pending told (ReadsNext LINE_LIMIT before mid (Ok Next.Line)) _ reads (λ x z r.
+          unanswered_wrote x.left (ended r.0 ++ pending) z.left before.held held_now (r.2.next ∙ sym (append_assoc (ended r.0) pending z.left)) (r.0, r.1.no_newline, omega (arith, whole, r.2.counted, within, length-append (ended r.0) pending), inr (pending, few, refl)) same)
 
       -- no line
       pub told_cut : (why : NoLine) (result : Result Outcome Stop) → pending ≡ [] → ((line : List ℕ) → Keeps LINE_LIMIT mid.overlong mid.line line → IsLackIn line why) → WhereTold before.tape (tape_behind pending told) (ReadsNext LINE_LIMIT before mid (Ok Next.End))
@@ -139,7 +139,7 @@ module _ {H : Type 0} (heads : Heads H) (limit : ℕ) where
           (r.3 ∙ ap (λ (p : List ℕ). r.0 ++ r.1 ∷ (p ++ z.left)) none ∙ sym (append_assoc r.0 (r.1 ∷ []) z.left))
           (inr (NoLine.Long, inr (inr (r.0, r.1, r.2, r.4 ∙ whole, refl)), refl)) puts)
 
-      pub told_stopped : (stop : Stop) → (stop ≢ Stop.OutOfMemory → pending ≡ []) → WhereTold before.tape (tape_behind pending told) (ReadsNext LINE_LIMIT before mid (Err stop)) → held_now ≡ before.held
+      pub told_stopped : (stop : Stop) → length pending ≤ mid.allowed → (stop ≢ Stop.OutOfMemory → pending ≡ []) → WhereTold before.tape (tape_behind pending told) (ReadsNext LINE_LIMIT before mid (Err stop)) → held_now ≡ before.held
           → WhereTold before.tape told (λ x y. Wrote (headless heads limit) x.left y.left before.held held_now (Err stop))
-      told_stopped stop looked reads same = told_source before.tape pending told (ReadsNext LINE_LIMIT before mid (Err stop)) _ reads (λ x z r.
-          stopped_wrote stop x.left r.0 pending z.left before.held held_now r.2.next r.1 (omega (arith, whole, r.2.counted)) few looked same)
+      told_stopped stop within looked reads same = told_source before.tape pending told (ReadsNext LINE_LIMIT before mid (Err stop)) _ reads (λ x z r.
+          stopped_wrote stop x.left r.0 pending z.left before.held held_now r.2.next r.1 (omega (arith, whole, r.2.counted, within, length-append r.0 pending)) few looked same)

@@ -1,5 +1,5 @@
 -- What is read of the rest of an input that is read through.
-use Rattle.std.proofs.Common.{◌≡◌, ◌≢◌, ℕ, List, [], ◌∷◌, ◌++◌, length, Option, Ok, Err, refl, sym, ap, ◌∙◌, arith, append_assoc, append-nil, length-append}
+use Rattle.std.proofs.Common.{◌≡◌, ℕ, ◌≤◌, List, [], ◌∷◌, ◌++◌, length, Option, Ok, Err, refl, sym, ap, ◌∙◌, arith, append_assoc, append-nil, length-append}
 use Rattle.adx_io.specs.Lines.{tape_behind}
 use Rattle.adx_io.specs.Streams.{Tape, WhereTold}
 use Rattle.adx_io.specs.Talk.{Reads, ReadsNext, TalkState, ended}
@@ -47,13 +47,9 @@ module _ (before mid now : TalkState) (so_far : WhereTold before.tape mid.tape (
       omega (arith, r.1.counted, s.4, length-append r.0 s.0),
     ))
 
-    pub skips_some : (stop : Stop) → (stop ≢ Stop.OutOfMemory → pending ≡ []) → WhereTold mid.tape (tape_behind pending told) (ReadsNext 0 mid now (Err stop)) → WhereTold before.tape told (SkipsRest before.allowed (Err stop))
-    skips_some Stop.ReadFault looked next = told_behind before.tape mid.tape pending told (ReadsSome before mid) (ReadsNext 0 mid now (Err Stop.ReadFault)) _ so_far next (λ x y z r s. (
-      r.0 ++ s.0,
-      both r.0 s.0 x.left y.left z.left r.1.next (s.2.next ∙ ap (λ (p : List ℕ). s.0 ++ (p ++ z.left)) (looked (λ e. cc e))),
-      omega (arith, r.1.counted, s.2.counted, length-append r.0 s.0),
+    pub skips_some : (stop : Stop) → length pending ≤ now.allowed → WhereTold mid.tape (tape_behind pending told) (ReadsNext 0 mid now (Err stop)) → WhereTold before.tape told (SkipsRest before.allowed (Err stop))
+    skips_some stop within next = told_behind before.tape mid.tape pending told (ReadsSome before mid) (ReadsNext 0 mid now (Err stop)) _ so_far next (λ x y z r s. (
+      (r.0 ++ s.0) ++ pending,
+      both r.0 s.0 x.left y.left (pending ++ z.left) r.1.next s.2.next ∙ sym (append_assoc (r.0 ++ s.0) pending z.left),
+      omega (arith, r.1.counted, s.2.counted, within, length-append r.0 s.0, length-append (r.0 ++ s.0) pending),
     ))
-    skips_some Stop.WriteFault looked next = told_behind before.tape mid.tape pending told (ReadsSome before mid) (ReadsNext 0 mid now (Err Stop.WriteFault)) _ so_far next (λ x y z r s.
-        ((r.0 ++ s.0) ++ pending, both r.0 s.0 x.left y.left (pending ++ z.left) r.1.next s.2.next ∙ sym (append_assoc (r.0 ++ s.0) pending z.left)))
-    skips_some Stop.OutOfMemory looked next = told_behind before.tape mid.tape pending told (ReadsSome before mid) (ReadsNext 0 mid now (Err Stop.OutOfMemory)) _ so_far next (λ x y z r s.
-        ((r.0 ++ s.0) ++ pending, both r.0 s.0 x.left y.left (pending ++ z.left) r.1.next s.2.next ∙ sym (append_assoc (r.0 ++ s.0) pending z.left)))

@@ -36,9 +36,11 @@ module _ {H : Type 0} (heads : Heads H) (limit : ℕ) where
       ((line : List ℕ) × HasNoNewline line × (length line ≤ LINE_LIMIT) × heads.refuses line out × IsAhead (ended line) taken)
       ⊎ ((why : NoLine) × HasNoLine limit why taken left × (out ≡ heads.lacks why))
 
-  -- Nothing but the first line, or a part of it, was read, and no more than a piece was taken behind that.
+  -- Nothing but the first line, or a part of it, was read, and no more than a piece was taken behind that; all of it is
+  -- within the limit.
   abbrev pub IsUnanswered : List ℕ → Type 0
-  IsUnanswered taken = (line : List ℕ) × HasNoNewline line × (IsAhead line taken ⊎ IsAhead (ended line) taken)
+  IsUnanswered taken =
+      (line : List ℕ) × HasNoNewline line × (length taken ≤ limit) × (IsAhead line taken ⊎ IsAhead (ended line) taken)
 
   -- what a command means whose first line told no head: the line was refused, or the run stopped before it was judged
   abbrev pub headless : Meaning

@@ -102,7 +102,7 @@ pub struct Document<'a, J: Judge> {
 
 impl<J: Judge> Command for Document<'_, J> {
     ghost use Rattle.std.specs.Prelude.{◌≡◌, ◌∷◌, [], refl, Err};
-    ghost use Rattle.std.proofs.Common.{inr};
+    ghost use Rattle.std.proofs.Common.{inr, zero-le};
     ghost use Rattle.adx_io.specs.Streams.{WhereTold};
     ghost use Rattle.adx_io.specs.declared.stop.Stop.{Stop};
     ghost use Rattle.command_runs.specs.Documents.{document};
@@ -116,7 +116,7 @@ impl<J: Judge> Command for Document<'_, J> {
 
     ghost place = { λ s. s.judge.ghost_name ∷ J.place s.judge.now };
 
-    ghost unbegun = { λ s. ((J.unjudged s.judge.now).0, (J.unjudged s.judge.now).1 Stop.OutOfMemory, λ left. (refl, inr refl)) };
+    ghost unbegun = { λ s. ((J.unjudged s.judge.now).0, (J.unjudged s.judge.now).1 Stop.OutOfMemory, λ left. (refl, inr (refl, zero-le))) };
 
     fn run<S: Source, K: Sink>(
         &mut self,

@@ -187,7 +187,7 @@ impl<L: Led> Command for FirstLine<'_, L> {
 
     ghost place = { λ s. s.led.ghost_name ∷ L.place s.led.now };
 
-    ghost unbegun = { λ s. (None, (refl, tt), λ left. (refl, inr (([], All-nil (λ b. b ≢ 10), inl ([], zero-le, refl)), refl))) };
+    ghost unbegun = { λ s. (None, (refl, tt), λ left. (refl, inr (([], All-nil (λ b. b ≢ 10), zero-le, inl ([], zero-le, refl)), refl))) };
 
     fn run<S: Source, K: Sink>(
         &mut self,

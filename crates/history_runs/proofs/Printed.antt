@@ -1,5 +1,5 @@
 -- What a run that prints of a history wrote, by what was read and what was put.
-use Rattle.std.proofs.Common.{◌≡◌, ◌≢◌, ◌⊎◌, inl, inr, ℕ, List, [], ◌∷◌, ◌++◌, Option, Result, Ok, Err, refl, sym, ap, ◌∙◌, subst, append_assoc, append-nil}
+use Rattle.std.proofs.Common.{◌≡◌, ◌≢◌, ◌⊎◌, inl, inr, ℕ, List, [], ◌∷◌, ◌++◌, Option, Result, Ok, Err, refl, sym, ap, ◌∙◌, subst, arith, append_assoc, append-nil}
 use Rattle.adx_io.specs.Streams.{Tape, WhereTold}
 use Rattle.adx_io.specs.declared.rest.Rest.{Rest}
 use Rattle.adx_io.specs.declared.stop.Stop.{Stop}
@@ -65,5 +65,5 @@ module _ (prints : Prints) (r : Roster) (allowed : ℕ) (tape now : Option Tape)
 
   pub told_stopped : (stop : Stop) → WhereTold tape now (SkipsRest allowed (Err stop)) → held_now ≡ held → WhereTold tape now (λ x y. Wrote (document allowed (tells prints r Opening.unopened)) x.left y.left held held_now (Err stop))
   told_stopped Stop.ReadFault reads same = told_map tape now (SkipsRest allowed (Err Stop.ReadFault)) _ reads (λ x y s. (s.0, [], s.1, (s.2, refl), same ∙ took_none held))
-  told_stopped Stop.WriteFault reads same = told_map tape now (SkipsRest allowed (Err Stop.WriteFault)) _ reads (λ x y s. (s.0, [], [], [], [], s.1, (refl, inr refl), refl, same ∙ took_none held))
-  told_stopped Stop.OutOfMemory reads same = told_map tape now (SkipsRest allowed (Err Stop.OutOfMemory)) _ reads (λ x y s. (s.0, [], [], [], [], s.1, (refl, inr refl), refl, same ∙ took_none held))
+  told_stopped Stop.WriteFault reads same = told_map tape now (SkipsRest allowed (Err Stop.WriteFault)) _ reads (λ x y s. (s.0, [], [], [], [], s.1, (refl, inr (refl, omega (arith, s.2))), refl, same ∙ took_none held))
+  told_stopped Stop.OutOfMemory reads same = told_map tape now (SkipsRest allowed (Err Stop.OutOfMemory)) _ reads (λ x y s. (s.0, [], [], [], [], s.1, (refl, inr (refl, omega (arith, s.2))), refl, same ∙ took_none held))

@@ -1,5 +1,5 @@
 -- Each end of the reading, by the rows before it.
-use Rattle.std.proofs.Common.{◌≡◌, ◌∙◌, ◌+◌, Bool, refl, ap, subst, arith, Ok}
+use Rattle.std.proofs.Common.{◌≡◌, ◌∙◌, ◌+◌, Bool, refl, ap, subst, arith, Ok, length, le-add_right}
 use Rattle.adx_io.specs.Talk.{Puts}
 use Rattle.adx_io.specs.TalkState.{state_of}
 use Rattle.adx_io.specs.declared.talk.Next.{Next}
@@ -41,7 +41,7 @@ pub returns-in-None-clause-reads : goal.returns-in-None-clause-reads
 returns-in-None-clause-reads g c =
     let is : c.next_line.result ≡ Ok Next.Line = c.in-Ok-Line.is ∙ ap Ok c.in-Ok-Line.field-0-is in
     let now = c.next_line.new.self in
-    rows_refused (state_of c.args.talk.now) (state_of c.lines.talk) (state_of now) c.lines.bills.items c.lines.number c.lines.invariant.reads now.buffer.now.pending (g.S.Source.tape now.source.now) c.take_row.new.bills.items (rw is at c.next_line.ensures.reads)
+    rows_refused (state_of c.args.talk.now) (state_of c.lines.talk) (state_of now) c.lines.bills.items c.lines.number c.lines.invariant.reads now.buffer.now.pending (g.S.Source.tape now.source.now) c.take_row.new.bills.items (le-add_right (length now.buffer.now.pending) now.room) (rw is at c.next_line.ensures.reads)
 
 pub returns-in-Ok-false-clause-reads : goal.returns-in-Ok-false-clause-reads
 returns-in-Ok-false-clause-reads g c =
@@ -54,7 +54,7 @@ pub returns-in-Err-take_row-clause-reads : goal.returns-in-Err-take_row-clause-r
 returns-in-Err-take_row-clause-reads g c =
     let is : c.next_line.result ≡ Ok Next.Line = c.in-Ok-Line.is ∙ ap Ok c.in-Ok-Line.field-0-is in
     let now = c.next_line.new.self in
-    rows_refused (state_of c.args.talk.now) (state_of c.lines.talk) (state_of now) c.lines.bills.items c.lines.number c.lines.invariant.reads now.buffer.now.pending (g.S.Source.tape now.source.now) c.take_row.new.bills.items (rw is at c.next_line.ensures.reads)
+    rows_refused (state_of c.args.talk.now) (state_of c.lines.talk) (state_of now) c.lines.bills.items c.lines.number c.lines.invariant.reads now.buffer.now.pending (g.S.Source.tape now.source.now) c.take_row.new.bills.items (le-add_right (length now.buffer.now.pending) now.room) (rw is at c.next_line.ensures.reads)
 
 pub returns-in-Ok-End-clause-reads : goal.returns-in-Ok-End-clause-reads
 returns-in-Ok-End-clause-reads g c =
@@ -74,4 +74,4 @@ pub returns-in-Err-clause-reads : goal.returns-in-Err-clause-reads
 returns-in-Err-clause-reads g c =
     let now = c.next_line.new.self in
     rows_stop (state_of c.args.talk.now) (state_of c.lines.talk) (state_of now) c.lines.bills.items c.lines.number c.lines.invariant.reads now.buffer.now.pending (g.S.Source.tape now.source.now) c.in-Err.stop
-    (λ other. c.in-Err.ensures.looked (λ e. cc e) (λ e. other (cc e))) c.in-Err.ensures.reads
+    (le-add_right (length now.buffer.now.pending) now.room) c.in-Err.ensures.reads

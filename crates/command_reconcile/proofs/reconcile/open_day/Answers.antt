@@ -1,5 +1,5 @@
 -- The day was opened on the lent disk and reconciled, or it wasn't opened.
-use Rattle.std.proofs.Common.{List, Option, Ok, Err, refl, sym, ap, subst, rules}
+use Rattle.std.proofs.Common.{List, Option, Ok, Err, refl, sym, ap, subst, length, le-add_right, rules}
 use Rattle.std.specs.Borrow.{MutBor}
 use Rattle.adx_io.specs.Streams.{Tape, WhereTold}
 use Rattle.adx_io.specs.TalkState.{state_of}
@@ -41,5 +41,5 @@ returns-in-Err-clause-ran g c =
       Err why,
       (left.0, left.1, gives_up why before.held held result puts),
       subst (λ (t : Option Tape). WhereTold before.tape t (λ x y. Wrote (at_end before.allowed (EndsDay c.args.name.now roster before.allowed (Err why))) x.left y.left before.held held result)) (sym (ap (λ (x : MutBor _). g.S.Source.tape x.now) c.tell_unopened.ensures.rest.0))
-          (told_unopened c.args.name.now roster before.allowed why before.held held talk.buffer.now.pending c.requires.ahead (g.S.Source.tape talk.source.now) result puts),
+          (told_unopened c.args.name.now roster before.allowed why before.held held talk.buffer.now.pending c.requires.ahead (le-add_right (length talk.buffer.now.pending) talk.room) (g.S.Source.tape talk.source.now) result puts),
     )

@@ -1,5 +1,5 @@
 -- The ledger was read for the bidder's bills; or memory was refused before; or the roster has no such bidder.
-use Rattle.std.proofs.Common.{◌≡◌, ◌∙◌, List, Option, None, Ok, refl, sym, ap, subst}
+use Rattle.std.proofs.Common.{◌≡◌, ◌∙◌, List, Option, None, Ok, refl, sym, ap, subst, length, le-add_right}
 use Rattle.std.specs.Borrow.{MutBor}
 use Rattle.adx_io.specs.Streams.{Tape, WhereTold}
 use Rattle.adx_io.specs.TalkState.{state_of}
@@ -27,7 +27,7 @@ pub returns-in-Err-clause-ran : goal.returns-in-Err-clause-ran
 returns-in-Err-clause-ran g c =
     let talk = c.args.talk.now in
     let before = state_of talk in
-    told_refused before.allowed (EndsDay c.args.name.now c.args.roster.now before.allowed (Ok c.args.entries.now)) before.held before.held talk.buffer.now.pending (g.S.Source.tape talk.source.now) refl
+    told_refused before.allowed (EndsDay c.args.name.now c.args.roster.now before.allowed (Ok c.args.entries.now)) before.held before.held talk.buffer.now.pending (g.S.Source.tape talk.source.now) (le-add_right (length talk.buffer.now.pending) talk.room) refl
 
 pub returns-in-None-clause-ran : goal.returns-in-None-clause-ran
 returns-in-None-clause-ran g c =

@@ -46,7 +46,7 @@ returns-in-Ok-clause-ran g c =
       said.0,
       said.1 (Err Stop.OutOfMemory) refl,
       told_unjudged DOCUMENT_LIMIT (g.J.Judge.judges said.0) held held c.in-Ok.rest talk.buffer.now.pending bytes tape told c.requires.untaken
-          (subst (λ (b : List ℕ). WhereTold tape told (ReadsRest DOCUMENT_LIMIT b bytes (Ok c.in-Ok.rest))) empty c.in-Ok.ensures.reads) refl,
+          (subst (λ (b : List ℕ). WhereTold tape told (ReadsRest DOCUMENT_LIMIT b bytes (Ok c.in-Ok.rest))) empty c.in-Ok.ensures.reads) (subst (λ (b : List ℕ). Within DOCUMENT_LIMIT b bytes) empty c.in-Ok.ensures.within) refl,
     )
 
 pub returns-clause-ran : goal.returns-clause-ran

@@ -1,5 +1,5 @@
 -- What came of the first line, by how it was read.
-use Rattle.std.proofs.Common.{◌≡◌, ◌∙◌, Some, None, Ok, refl, sym, ap, subst, List, ℕ, Option, string_bytes}
+use Rattle.std.proofs.Common.{◌≡◌, ◌∙◌, Some, None, Ok, refl, sym, ap, subst, List, ℕ, Option, string_bytes, length, le-add_right}
 use Rattle.std.specs.Borrow.{MutBor}
 use Rattle.adx_io.specs.Streams.{WhereTold}
 use Rattle.adx_io.specs.Talk.{Puts, PutsAll}
@@ -58,7 +58,7 @@ returns-in-Err-head_in-clause-ran g c =
     let puts : Puts before mid = rw is at c.next_line.ensures.puts in (
       None,
       (refl, tt),
-      told_unanswered g.L.Led.heads INPUT_LIMIT before mid c.requires.whole talk.buffer.now.pending (g.S.Source.tape talk.source.now) (g.K.Sink.held talk.sink.now) c.next_line.ensures.ahead (rw is at c.next_line.ensures.reads)
+      told_unanswered g.L.Led.heads INPUT_LIMIT before mid c.requires.whole talk.buffer.now.pending (g.S.Source.tape talk.source.now) (g.K.Sink.held talk.sink.now) c.next_line.ensures.ahead (le-add_right (length talk.buffer.now.pending) talk.room) (rw is at c.next_line.ensures.reads)
           (held_line before mid c.requires.unwritten puts),
     )
 
@@ -105,6 +105,6 @@ returns-in-Err-clause-ran g c =
     let mid = state_of talk in (
       None,
       (refl, tt),
-      told_stopped g.L.Led.heads INPUT_LIMIT before mid c.requires.whole talk.buffer.now.pending (g.S.Source.tape talk.source.now) (g.K.Sink.held talk.sink.now) c.next_line.ensures.ahead stop (λ other. c.in-Err.ensures.looked (λ e. cc e) (λ e. other (cc e)))
+      told_stopped g.L.Led.heads INPUT_LIMIT before mid c.requires.whole talk.buffer.now.pending (g.S.Source.tape talk.source.now) (g.K.Sink.held talk.sink.now) c.next_line.ensures.ahead stop (le-add_right (length talk.buffer.now.pending) talk.room) (λ other. c.in-Err.ensures.looked (λ e. cc e) (λ e. other (cc e)))
           c.in-Err.ensures.reads (held_stop before mid c.requires.unwritten stop c.in-Err.ensures.puts),
     )
