@@ -12,7 +12,7 @@ const PIECE: usize = 512;
 /// How many pieces of them are read at most: 32 MiB, more than a system keeps of one connection by its defaults.
 const MOST_PIECES: u32 = 65_536;
 
-/// A sink over a handle of a connection's socket. It remembers whether the connection was closed for its peer.
+/// A sink over a handle of a connection's socket. It remembers whether closing the connection for its peer was asked for.
 #[derive(Drop)]
 pub struct PeerSink<W> {
     sink: StdSink<W>,

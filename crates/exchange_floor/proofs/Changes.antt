@@ -1,5 +1,5 @@
 -- The change of a budget that four texts name, by what the roster's reader finds.
-use Rattle.std.proofs.Common.{◌≡◌, ℕ, List, Option, Some, None, Result, Ok, Err, refl, ◌∙◌}
+use Rattle.std.proofs.Common.{◌≡◌, ℕ, List, Option, Some, None, Result, Ok, refl, ◌∙◌}
 use Rattle.std.specs.Cow.{cow_str_bytes}
 use Rattle.adx_units.specs.Money.{budget_of}
 use Rattle.adx_units.specs.declared.price.PriceFault.{PriceFault}
@@ -24,15 +24,13 @@ pub record IsChange (campaigns : List Campaign) (meaning : Meaning) (x : BudgetC
 
 some_by : (campaigns : List Campaign) (seat cid : List ℕ) (number : Option ℕ) (budget : Result Units PriceFault) (x : BudgetChange)
     → Some x ≡ change_by (pair_place campaigns seat cid) number budget → IsChange campaigns (formed_change seat cid number budget) x
-some_by campaigns seat cid None budget x is = absurd (cc is)
-some_by campaigns seat cid (Some n) (Err fault) x is = absurd (cc is)
 some_by campaigns seat cid (Some n) (Ok u) x is = record { seat = seat; cid = cid; change = n; budget = u; meant = refl; is = cc is }
+some_by campaigns seat cid number budget x is = absurd (cc is)
 
 none_by : (campaign : ℕ) (seat cid : List ℕ) (number : Option ℕ) (budget : Result Units PriceFault)
     → None ≡ change_by campaign number budget → formed_change seat cid number budget ≡ refused Refusal.Call
-none_by campaign seat cid None budget is = refl
-none_by campaign seat cid (Some n) (Err fault) is = refl
 none_by campaign seat cid (Some n) (Ok u) is = absurd (cc is)
+none_by campaign seat cid number budget is = refl
 
 module _ (campaigns : List Campaign) (texts : ChangeTexts) (seat cid number budget : List ℕ) (first : seat ≡ cow_str_bytes texts.seat) (second : cid ≡ cow_str_bytes texts.cid) (third : number ≡ cow_str_bytes texts.number) (fourth : budget ≡ cow_str_bytes texts.budget) where
   same_named : change_named campaigns seat cid number budget ≡ change_named campaigns (cow_str_bytes texts.seat) (cow_str_bytes texts.cid) (cow_str_bytes texts.number) (cow_str_bytes texts.budget)

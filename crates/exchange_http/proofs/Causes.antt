@@ -14,7 +14,7 @@ use Rattle.exchange_http.specs.Gathered.{Moves, count_of}
 use Rattle.exchange_http.specs.Running.{EndsAt, EndsOver, IsEndOf, IsSettled, OverCauses, OverReads, StepCauses, StepStops, StopCauses, StopsBy, end_of, fault_over}
 use Rattle.exchange_http.specs.declared.over.Over.{Over}
 use Rattle.exchange_http.specs.declared.stop.Stop.{Stop}
-use Rattle.exchange_http.proofs.Ended.{write_failed}
+use Rattle.exchange_http.proofs.Ended.{same_end, write_failed}
 
 -- a sink that has as many bytes as were held has them all
 pub all_sunk : (held sunk : Option (List ℕ)) (left : List ℕ) → held ≡ append_known sunk left → count_of held ≤ count_of sunk → sunk ≡ held
@@ -77,26 +77,14 @@ stops_after a b c stop same by = subst (λ (n : ℕ). StopsBy n c stop) same by
 
 -- an end that says so is that of its messages
 ends_at : (held sunk : Option (List ℕ)) (fault : HttpFault) (end : ConnEnd) → EndsAt held sunk fault (Ok end) → IsEndOf (Over.Fault fault) end
-ends_at held sunk fault ConnEnd.Closed e = absurd e
 ends_at held sunk fault ConnEnd.Cut e = inr (inl (refl, e.0))
 ends_at held sunk fault (ConnEnd.Refused f) e = inr (inr (ap ConnEnd.Refused e.0))
 ends_at held sunk fault ConnEnd.ReadFault e = inl (refl, e.0)
-ends_at held sunk fault ConnEnd.WriteFault e = absurd e
-ends_at held sunk fault ConnEnd.Spent e = absurd e
-ends_at held sunk fault ConnEnd.OutOfMemory e = absurd e
-
-abbrev as_ended : ConnEnd → Result ConnEnd Failed
-as_ended e = Ok e
+ends_at held sunk fault end e = absurd e
 
 pub ends_so : (held sunk : Option (List ℕ)) (over : Over) (end : ConnEnd) → EndsOver held sunk over (Ok end) → IsEndOf over end
-ends_so held sunk Over.Closed end e = same end e.0
-  where
-    same : (x : ConnEnd) → as_ended x ≡ as_ended ConnEnd.Closed → x ≡ ConnEnd.Closed
-    same x is = cc is
-ends_so held sunk Over.Spent end e = same end e.0
-  where
-    same : (x : ConnEnd) → as_ended x ≡ as_ended ConnEnd.Spent → x ≡ ConnEnd.Spent
-    same x is = cc is
+ends_so held sunk Over.Closed end e = same_end end ConnEnd.Closed e.0
+ends_so held sunk Over.Spent end e = same_end end ConnEnd.Spent e.0
 ends_so held sunk (Over.Fault fault) end e = ends_at held sunk fault end e
 
 -- neither a fault of the source nor one of the sink
@@ -123,16 +111,8 @@ ends_reading read read_now write write_now later rose writes = record {
 
 -- messages that are over ended by no fault of the source
 over_reads : (read read_now : ℕ) (over : Over) → OverReads read read_now over → (read_now ≡ read) × (over ≢ Over.Fault HttpFault.ReadFault)
-over_reads read read_now Over.Closed r = (r, λ is. absurd (cc is))
-over_reads read read_now Over.Spent r = (r, λ is. absurd (cc is))
 over_reads read read_now (Over.Fault HttpFault.ReadFault) r = absurd r
-over_reads read read_now (Over.Fault HttpFault.BadHead) r = (r, λ is. absurd (cc is))
-over_reads read read_now (Over.Fault HttpFault.HeadTooLong) r = (r, λ is. absurd (cc is))
-over_reads read read_now (Over.Fault HttpFault.LengthRequired) r = (r, λ is. absurd (cc is))
-over_reads read read_now (Over.Fault HttpFault.BodyTooLong) r = (r, λ is. absurd (cc is))
-over_reads read read_now (Over.Fault HttpFault.BadChunk) r = (r, λ is. absurd (cc is))
-over_reads read read_now (Over.Fault HttpFault.Cut) r = (r, λ is. absurd (cc is))
-over_reads read read_now (Over.Fault HttpFault.Coding) r = (r, λ is. absurd (cc is))
+over_reads read read_now over r = (r, λ is. absurd (cc is))
 
 -- nor is their end one of the sink
 no_read : (over : Over) (end : ConnEnd) → IsEndOf over end → over ≢ Over.Fault HttpFault.ReadFault → end ≢ ConnEnd.ReadFault
@@ -181,13 +161,7 @@ step_causes read read_now write write_now result same causes = subst (λ (n : �
 -- and of a fault of the next one
 pub fault_causes : (read read_now write : ℕ) (fault : HttpFault) → ReadsBy {T = Option Message} read read_now (Err fault) → StepCauses read read_now write write (fault_over fault)
 fault_causes read read_now write HttpFault.ReadFault r = (r.0, r.1, refl)
-fault_causes read read_now write HttpFault.BadHead r = (r, refl)
-fault_causes read read_now write HttpFault.HeadTooLong r = (r, refl)
-fault_causes read read_now write HttpFault.LengthRequired r = (r, refl)
-fault_causes read read_now write HttpFault.BodyTooLong r = (r, refl)
-fault_causes read read_now write HttpFault.BadChunk r = (r, refl)
-fault_causes read read_now write HttpFault.Cut r = (r, refl)
-fault_causes read read_now write HttpFault.Coding r = (r, refl)
+fault_causes read read_now write fault r = (r, refl)
 
 -- steps behind one that changed no count
 pub causes_after : (read read_now write write_mid write_now : ℕ) (result : Result (Option Over) Stop) → write_mid ≡ write → StepCauses read read_now write_mid write_now result → StepCauses read read_now write write_now result
@@ -208,13 +182,7 @@ sound_any (Err stop) p = tt
 -- a fault of the next message is none of "more may come"
 pub faults_over : (P : Type 0) (fault : HttpFault) → IfOk (fault_over fault) (λ over. IsNone over → P)
 faults_over P HttpFault.ReadFault = tt
-faults_over P HttpFault.BadHead = λ none. absurd (cc none)
-faults_over P HttpFault.HeadTooLong = λ none. absurd (cc none)
-faults_over P HttpFault.LengthRequired = λ none. absurd (cc none)
-faults_over P HttpFault.BodyTooLong = λ none. absurd (cc none)
-faults_over P HttpFault.BadChunk = λ none. absurd (cc none)
-faults_over P HttpFault.Cut = λ none. absurd (cc none)
-faults_over P HttpFault.Coding = λ none. absurd (cc none)
+faults_over P fault = λ none. absurd (cc none)
 
 -- the counts behind a call
 pub causes_behind : {T : Type 0} (a b c : ℕ) (result : Result T Stop) → b ≡ a → StopCauses b c result → StopCauses a c result

@@ -34,13 +34,7 @@ refusal_failed held sunk held_now front back left fault status least_now answere
 -- what all bytes are refused for has a reply
 refused_for : (tape tape_now : Option Tape) (ms : List Request) (fault : HttpFault) (status : ℕ) → fault_status fault ≡ Some status → CameToFault tape tape_now ms fault → GoOn ms × Brings REQUEST_LIMIT tape tape_now ms (λ rest. RefusesRequest REQUEST_LIMIT rest fault)
 refused_for tape tape_now ms HttpFault.ReadFault status answered came = absurd (cc answered)
-refused_for tape tape_now ms HttpFault.BadHead status answered came = came
-refused_for tape tape_now ms HttpFault.HeadTooLong status answered came = came
-refused_for tape tape_now ms HttpFault.LengthRequired status answered came = came
-refused_for tape tape_now ms HttpFault.BodyTooLong status answered came = came
-refused_for tape tape_now ms HttpFault.BadChunk status answered came = came
-refused_for tape tape_now ms HttpFault.Cut status answered came = came
-refused_for tape tape_now ms HttpFault.Coding status answered came = came
+refused_for tape tape_now ms fault status answered came = came
 
 took_behind : (before held sunk : Option (List ℕ)) (refusal out : List ℕ) → Took held sunk refusal → held ≡ append_known before out → Took before sunk (out ++ refusal)
 took_behind before held sunk refusal out took is = took ∙ ap (λ (h : Option (List ℕ)). append_known h refusal) is ∙ known_more before out refusal
@@ -61,9 +55,12 @@ fails_refusing answers tape tape_now before held sunk s now ms least waiting fau
     let front = w.took in
     record { ms = ms; out = all.out; status = w.status; go_on = for.0; replies = all.replies; answered = w.answered; took = (front.0, front.1, front.2, took_behind before held sunk front.0 all.out front.3 all.took); brings = for.1 }
 
--- an end as a result
+-- two ends that are one as results
 abbrev as_end : ConnEnd → Result ConnEnd Failed
 as_end e = Ok e
+
+pub same_end : (x y : ConnEnd) → as_end x ≡ as_end y → x ≡ y
+same_end x y is = cc is
 
 module _ {Y L : Type 0} (y : DeskGhosts Y) (Works : List ℕ → List ℕ → Lane L → Lane L → Outcome → Type 0) (IsMoment : ℕ → Type 0) (r : Roster) where
   module _ (start : Y) (lanes : List (Lane L)) (tape tape_now : Option Tape) (before : Option (List ℕ)) (now : Y) (lanes_now : List (Lane L)) (held sunk : Option (List ℕ)) (least waiting : ℕ) where
@@ -75,10 +72,6 @@ module _ {Y L : Type 0} (y : DeskGhosts Y) (Works : List ℕ → List ℕ → La
 
     -- a connection that ends by a fault of its next message
     fault_ends : (fault : HttpFault) (end : ConnEnd) → Over_Way (Over.Fault fault) → EndsAt held sunk fault (Ok end) → Over_Ends end
-    fault_ends fault ConnEnd.Closed w e = absurd e
-    fault_ends fault ConnEnd.WriteFault w e = absurd e
-    fault_ends fault ConnEnd.Spent w e = absurd e
-    fault_ends fault ConnEnd.OutOfMemory w e = absurd e
     fault_ends fault ConnEnd.Cut w e =
         let answers = AnswersOn Works IsMoment r in
         let c : Course L = record { steps = w.steps; lanes = lanes_now } in
@@ -98,6 +91,7 @@ module _ {Y L : Type 0} (y : DeskGhosts Y) (Works : List ℕ → List ℕ → La
           subst (λ (g : HttpFault). Refuses answers REQUEST_LIMIT tape tape_now before sunk (begun lanes) c g) (sym e.0)
               (refuses answers tape tape_now before held sunk (begun lanes) c w.requests least waiting fault w.replied came e.1),
         )
+    fault_ends fault end w e = absurd e
 
     fault_fails : (fault : HttpFault) → Over_Way (Over.Fault fault) → WritesRefusal TookFront held sunk fault → Over_Ends ConnEnd.WriteFault
     fault_fails fault w e =
@@ -112,18 +106,12 @@ module _ {Y L : Type 0} (y : DeskGhosts Y) (Works : List ℕ → List ℕ → La
         let answers = AnswersOn Works IsMoment r in
         let c : Course L = record { steps = w.steps; lanes = lanes_now } in
         let came = none_late y Works IsMoment r start lanes tape tape_now (ended Over.Closed) before now lanes_now held least waiting w in
-        subst Over_Ends (sym (closed_is end is)) (w.steps, w.ran, (w.requests, all_served answers (begun lanes) c w.requests before held sunk least waiting w.replied same, came))
-      where
-        closed_is : (e : ConnEnd) → as_end e ≡ as_end ConnEnd.Closed → e ≡ ConnEnd.Closed
-        closed_is e is = cc is
+        subst Over_Ends (sym (same_end end ConnEnd.Closed is)) (w.steps, w.ran, (w.requests, all_served answers (begun lanes) c w.requests before held sunk least waiting w.replied same, came))
     over_ends Over.Spent end w (is, same) =
         let answers = AnswersOn Works IsMoment r in
         let c : Course L = record { steps = w.steps; lanes = lanes_now } in
         let came = none_late y Works IsMoment r start lanes tape tape_now (ended Over.Spent) before now lanes_now held least waiting w in
-        subst Over_Ends (sym (spent_is end is)) (w.steps, w.ran, (w.requests, all_served answers (begun lanes) c w.requests before held sunk least waiting w.replied same, came.0, came.1))
-      where
-        spent_is : (e : ConnEnd) → as_end e ≡ as_end ConnEnd.Spent → e ≡ ConnEnd.Spent
-        spent_is e is = cc is
+        subst Over_Ends (sym (same_end end ConnEnd.Spent is)) (w.steps, w.ran, (w.requests, all_served answers (begun lanes) c w.requests before held sunk least waiting w.replied same, came.0, came.1))
     over_ends (Over.Fault fault) end w e = fault_ends fault end w e
 
     -- or the sink failed within the reply to a refusal

@@ -18,17 +18,15 @@ use Rattle.script_lines.proofs.SomeMeaning.{some_first}
 use Rattle.script_lines.proofs.SomeRequest.{some_request}
 use Rattle.tree_view.specs.Checks.{first_fault, judged_by}
 use Rattle.exchange_http.specs.Laws.{AreOne, HasMeaning, HasOneMeaning}
-use Rattle.exchange_messages.specs.Meanings.{BodyMeans, Meaning, MeansBy, PathMeans, ServedMeans, TreeMeans, asks, budget_query_meaning, notifies, query_meaning, refused, sets_budget, wants_books, wants_meters}
+use Rattle.exchange_messages.specs.Meanings.{BodyMeans, Meaning, MeansBy, PathMeans, ServedMeans, TreeMeans, asks, budget_query_meaning, query_meaning, refused, wants_books, wants_meters}
 use Rattle.exchange_messages.specs.Paths.{is_served, path_named}
 use Rattle.exchange_messages.specs.declared.path.Path.{Path}
 use Rattle.exchange_messages.specs.declared.refusal.Refusal.{Refusal}
 
 -- what is JSON has no fault
 no_fault : (body : List ℕ) (t : Tree) (f : JsonFault) → f ≢ JsonFault.OutOfMemory → IsJson body t → IsFault body f → ⊥
-no_fault body t (JsonFault.Syntax at) named json fault = fault.0.none t json
-no_fault body t (JsonFault.Utf8 at) named json fault = fault.0.none t json
-no_fault body t (JsonFault.Depth at) named json fault = fault.0.none t json
 no_fault body t JsonFault.OutOfMemory named json fault = named refl
+no_fault body t f named json fault = fault.0.none t json
 
 -- bytes are a JSON text, or have a fault
 text_or_fault : (body : List ℕ) → ((t : Tree) → IsJson body t → ⊥) → ((f : JsonFault) → f ≢ JsonFault.OutOfMemory → IsFault body f → ⊥) → ⊥
@@ -75,11 +73,7 @@ has_meaning = λ request none. means_by (path_named (path_of request.head.target
 -- equal meanings are one
 same_one : (x y : Meaning) → y ≡ x → AreOne x y
 same_one (asks t asked) y is = subst (AreOne (asks t asked)) (sym is) refl
-same_one (notifies kind auction award) y is = is
-same_one (sets_budget seat cid change budget) y is = is
-same_one wants_books y is = is
-same_one wants_meters y is = is
-same_one (refused why) y is = is
+same_one x y is = is
 
 one_tree_meaning : (t : Tree) (x y : Meaning) → TreeMeans t x → TreeMeans t y → AreOne x y
 one_tree_meaning t x y (inl (asked, req, is)) (inl (other, again, also)) = subst (λ (m : Meaning). AreOne m y) (sym is) (subst (AreOne (asks t asked)) (sym also) refl)
@@ -99,10 +93,7 @@ one_body_meaning body x y (inr (f, named, fault, means)) (inr (g, other_named, o
 
 one_path_meaning : (path : Path) (request : Request) (x y : Meaning) → PathMeans path request x → PathMeans path request y → AreOne x y
 one_path_meaning Path.OpenRtb request x y means other = one_body_meaning request.body x y means other
-one_path_meaning (Path.Notice kind) request x y means other = same_one x y (other ∙ sym means)
-one_path_meaning Path.Books request x y means other = same_one x y (other ∙ sym means)
-one_path_meaning Path.Meters request x y means other = same_one x y (other ∙ sym means)
-one_path_meaning Path.Budget request x y means other = same_one x y (other ∙ sym means)
+one_path_meaning path request x y means other = same_one x y (other ∙ sym means)
 
 one_served_meaning : (served : Bool) (path : Path) (request : Request) (x y : Meaning) → ServedMeans served path request x → ServedMeans served path request y → AreOne x y
 one_served_meaning true path request x y means other = one_path_meaning path request x y means other

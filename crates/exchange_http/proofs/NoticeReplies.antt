@@ -42,8 +42,7 @@ either r false x y first second = second
 
 ruled_said : (r : Roster) (history : List Entry) (kind : NoticeKind) (n : ℕ) (ruling : Ruling) → IsSaid r (ruled_reply history kind n ruling)
 ruled_said r history kind n Ruling.Counted = refl
-ruled_said r history kind n Ruling.Repeat = refl
-ruled_said r history kind n (Ruling.Conflict end) = refl
+ruled_said r history kind n ruling = refl
 
 known_said : (r : Roster) (history : List Entry) (kind : NoticeKind) (auction : List ℕ) (n : ℕ) (o : Option Award) → IsSaid r (known_reply history kind auction n o)
 known_said r history kind auction n None = refl
@@ -63,19 +62,10 @@ outcome_replies r at x (Some answer) is =
 
 -- a notice isn't asked by HEAD
 served_no_head : (path : Path) (v : Verb) (b : Bool) (request : Request) (kind : NoticeKind) (auction : List ℕ) (award : ℕ) → is_served path v ≡ b → ServedMeans b path request (notifies kind auction award) → is_head v ≡ false
-served_no_head path Verb.Get b request kind auction award is means = refl
-served_no_head path Verb.Post b request kind auction award is means = refl
-served_no_head path Verb.Other b request kind auction award is means = refl
 served_no_head Path.OpenRtb Verb.Head true request kind auction award is means = absurd (cc is)
-served_no_head Path.OpenRtb Verb.Head false request kind auction award is means = absurd (cc means)
-served_no_head (Path.Notice k) Verb.Head true request kind auction award is means = absurd (cc is)
-served_no_head (Path.Notice k) Verb.Head false request kind auction award is means = absurd (cc means)
-served_no_head Path.Books Verb.Head true request kind auction award is means = absurd (cc is)
-served_no_head Path.Books Verb.Head false request kind auction award is means = absurd (cc means)
-served_no_head Path.Meters Verb.Head true request kind auction award is means = absurd (cc is)
-served_no_head Path.Meters Verb.Head false request kind auction award is means = absurd (cc means)
-served_no_head Path.Budget Verb.Head true request kind auction award is means = absurd (cc is)
-served_no_head Path.Budget Verb.Head false request kind auction award is means = absurd (cc means)
+served_no_head path Verb.Head true request kind auction award is means = absurd (cc is)
+served_no_head path Verb.Head false request kind auction award is means = absurd (cc means)
+served_no_head path v b request kind auction award is means = refl
 
 named_no_head : (p : Option Path) (request : Request) (kind : NoticeKind) (auction : List ℕ) (award : ℕ) → MeansBy p request (notifies kind auction award) → is_head (verb_of_method request.head.method) ≡ false
 named_no_head None request kind auction award means = absurd (cc means)

@@ -62,18 +62,8 @@ module _ (r : Roster) where
   one_answer : (answer : Answer) (about : Option Ask) (said other : Reply) → AnswerReplies r answer about said → AnswerReplies r answer about other → said ≡ other
   one_answer (Answer.Awarded place) about said other is also = one_ask about said other is also
   one_answer (Answer.NoSale place) about said other is also = one_ask about said other is also
-  one_answer Answer.Counted about said other is also = is ∙ sym also
   one_answer (Answer.Repeat place) about said other is also = one_ask about said other is also
-  one_answer (Answer.Conflict kept) about said other is also = is ∙ sym also
-  one_answer Answer.Unknown about said other is also = is ∙ sym also
-  one_answer (Answer.Ticked ended) about said other is also = is ∙ sym also
-  one_answer (Answer.Reused kept given) about said other is also = is ∙ sym also
-  one_answer (Answer.DayFull which count) about said other is also = is ∙ sym also
-  one_answer Answer.Budgeted about said other is also = is ∙ sym also
-  one_answer (Answer.BudgetReused kept) about said other is also = is ∙ sym also
-  one_answer (Answer.Late last) about said other is also = is ∙ sym also
-  one_answer (Answer.BelowCommitted committed) about said other is also = is ∙ sym also
-  one_answer Answer.NoCampaign about said other is also = is ∙ sym also
+  one_answer answer about said other is also = is ∙ sym also
 
   one_reply_by : (at : List Entry) (call : Call) (ended : Ended) (said other : Reply) → RepliesBy r at call ended said → RepliesBy r at call ended other → said ≡ other
   one_reply_by at call was_done said other is also = one_answer (reply (terms_by r) at call).answer (ask_told (with_entry at (reply (terms_by r) at call).entry) (reply (terms_by r) at call).answer) said other is also
@@ -91,16 +81,14 @@ module _ (r : Roster) where
       let one : c ≡ d = taken_one c d (heads (took c) (took d) more more_too (tails (took ticked) (took ticked) (took c ∷ more) (took d ∷ more_too) whole)) in
       (are ∙ ap (λ (v : Called). took ticked ∷ took v ∷ []) one ∙ sym too, one_call c d said other one replies replies_too)
   one_behind ticked (was_given_up Fault.Disk) asked again answers others now later steps steps_too more more_too said other (are, is) (too, also) same = (are ∙ sym too, is ∙ sym also)
-  one_behind ticked (was_given_up (Fault.JournalFull size)) asked again answers others now later steps steps_too more more_too said other never too same = absurd never
-  one_behind ticked wanted_memory asked again answers others now later steps steps_too more more_too said other never too same = absurd never
+  one_behind ticked ended asked again answers others now later steps steps_too more more_too said other never too same = absurd never
 
   -- the tick of a request begins its calls
   begins_tick : (ticked : Called) (ended : Ended) (asked : BidRequest) (answers : List BidderAnswer) (now : ℕ) (steps : List Step) (said : Reply) → AsksBehind r asked answers now ticked ended steps said
       → (rest : List Step) × (steps ≡ took ticked ∷ rest)
   begins_tick ticked was_done asked answers now steps said (c, ask_is, are, replies) = (took c ∷ [], are)
   begins_tick ticked (was_given_up Fault.Disk) asked answers now steps said (are, is) = ([], are)
-  begins_tick ticked (was_given_up (Fault.JournalFull size)) asked answers now steps said never = absurd never
-  begins_tick ticked wanted_memory asked answers now steps said never = absurd never
+  begins_tick ticked ended asked answers now steps said never = absurd never
 
   module _ {L : Type 0} (Works : List ℕ → List ℕ → Lane L → Lane L → Outcome → Type 0) (clock other_clock : Option ℕ) where
     abbrev Here : List (Lane L) → Request → List Step → List (Lane L) → Reply → Type 0
@@ -137,11 +125,7 @@ module _ (r : Roster) where
 
       alike : (x y : Meaning) → AreOne x y → IsAnsweredAs Works (IsMomentOf clock) r old x steps new said → ThereAs y → Alike
       alike (asks t asked) (asks u again) one is also = one_asked t u asked again is also
-      alike (asks t asked) (notifies kind auction award) one is also = absurd one
-      alike (asks t asked) (sets_budget seat cid change budget) one is also = absurd one
-      alike (asks t asked) wants_books one is also = absurd one
-      alike (asks t asked) wants_meters one is also = absurd one
-      alike (asks t asked) (refused why) one is also = absurd one
+      alike (asks t asked) y one is also = absurd one
       alike (notifies kind auction award) y one (c, call, are, stays, replies) also =
           let too = subst ThereAs one also in
           one_taken c too.0 are too.2 replies too.4

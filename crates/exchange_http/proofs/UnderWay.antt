@@ -20,6 +20,7 @@ use Rattle.http_grammar.specs.Requests.{is_kept}
 use Rattle.http_grammar.specs.declared.fault.HttpFault.{HttpFault}
 use Rattle.http_service.specs.Connections.{AreSpent, Brings, BringsLast, CloseLast, GoOn}
 use Rattle.http_service.specs.declared.limits.TheConstants.{MESSAGE_LIMIT, REQUEST_LIMIT}
+use Rattle.exchange_messages.proofs.Sold.{zip_more}
 use Rattle.exchange_messages.specs.Courses.{AnswersOn, Course, begun}
 use Rattle.exchange_http.specs.Gathered.{FailsWithin, Replied, count_of}
 use Rattle.exchange_messages.specs.Meanings.{Means, notifies}
@@ -72,13 +73,6 @@ may_fail tape tape_now (ended Over.Closed) ms (inr came) = (inr (inl came.0), an
 may_fail tape tape_now (ended Over.Spent) ms came = (inr (inr came.0), any_last tape tape_now ms came.1)
 may_fail tape tape_now (ended (Over.Fault fault)) ms came = fault_may_fail tape tape_now ms fault came
 may_fail tape tape_now (before_one m coming) ms came = (inl came.0, came.1)
-
--- two lists side by side that end in a pair more
-zip_more : {A B : Type 0} (R : A → B → Type 0) (xs : List A) (ys : List B) (x : A) (y : B) → AllZip R xs ys → R x y → AllZip R (xs ++ x ∷ []) (ys ++ y ∷ [])
-zip_more R [] [] x y zip one = (one, tt)
-zip_more R [] (b ∷ ys) x y zip one = absurd zip
-zip_more R (a ∷ xs) [] x y zip one = absurd zip
-zip_more R (a ∷ xs) (b ∷ ys) x y zip one = (zip.0, zip_more R xs ys x y zip.1 one)
 
 zip_long : {A B : Type 0} (R : A → B → Type 0) (xs : List A) (ys : List B) → AllZip R xs ys → length xs ≤ length ys
 zip_long R [] ys zip = omega arith

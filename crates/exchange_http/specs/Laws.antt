@@ -7,7 +7,7 @@ use Rattle.fan_out.specs.Lanes.{Outcome}
 use Rattle.http_connection.specs.Messages.{Request}
 use Rattle.http_service.specs.Connections.{Replies}
 use Rattle.exchange_messages.specs.Courses.{AnswersOn, Course, begun}
-use Rattle.exchange_messages.specs.Meanings.{Meaning, Means, asks, notifies, refused, sets_budget, wants_books, wants_meters}
+use Rattle.exchange_messages.specs.Meanings.{Meaning, Means, asks}
 use Rattle.exchange_floor.specs.Floors.{IsMomentOf}
 
 -- there is no message without a meaning
@@ -17,16 +17,8 @@ HasMeaning = (request : Request) → ((m : Meaning) → Means request m → ⊥)
 -- two meanings are the same; of two requests for bids their trees are
 abbrev pub AreOne : Meaning → Meaning → Type 0
 AreOne (asks t asked) (asks u other) = t ≡ u
-AreOne (asks t asked) (notifies kind auction award) = ⊥
-AreOne (asks t asked) (sets_budget seat cid change budget) = ⊥
-AreOne (asks t asked) wants_books = ⊥
-AreOne (asks t asked) wants_meters = ⊥
-AreOne (asks t asked) (refused why) = ⊥
-AreOne (notifies kind auction award) y = y ≡ notifies kind auction award
-AreOne (sets_budget seat cid change budget) y = y ≡ sets_budget seat cid change budget
-AreOne wants_books y = y ≡ wants_books
-AreOne wants_meters y = y ≡ wants_meters
-AreOne (refused why) y = y ≡ refused why
+AreOne (asks t asked) y = ⊥
+AreOne x y = y ≡ x
 
 -- no message has two meanings
 abbrev pub HasOneMeaning : Type 0

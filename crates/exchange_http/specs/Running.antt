@@ -162,13 +162,10 @@ pub record IsSettled (held : Option (List ℕ)) (left : List ℕ) (least : ℕ) 
 
 -- how a connection ends by a fault of its next message, by what the sink took before and then
 abbrev pub EndsAt : Option (List ℕ) → Option (List ℕ) → HttpFault → Result ConnEnd Failed → Type 0
-EndsAt held sunk fault (Ok ConnEnd.Closed) = ⊥
 EndsAt held sunk fault (Ok ConnEnd.Cut) = (fault ≡ HttpFault.Cut) × (sunk ≡ held)
 EndsAt held sunk fault (Ok (ConnEnd.Refused f)) = (f ≡ fault) × WritesRefusal Took held sunk fault
 EndsAt held sunk fault (Ok ConnEnd.ReadFault) = (fault ≡ HttpFault.ReadFault) × (sunk ≡ held)
-EndsAt held sunk fault (Ok ConnEnd.WriteFault) = ⊥
-EndsAt held sunk fault (Ok ConnEnd.Spent) = ⊥
-EndsAt held sunk fault (Ok ConnEnd.OutOfMemory) = ⊥
+EndsAt held sunk fault (Ok end) = ⊥
 EndsAt held sunk fault (Err failed) = WritesRefusal TookFront held sunk fault
 
 -- how it ends where its messages are over
@@ -197,10 +194,8 @@ StopCauses before now (Err stop) = StopsBy before now stop
 
 -- the counts of a source where no more messages are read: a fault that ends the messages isn't the source's
 abbrev pub OverReads : ℕ → ℕ → Over → Type 0
-OverReads read read_now Over.Closed = read_now ≡ read
-OverReads read read_now Over.Spent = read_now ≡ read
 OverReads read read_now (Over.Fault HttpFault.ReadFault) = ⊥
-OverReads read read_now (Over.Fault fault) = read_now ≡ read
+OverReads read read_now over = read_now ≡ read
 
 -- the counts of source and sink where a step stopped: the sink failed, memory was refused, or the source failed
 abbrev pub StepStops : (read read_now write write_now : ℕ) → Stop → Type 0

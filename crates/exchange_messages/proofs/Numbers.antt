@@ -40,14 +40,9 @@ sold_long a =
 
 -- the ask at a place splits its history
 at_split : (history : List Entry) (place : ℕ) (a : Ask) → ask_at history place ≡ Some a → (before : List Entry) × (after : List Entry) × (history ≡ before ++ Entry.Ask a ∷ after)
-at_split [] place a at = absurd (cc at)
 at_split (Entry.Ask b ∷ es) zero a at = let same : b ≡ a = cc at in ([], es, ap (λ x. Entry.Ask x ∷ es) same)
-at_split (Entry.Win n ∷ es) zero a at = absurd (cc at)
-at_split (Entry.Bill n ∷ es) zero a at = absurd (cc at)
-at_split (Entry.Loss n ∷ es) zero a at = absurd (cc at)
-at_split (Entry.Expire now ∷ es) zero a at = absurd (cc at)
-at_split (Entry.Budget campaign change budget ∷ es) zero a at = absurd (cc at)
 at_split (e ∷ es) (suc place) a at = let s = at_split es place a at in (e ∷ s.0, s.1, ap (λ xs. e ∷ xs) s.2)
+at_split history place a at = absurd (cc at)
 
 fits : (first before awards bids offers sold sales limit most cap : ℕ) → before ≡ first → awards ≡ before → awards ≤ bids → bids + offers ≤ limit → limit ≤ most → sold ≡ sales → sales ≤ offers → most ≤ cap → first + sold ≤ cap
 fits first before awards bids offers sold sales limit most cap e long few within under same less small = omega arith

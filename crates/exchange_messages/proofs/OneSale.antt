@@ -26,10 +26,8 @@ Urls = FirstOf seat_tree
 
 -- what is JSON has no fault
 no_fault : (body : List ℕ) (t : Tree) (f : JsonFault) → f ≢ JsonFault.OutOfMemory → IsJson body t → IsFault body f → ⊥
-no_fault body t (JsonFault.Syntax at) named json fault = fault.0.none t json
-no_fault body t (JsonFault.Utf8 at) named json fault = fault.0.none t json
-no_fault body t (JsonFault.Depth at) named json fault = fault.0.none t json
 no_fault body t JsonFault.OutOfMemory named json fault = named refl
+no_fault body t f named json fault = fault.0.none t json
 
 -- a kept body has one tree
 one_kept : (body : List ℕ) (t u : Tree) → HasTree body t → HasTree body u → t ≡ u

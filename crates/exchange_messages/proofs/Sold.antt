@@ -26,11 +26,10 @@ use Rattle.exchange_messages.specs.Sales.{HasTree, IsSold, expanded, is_award_fo
 use Rattle.exchange_messages.specs.Selling.{AreSold}
 
 -- two lists side by side, and one more of each
-zip_more : {A B : Type 0} (R : A → B → Type 0) (xs : List A) (ys : List B) (x : A) (y : B) → AllZip R xs ys → R x y → AllZip R (xs ++ x ∷ []) (ys ++ y ∷ [])
+pub zip_more : {A B : Type 0} (R : A → B → Type 0) (xs : List A) (ys : List B) (x : A) (y : B) → AllZip R xs ys → R x y → AllZip R (xs ++ x ∷ []) (ys ++ y ∷ [])
 zip_more R [] [] x y h one = (one, tt)
-zip_more R [] (z ∷ ys) x y h one = absurd h
-zip_more R (w ∷ xs) [] x y h one = absurd h
 zip_more R (w ∷ xs) (z ∷ ys) x y h one = (h.0, zip_more R xs ys x y h.1 one)
+zip_more R xs ys x y h one = absurd h
 
 -- an award more
 pub sold_more : (cs : List Campaign) (a : Ask) (bids : List (ℕ × Offer)) (p : ℕ × Offer) (sold more : List Sold) (s : Sold) (award : ℕ)

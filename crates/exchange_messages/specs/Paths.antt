@@ -17,28 +17,15 @@ path_named text =
     else (if bytes_eq text (codes "/meters") then Some Path.Meters
     else (if bytes_eq text (codes "/budget") then Some Path.Budget else None))))))
 
--- the path is served by that kind of method
+-- the path is served by that kind of method, and by no other
 abbrev pub is_served : Path → Verb → Bool
-is_served Path.OpenRtb Verb.Get = false
-is_served Path.OpenRtb Verb.Head = false
 is_served Path.OpenRtb Verb.Post = true
-is_served Path.OpenRtb Verb.Other = false
 is_served (Path.Notice kind) Verb.Get = true
-is_served (Path.Notice kind) Verb.Head = false
 is_served (Path.Notice kind) Verb.Post = true
-is_served (Path.Notice kind) Verb.Other = false
 is_served Path.Books Verb.Get = true
-is_served Path.Books Verb.Head = false
-is_served Path.Books Verb.Post = false
-is_served Path.Books Verb.Other = false
 is_served Path.Meters Verb.Get = true
-is_served Path.Meters Verb.Head = false
-is_served Path.Meters Verb.Post = false
-is_served Path.Meters Verb.Other = false
-is_served Path.Budget Verb.Get = false
-is_served Path.Budget Verb.Head = false
 is_served Path.Budget Verb.Post = true
-is_served Path.Budget Verb.Other = false
+is_served path method = false
 
 -- the methods that serve it
 abbrev pub methods_of : Path → Methods

@@ -1,5 +1,5 @@
 -- The calls of a desk that nobody else calls, as steps.
-use Rattle.std.proofs.Common.{◌≡◌, ℕ, ◌<◌, ◌≤◌, ◌^◌, List, [], ◌∷◌, ◌++◌, map, length, Option, Some, None, Result, Ok, Err, IfOk, IfErr, OnOk, OnErr, refl, sym, ap, ◌∙◌, subst, arith}
+use Rattle.std.proofs.Common.{◌≡◌, ℕ, ◌<◌, ◌≤◌, ◌^◌, List, [], ◌∷◌, ◌++◌, map, length, Option, Some, None, Result, Ok, Err, IfOk, IfErr, OnOk, OnErr, refl, sym, ap, ◌∙◌, subst}
 use Rattle.std.proofs.lemmas.List.Elements.{All-nil, All-cons}
 use Rattle.adx_desk.specs.Asked.{ask_for}
 use Rattle.adx_desk.specs.Desks.{DeskState, OnDisk}
@@ -148,10 +148,6 @@ module _ {D : Type 0} (d : Ghosts D) where
         let runs = runs_given_up d.faults d.may_leave d.moment d.left_since {T = T} old new call (DeskFault.JournalFull size) fault refl legal taken roomy s ends same short in
         own_told fault
         (roomy, full_may old.desk.terms old.desk.history (reply old.desk.terms.day old.desk.history call).entry size (runs.full [] (record { call = call; fault = Some fault }) [] refl)) runs
-    own_refused only_now (Err (DeskFault.BadEntry at)) s ends same short = absurd ends
-    own_refused only_now (Err (DeskFault.OtherRoster kept)) s ends same short = absurd ends
-    own_refused only_now (Err (DeskFault.NotAJournal at)) s ends same short = absurd ends
-    own_refused only_now (Err (DeskFault.BadLength at)) s ends same short = absurd ends
     own_refused only_now (Err DeskFault.OutOfMemory) s ends same short =
         let runs = runs_refused d.faults d.may_leave d.moment d.left_since old new DeskFault.OutOfMemory refl legal only_now same in (
           old.desk.history,
@@ -163,6 +159,7 @@ module _ {D : Type 0} (d : Ghosts D) where
           },
           tt,
         )
+    own_refused only_now (Err fault) s ends same short = absurd ends
 
     pub own_taken : {T : Type 0} (done : T) → Serves {T = T} d.may_leave d.moment d.left_since old new (reply old.desk.terms.day old.desk.history call).entry (Ok done)
         → EndsAsk {T = T} (d.faults old.disk) (d.faults new.disk) old.desk new.desk (reply old.desk.terms.day old.desk.history call).entry (Ok done)
@@ -224,12 +221,7 @@ module _ {D : Type 0} (d : Ghosts D) where
       },
       same,
     )
-    own_lost (Err (DeskFault.JournalFull size)) same s ends unmoved = absurd ends
-    own_lost (Err (DeskFault.BadEntry at)) same s ends unmoved = absurd ends
-    own_lost (Err (DeskFault.OtherRoster kept)) same s ends unmoved = absurd ends
-    own_lost (Err (DeskFault.NotAJournal at)) same s ends unmoved = absurd ends
-    own_lost (Err (DeskFault.BadLength at)) same s ends unmoved = absurd ends
-    own_lost (Err DeskFault.OutOfMemory) same s ends unmoved = absurd ends
+    own_lost (Err fault) same s ends unmoved = absurd ends
 
 -- what was written behind nothing
 pub behind_none : {T E : Type 0} (result : Result T E) (before now table : List ℕ) → before ≡ [] → OnOk result (now ≡ before ++ table) → OnOk result (now ≡ table)
