@@ -1,10 +1,6 @@
 pub mod FirstLines
-pub mod FirstReads
 pub mod OneMeaning
 pub mod AnswerLaws
 pub mod AnsweredCalls
 pub mod Rosters
 pub mod Putting
-pub mod Told
-pub mod DiskCounts
-pub mod Unopened

@@ -1,22 +1,16 @@
--- What the clauses of a day's calls say in few words: the relations of other files, over a talk, a source, a sink and a disk
--- with their ghosts. This project's own.
+-- What the clauses of a day's calls say in few words: the relations of other files, over a buffer's line, and over a disk
+-- with its ghosts. Only private clauses cite this file.
 use Rattle.std.specs.Prelude.{◌≡◌, ◌≤◌, ℕ, List, length}
 use Rattle.adx_desk.specs.Desks.{OnDisk}
 use Rattle.adx_io.specs.Lines.{Keeps}
-use Rattle.adx_io.specs.Streams.{WhereTold}
-use Rattle.adx_io.specs.TalkState.{state_of}
 use Rattle.adx_io.specs.declared.disk.Disk as disks
 use Rattle.adx_io.specs.declared.line_buffer.LineBuffer.{LineBuffer}
-use Rattle.adx_io.specs.declared.sink.Sink as sinks
-use Rattle.adx_io.specs.declared.source.Source as sources
-use Rattle.adx_io.specs.declared.talk.Talk.{Talk}
 use Rattle.day_rules.specs.Replies.{Call, notice}
 use Rattle.deal_floor.specs.declared.campaign.Campaign.{Campaign}
 use Rattle.deal_floor.specs.declared.roster.Roster.{Roster}
 use Rattle.desk_runs.specs.Answering.{LeavesCall}
 use Rattle.script_lines.specs.declared.notice.Notice.{Notice}
 use Rattle.script_day.specs.Answering.{AnswersCall, AnswersTo, LeavesUnwritten}
-use Rattle.script_day.specs.Firsts.{ReadsLine}
 use Rattle.script_day.specs.declared.limits.TheConstants.{LINE_LIMIT}
 
 -- this is a line's text, within the limit of a line
@@ -49,7 +43,3 @@ module _ {D : Type 0} (d : disks.Ghosts D) where
 
   abbrev pub LineLeft : Roster → OnDisk D → OnDisk D → (List ℕ → Type 0) → Type 0
   LineLeft r old new Known = LeavesUnwritten d.faults d.may_leave d.moment d.left_since r old new Known
-
--- a first line of which this is known was read on a talk
-abbrev pub LineRead : {S K : Type 0} {s : sources.Ghosts S} {k : sinks.Ghosts K} → (List ℕ → Type 0) → Talk S K s k → Talk S K s k → Type 0
-LineRead Known old new = WhereTold (state_of old).tape (state_of new).tape (ReadsLine Known (state_of old) (state_of new))

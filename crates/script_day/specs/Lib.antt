@@ -1,10 +1,5 @@
 pub mod Endings
-pub mod Steps
 pub mod Output
-pub mod Courses
 pub mod Script
-pub mod Parts
-pub mod Firsts
 pub mod Answering
 pub mod Clauses
-pub mod Finding

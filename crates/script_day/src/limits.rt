@@ -1,7 +1,4 @@
-//! How much of an input is read.
+//! How long a line of a script may be.
 
 /// The greatest length of a line, in bytes without its newline.
 pub const LINE_LIMIT: usize = 4_194_304;
-
-/// The greatest length of a whole input, in bytes.
-pub const INPUT_LIMIT: u64 = 68_719_476_736;
