@@ -20,7 +20,7 @@ left_cancel : (xs ys zs : List ℕ) → xs ++ ys ≡ xs ++ zs → ys ≡ zs
 left_cancel [] ys zs e = e
 left_cancel (x ∷ xs) ys zs e = left_cancel xs ys zs cc
 
-right_cancel : (xs ys zs : List ℕ) → xs ++ zs ≡ ys ++ zs → xs ≡ ys
+pub right_cancel : (xs ys zs : List ℕ) → xs ++ zs ≡ ys ++ zs → xs ≡ ys
 right_cancel [] [] zs e = refl
 right_cancel [] (y ∷ ys) zs e = let n = ap length e in absurd (omega (arith, simp length-append at n))
 right_cancel (x ∷ xs) [] zs e = let n = ap length e in absurd (omega (arith, simp length-append at n))
@@ -55,13 +55,13 @@ same_row base history r s x y same =
 bytes_same : (a : List ℕ) → bytes_eq a a ≡ true
 bytes_same a = (bytes_eq-Decides a a).1 refl
 
-kind_bill : (k : NoticeKind) → is_kind NoticeKind.Bill k ≡ true → k ≡ NoticeKind.Bill
+pub kind_bill : (k : NoticeKind) → is_kind NoticeKind.Bill k ≡ true → k ≡ NoticeKind.Bill
 kind_bill NoticeKind.Win h = absurd (true≢false (sym h))
 kind_bill NoticeKind.Bill h = refl
 kind_bill NoticeKind.Loss h = absurd (true≢false (sym h))
 
 -- two bills of one auction and one bid are one notice
-same_notice : (r s : LedgerRow) → r.kind ≡ NoticeKind.Bill → s.kind ≡ NoticeKind.Bill → r.auction ≡ s.auction → r.bid ≡ s.bid → is_same_notice r s ≡ true
+pub same_notice : (r s : LedgerRow) → r.kind ≡ NoticeKind.Bill → s.kind ≡ NoticeKind.Bill → r.auction ≡ s.auction → r.bid ≡ s.bid → is_same_notice r s ≡ true
 same_notice r s rk sk auction bid =
     ap₂ (λ a b. is_kind a b && (bytes_eq r.auction s.auction && bytes_eq r.bid s.bid)) sk rk
     ∙ and_from (bytes_eq r.auction s.auction) (bytes_eq r.bid s.bid) ((bytes_eq-Decides r.auction s.auction).1 auction) ((bytes_eq-Decides r.bid s.bid).1 bid)

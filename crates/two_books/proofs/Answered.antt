@@ -55,13 +55,13 @@ from_map : {X Y : Type 0} (P : Y → Type 0) (f : X → Y) (xs : List X) → All
 from_map P f [] all = All-nil (λ x. P (f x))
 from_map P f (x ∷ xs) all = All-cons (λ x. P (f x)) x xs (All-head P (f x) (map f xs) all) (from_map P f xs (All-tail P (f x) (map f xs) all))
 
-items_back : (ts : List Tree) → list_items (items_of ts) ≡ ts
+pub items_back : (ts : List Tree) → list_items (items_of ts) ≡ ts
 items_back [] = refl
 items_back (t ∷ ts) = ap (λ (l : List Tree). t ∷ l) (items_back ts)
 
 -- ---- what was read
 
-judged_ok : (o : Option AnswerFault) (v w : AnswerView) → judged_by v o ≡ Ok w → v ≡ w
+pub judged_ok : (o : Option AnswerFault) (v w : AnswerView) → judged_by v o ≡ Ok w → v ≡ w
 judged_ok None v w e = ap (λ (r : Result AnswerView AnswerFault). unwrap_or (result_ok r) v) e
 judged_ok (Some fault) v w e = absurd (cc)
 

@@ -12,7 +12,7 @@ use Rattle.http_grammar.specs.Requests.{verb_of_method}
 use Rattle.http_grammar.specs.declared.fault.HttpFault.{HttpFault}
 use Rattle.http_grammar.specs.declared.verb.Verb.{Verb}
 use Rattle.http_service.specs.Connections.{EndsWith, Replies}
-use Rattle.http_service.specs.Replies.{refusal_bytes, reply_to}
+use Rattle.http_service.specs.Replies.{fault_status, refusal_bytes, reply_to}
 use Rattle.http_service.specs.declared.answer.Answer.{Answer}
 use Rattle.http_service.specs.declared.limits.TheConstants.{REQUEST_LIMIT}
 use Rattle.http_service.proofs.Lists.{replies_more}
@@ -130,7 +130,7 @@ abbrev pub HearsAll : List ℕ → List ℕ → BidderState → BidderState → 
 HearsAll bytes reply b now = IsDelivered bytes b now × IsReplied bytes b reply now
 
 hears : (bytes reply out : List ℕ) (ms : List Request) (b now : BidderState) → IsHeard bytes ms → Replies BidderAnswers b ms out now
-    → (reply ≡ out) ⊎ ((status : ℕ) × (reply ≡ out ++ refusal_bytes status)) → HearsAll bytes reply b now
+    → (reply ≡ out) ⊎ ((fault : HttpFault) × (status : ℕ) × (fault_status fault ≡ Some status) × (reply ≡ out ++ refusal_bytes status)) → HearsAll bytes reply b now
 hears bytes reply out ms b now heard replies is = ((ms, heard, carried ms out b now replies), (ms, out, heard, replies, is))
 
 pub hears_all : (before : Tape) (reply : List ℕ) (tape : Tape) (b now : BidderState) (end : ConnEnd) → Completes end → Ends before reply tape b now end → HearsAll before.left reply b now
@@ -143,7 +143,7 @@ hears_all before reply tape b now ConnEnd.Cut c (ms, served, go_on, (beyond, are
 hears_all before reply tape b now (ConnEnd.Refused fault) c r =
     let (beyond, are, refused) = r.brings in
     hears before.left reply r.out r.ms b now (beyond ++ tape.left, are, inr (inr (r.go_on, inr (fault, refused)))) r.replies
-    (inr (r.status, told reply (r.out ++ refusal_bytes r.status) r.took))
+    (inr (fault, r.status, r.answered, told reply (r.out ++ refusal_bytes r.status) r.took))
 hears_all before reply tape b now ConnEnd.ReadFault c h = absurd c
 hears_all before reply tape b now ConnEnd.WriteFault c h = absurd c
 hears_all before reply tape b now ConnEnd.Spent c (ms, served, spent, (beyond, short, are)) =

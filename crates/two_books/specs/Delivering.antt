@@ -3,7 +3,7 @@ use Rattle.std.specs.Prelude.{◌≡◌, ◌⊎◌, ℕ, List, [], ◌∷◌, �
 use Rattle.http_connection.specs.Messages.{AreRequests, RefusesRequest, Request}
 use Rattle.http_grammar.specs.declared.fault.HttpFault.{HttpFault}
 use Rattle.http_service.specs.Connections.{AreSpent, CloseLast, GoOn, Replies}
-use Rattle.http_service.specs.Replies.{refusal_bytes}
+use Rattle.http_service.specs.Replies.{fault_status, refusal_bytes}
 use Rattle.http_service.specs.declared.limits.TheConstants.{REQUEST_LIMIT}
 use Rattle.bidder_core.specs.Ledger.{bidder_ruling, rows_after}
 use Rattle.bidder_core.specs.Seen.{BidderState}
@@ -46,4 +46,5 @@ StopsDelivering bytes old new = (ms : List Request) × BeginWith bytes ms × IsC
 abbrev pub IsReplied : List ℕ → BidderState → List ℕ → BidderState → Type 0
 IsReplied bytes old reply new =
     (ms : List Request) × (out : List ℕ) × IsHeard bytes ms × Replies BidderAnswers old ms out new
-    × ((reply ≡ out) ⊎ ((status : ℕ) × (reply ≡ out ++ refusal_bytes status)))
+    × ((reply ≡ out)
+    ⊎ ((fault : HttpFault) × (status : ℕ) × (fault_status fault ≡ Some status) × (reply ≡ out ++ refusal_bytes status)))

@@ -1,0 +1,12 @@
+pub mod Pairs
+pub mod Sums
+pub mod Statuses
+pub mod Ruled
+pub mod BillPages
+pub mod Counted
+pub mod Growing
+pub mod Pumping
+pub mod Bids
+pub mod Awards
+pub mod Stepping
+pub mod Equal
