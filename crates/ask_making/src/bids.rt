@@ -116,17 +116,33 @@ impl Bids {
         let place = self.offers.as_slice().len();
         self.kept
             .push(kept_texts(alloc, place, bidid, &seat.seat, bid)?)?;
-        self.offers.push(offer_of(sale, bidder, bidid, seat, bid))?;
+        self.offers
+            .push(offer_of(alloc, sale, bidder, bidid, seat, bid))?;
         Ok(())
     }
 }
 
 /// The offer that a bid is, as it is admitted or refused.
-fn offer_of(sale: Sale<'_>, bidder: u32, bidid: &Text, seat: &SeatBid, bid: &Bid) -> Offer
+fn offer_of(
+    alloc: Global,
+    sale: Sale<'_>,
+    bidder: u32,
+    bidid: &Text,
+    seat: &SeatBid,
+    bid: &Bid,
+) -> Offer
     ensures value { result ≡ offer_by_rules sale.entry.request.now sale.entry.roster.now.campaigns (seated bidder bidid.now seat.now bid.now) }
     ensures fits { FitsDay sale.entry.request.now sale.entry.roster.now.campaigns (seated bidder bidid.now seat.now bid.now) }
 {
-    match admit(sale.request, sale.roster, bidder, bidid.as_str(), seat, bid) {
+    match admit(
+        alloc,
+        sale.request,
+        sale.roster,
+        bidder,
+        bidid.as_str(),
+        seat,
+        bid,
+    ) {
         Ok(offer) => offer,
         Err(reason) => refused(sale.request, bid, reason),
     }

@@ -9,7 +9,7 @@ use Rattle.adx_units.specs.declared.price.PriceFault.TheVariants.{NotNumber}
 use Rattle.tree_view.specs.Values.{text_in, number_in, text_or_empty, items_in}
 use Rattle.tree_view.specs.Checks.{Check, check, judged}
 use Rattle.rtb_request.specs.Amounts.{is_id, units_or_zero}
-use Rattle.rtb_request.specs.Distinct.{is_among}
+use Rattle.name_sets.specs.Among.{is_among}
 use Rattle.deal_floor.specs.Forms.{text_or}
 use Rattle.deal_floor.specs.declared.fault.RosterFault.{RosterFault}
 use Rattle.deal_floor.specs.declared.fault.RosterFault.TheVariants.{BadField, Repeated, TooMany}

@@ -6,7 +6,8 @@ use Rattle.std.proofs.Math.Seq.{append_snoc}
 use Rattle.adx_json.specs.Tree.{Tree}
 use Rattle.tree_view.specs.Checks.{judged}
 use Rattle.tree_view.proofs.Judging.{judged_on, judged_off, judged_value}
-use Rattle.rtb_request.specs.Distinct.{is_among, all_distinct}
+use Rattle.name_sets.specs.Among.{is_among}
+use Rattle.rtb_request.specs.Distinct.{all_distinct}
 use Rattle.rtb_request.proofs.Distinct.{distinct_more}
 use Rattle.deal_floor.specs.Faults.{lacks_memory}
 use Rattle.deal_floor.specs.Rosters.{PlaceView, bidder_checks, bidders_checks, place_view, bidder_name}

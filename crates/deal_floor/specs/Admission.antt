@@ -9,7 +9,7 @@ use Rattle.adx_units.specs.declared.price.PriceFault.{PriceFault}
 use Rattle.adx_units.specs.declared.offer.Offer.{Offer}
 use Rattle.adx_units.specs.declared.offer.TheConstants.{ADMITTED}
 use Rattle.tree_view.specs.Checks.{Check, check, judged}
-use Rattle.rtb_request.specs.Distinct.{is_among}
+use Rattle.name_sets.specs.Among.{is_among}
 use Rattle.rtb_request.specs.Seen.{deal_has_id, imp_has_id}
 use Rattle.rtb_request.specs.declared.bid_request.BidRequest.{BidRequest}
 use Rattle.rtb_request.specs.declared.imp.Imp.{Imp}

@@ -10,7 +10,7 @@ use Rattle.adx_units.specs.declared.units.Units.{Units}
 use Rattle.tree_view.specs.Values.{text_in, text_or_empty, items_in, texts_in, or_zero, is_text_if_given, is_list_if_given, is_object_if_given, are_texts_if_given}
 use Rattle.tree_view.specs.Checks.{Check, check, judged}
 use Rattle.rtb_request.specs.Amounts.{is_id, units_or_zero}
-use Rattle.rtb_request.specs.Distinct.{is_among}
+use Rattle.name_sets.specs.Among.{is_among}
 use Rattle.deal_floor.specs.Forms.{member_within, is_date_text, text_or, is_whole_if_given, whole_or, is_path_if_given, budget_in, place_in}
 use Rattle.deal_floor.specs.Pairs.{Pair, is_pair_among}
 use Rattle.deal_floor.specs.declared.campaign.TheConstants.{MOST_CAMPAIGNS}

@@ -2,22 +2,26 @@
 ghost use Rattle.std.specs.Prelude.{◌≡◌, ◌≤◌, ◌<◌, ◌⊎◌, ◌&&◌, not, length, IfOk};
 ghost use Rattle.adx_units.specs.declared.offer.TheConstants.{ADMITTED};
 ghost use Rattle.adx_units.specs.declared.price.TheConstants.{PRICE_LIMIT};
-ghost use Rattle.rtb_request.specs.Distinct.{is_among as is_among_by};
+ghost use Rattle.name_sets.specs.Among.{is_among as is_among_by};
 ghost use Rattle.deal_floor.specs.Admission.{admitted, refused_offer, kept_length, life_by, number_or_zero, allows as allows_by, case_by_parts};
 ghost use Rattle.deal_floor.specs.declared.terms.TheConstants.{MOST_KEPT, MOST_LIFE, NO_IMP};
 
 use crate::asked::{Asked, place_of_imp, sale_of};
-use crate::deals::{allows, any_among, charge_of, is_among, is_deal_eligible, named_deal};
+use crate::deals::{allows, charge_of, is_deal_eligible, named_deal};
 use crate::reason::Reason;
 use crate::roster::Roster;
 use crate::terms::{MOST_LIFE, NO_IMP, USUAL_LIFE};
 use adx_units::{ADMITTED, Offer, Units};
+use name_sets::{any_among, is_among};
 use rtb_request::{BidRequest, Deal};
 use rtb_response::{Bid, SeatBid};
+use std::alloc::Global;
 
 /// The offer that a bid is, or the first of the seven rules that it fails. `bidder` is the bidder's place in the roster
-/// and `bidid` the answer's; `bid` is one of the seat's. No memory is taken.
+/// and `bidid` the answer's; `bid` is one of the seat's. Memory is taken where two long lists of names are compared, and
+/// given back; where it is refused the answer is the same.
 pub fn admit(
+    alloc: Global,
     request: &BidRequest,
     roster: &Roster,
     bidder: u32,
@@ -48,7 +52,7 @@ pub fn admit(
     if !is_seat_allowed(request, seat) {
         return Err(Reason::SeatNotAllowed);
     }
-    if !is_deal_eligible(seat, bid, sale.imp.private_only, deal) {
+    if !is_deal_eligible(alloc, seat, bid, sale.imp.private_only, deal) {
         return Err(Reason::DealNotEligible);
     }
     if bid.dealid.is_none() && sale.price.0 < sale.imp.floor.0 {
@@ -57,10 +61,10 @@ pub fn admit(
     if bid.dealid.is_some() && sale.price.0 < floor_of(deal) {
         return Err(Reason::BelowDealFloor);
     }
-    if any_among(bid.adomain.as_slice(), request.badv.as_slice()) {
+    if any_among(alloc, bid.adomain.as_slice(), request.badv.as_slice()) {
         return Err(Reason::BlockedAdvertiser);
     }
-    if any_among(bid.cat.as_slice(), request.bcat.as_slice()) {
+    if any_among(alloc, bid.cat.as_slice(), request.bcat.as_slice()) {
         return Err(Reason::BlockedCategory);
     }
     Ok(Offer {

@@ -1,39 +1,20 @@
 //! The rules on lists of names, and on deals.
 ghost use Rattle.std.specs.Prelude.{◌≡◌, Some, option_map};
-ghost use Rattle.std.specs.List.{list_all, list_any, position};
-ghost use Rattle.rtb_request.specs.Distinct.{is_among as is_among_by};
+ghost use Rattle.std.specs.List.{position};
 ghost use Rattle.rtb_request.specs.Seen.{deal_has_id};
 ghost use Rattle.deal_floor.specs.Admission.{allows as allows_by, advertisers_allowed, deal_is_open_to, deal_eligible_by, deal_in as deal_in_by, deal_by, charge_by};
 
 use adx_units::{Text, Units};
+use name_sets::{all_among, is_among};
 use rtb_request::{Deal, Imp};
 use rtb_response::{Bid, SeatBid};
-
-/// Whether a name is one of some names.
-pub(crate) fn is_among(names: &[Text], name: &[u8]) -> bool
-    ensures { result ≡ is_among_by names.now name.now }
-{
-    names.iter().any(|other| other.as_bytes() == name)
-}
+use std::alloc::Global;
 
 /// Whether a list of those that are allowed allows a name; an empty one allows all.
 pub(crate) fn allows(names: &[Text], name: &[u8]) -> bool
     ensures { result ≡ allows_by names.now name.now }
 {
     names.is_empty() || is_among(names, name)
-}
-
-/// Whether one of the first names is one of the others.
-pub(crate) fn any_among(names: &[Text], others: &[Text]) -> bool
-    ensures { result ≡ list_any (is_among_by others.now) names.now }
-{
-    names.iter().any(|name| is_among(others, name.as_bytes()))
-}
-
-fn all_among(names: &[Text], others: &[Text]) -> bool
-    ensures { result ≡ list_all (is_among_by others.now) names.now }
-{
-    names.iter().all(|name| is_among(others, name.as_bytes()))
 }
 
 /// The deal of an impression that a bid names. None where it names none, or none of the impression.
@@ -63,24 +44,26 @@ fn place_in(deals: &[Deal], id: &Text) -> Option<usize>
 }
 
 /// Whether the advertisers of a bid may use a deal.
-fn are_advertisers_allowed(deal: &Deal, bid: &Bid) -> bool
+fn are_advertisers_allowed(alloc: Global, deal: &Deal, bid: &Bid) -> bool
     ensures { result ≡ advertisers_allowed deal.now bid.now }
 {
     let adomain = bid.adomain.as_slice();
-    deal.wadomain.is_empty() || !adomain.is_empty() && all_among(adomain, deal.wadomain.as_slice())
+    deal.wadomain.is_empty()
+        || !adomain.is_empty() && all_among(alloc, adomain, deal.wadomain.as_slice())
 }
 
 /// Whether a deal is open to a bid: to its seat and its advertisers, and its fixed price isn't 0.
-fn is_open_to(seat: &SeatBid, bid: &Bid, deal: &Deal) -> bool
+fn is_open_to(alloc: Global, seat: &SeatBid, bid: &Bid, deal: &Deal) -> bool
     ensures { result ≡ deal_is_open_to seat.now bid.now deal.now }
 {
     allows(deal.wseat.as_slice(), seat.seat.as_bytes())
-        && are_advertisers_allowed(deal, bid)
+        && are_advertisers_allowed(alloc, deal, bid)
         && !(deal.fixed && deal.floor.0 == 0)
 }
 
 /// Whether a bid's deal, or its want of one, is in order.
 pub(crate) fn is_deal_eligible(
+    alloc: Global,
     seat: &SeatBid,
     bid: &Bid,
     private_only: bool,
@@ -92,7 +75,7 @@ pub(crate) fn is_deal_eligible(
         return !private_only;
     }
     match deal {
-        Some(deal) => is_open_to(seat, bid, deal),
+        Some(deal) => is_open_to(alloc, seat, bid, deal),
         None => false,
     }
 }

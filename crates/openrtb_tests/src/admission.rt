@@ -94,10 +94,15 @@ fn request_of(alloc: Global, text: &str) -> Option<BidRequest> {
 }
 
 /// The offer of the first bid of a seat, by the first bidder.
-fn offer_of(request: &BidRequest, roster: &Roster, answer: &BidAnswer) -> Option<Offer> {
+fn offer_of(
+    alloc: Global,
+    request: &BidRequest,
+    roster: &Roster,
+    answer: &BidAnswer,
+) -> Option<Offer> {
     let seat = answer.seats.as_slice().first()?;
     let bid = seat.bids.as_slice().first()?;
-    match admit(request, roster, 0, answer.bidid.as_str(), seat, bid) {
+    match admit(alloc, request, roster, 0, answer.bidid.as_str(), seat, bid) {
         Ok(offer) => Some(offer),
         Err(reason) => Some(refused(request, bid, reason)),
     }
@@ -127,7 +132,7 @@ fn is_offered(
     want: &str,
 ) -> bool {
     match answer_of(alloc, request, text) {
-        Some(answer) => match offer_of(request, roster, &answer) {
+        Some(answer) => match offer_of(alloc, request, roster, &answer) {
             Some(offer) => is_offer(&offer, want),
             None => false,
         },

@@ -49,18 +49,26 @@ fn roster_of(alloc: Global, text: &str) -> Option<Roster> {
 }
 
 /// How many bids of an answer there are, how many of them are what the rules make of them, and the last one's reason.
-fn counts(request: &BidRequest, roster: &Roster, answer: &BidAnswer) -> (u32, u32, u16) {
+fn counts(
+    alloc: Global,
+    request: &BidRequest,
+    roster: &Roster,
+    answer: &BidAnswer,
+) -> (u32, u32, u16) {
     let mut count = 0_u32;
     let mut plain = 0_u32;
     let mut last = 0_u16;
     for seat in answer.seats.as_slice() {
         for bid in seat.bids.as_slice() {
-            let (reason, is_plain) = judged(Made {
-                request,
-                roster,
-                seat,
-                bid,
-            });
+            let (reason, is_plain) = judged(
+                alloc,
+                Made {
+                    request,
+                    roster,
+                    seat,
+                    bid,
+                },
+            );
             count = count.saturating_add(1);
             plain = plain.saturating_add(if is_plain { 1 } else { 0 });
             last = reason;
@@ -77,7 +85,7 @@ fn counted(
     answer: &str,
 ) -> Option<(u32, u32, u16)> {
     match answer_of(alloc, request, answer) {
-        Some(answer) => Some(counts(request, roster, &answer)),
+        Some(answer) => Some(counts(alloc, request, roster, &answer)),
         None => None,
     }
 }

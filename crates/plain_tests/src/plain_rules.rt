@@ -3,6 +3,7 @@ use adx_units::{Offer, Text};
 use deal_floor::{Roster, admit, refused};
 use rtb_request::{BidRequest, Deal, Imp};
 use rtb_response::{Bid, SeatBid};
+use std::alloc::Global;
 
 /// A bid with what it is made on; the bidder is the first one.
 #[derive(Clone, Copy)]
@@ -277,16 +278,16 @@ fn plain(made: Made<'_>) -> Numbers {
 }
 
 /// The offer that a bid is.
-fn offer_of(made: Made<'_>) -> Offer {
-    match admit(made.request, made.roster, 0, "", made.seat, made.bid) {
+fn offer_of(alloc: Global, made: Made<'_>) -> Offer {
+    match admit(alloc, made.request, made.roster, 0, "", made.seat, made.bid) {
         Ok(offer) => offer,
         Err(reason) => refused(made.request, made.bid, reason),
     }
 }
 
 /// The reason of the offer that a bid is, and whether the offer is the one that the rules make of it.
-pub(crate) fn judged(made: Made<'_>) -> (u16, bool) {
-    let offer = offer_of(made);
+pub(crate) fn judged(alloc: Global, made: Made<'_>) -> (u16, bool) {
+    let offer = offer_of(alloc, made);
     let (place, campaign, charge, life, reason) = plain(made);
     let is_named = (offer.imp == place) & (offer.campaign == campaign);
     let is_priced = (offer.charge.0 == charge) & (offer.life == life);

@@ -7,7 +7,7 @@ use Rattle.adx_units.specs.declared.units.Units.{Units}
 use Rattle.tree_view.specs.Values.{given, text_in, text_or_empty, is_text_if_given, is_absent_or, is_number_text, are_texts_if_given, texts_in}
 use Rattle.tree_view.specs.Checks.{Check, check, judged}
 use Rattle.rtb_request.specs.Amounts.{floor_in, units_or_zero}
-use Rattle.rtb_request.specs.Distinct.{is_among}
+use Rattle.name_sets.specs.Among.{is_among}
 use Rattle.rtb_request.specs.declared.fault.RequestFault.{RequestFault}
 use Rattle.rtb_request.specs.declared.fault.RequestFault.TheVariants.{BadField}
 use Rattle.rtb_request.specs.declared.fault.Field.TheVariants.{DealId, DealBidfloor, DealBidfloorcur, DealWseat, DealWadomain}

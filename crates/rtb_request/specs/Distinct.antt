@@ -3,10 +3,6 @@ use Rattle.std.specs.Prelude.{ℕ, List, [], ◌∷◌, Bool, true, ◌&&◌, no
 use Rattle.std.specs.List.{list_any}
 use Rattle.std.specs.Str.{bytes_eq}
 
--- one of the names is this one
-abbrev pub is_among : List (List ℕ) → List ℕ → Bool
-is_among names name = list_any (λ n. bytes_eq n name) names
-
 abbrev pub all_distinct : List (List ℕ) → Bool
 all_distinct [] = true
 all_distinct (n ∷ ns) = not (list_any (bytes_eq n) ns) && all_distinct ns

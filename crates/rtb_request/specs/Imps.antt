@@ -8,7 +8,7 @@ use Rattle.adx_units.specs.declared.units.Units.{Units}
 use Rattle.tree_view.specs.Values.{given, text_or_empty, items_in, is_text_if_given, is_list_if_given, is_object_if_given, is_absent_or, is_number_text}
 use Rattle.tree_view.specs.Checks.{Check, check}
 use Rattle.rtb_request.specs.Amounts.{floor_in, units_or_zero, seconds_in, is_id}
-use Rattle.rtb_request.specs.Distinct.{is_among}
+use Rattle.name_sets.specs.Among.{is_among}
 use Rattle.rtb_request.specs.Deals.{DealView, deal_checks, with_deals}
 use Rattle.rtb_request.specs.declared.fault.RequestFault.{RequestFault}
 use Rattle.rtb_request.specs.declared.fault.RequestFault.TheVariants.{RepeatedImp, BadField}

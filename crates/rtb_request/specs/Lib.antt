@@ -7,3 +7,4 @@ pub mod Requests
 pub mod Seen
 pub mod ForBidders
 pub mod Copies
+pub mod Met

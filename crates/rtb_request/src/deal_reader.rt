@@ -1,19 +1,19 @@
 //! The view of a deal's tree, or its first fault.
 ghost use Rattle.std.specs.Prelude.{◌≡◌, map, true, IfOk, OnOk};
-ghost use Rattle.std.specs.List.{list_any};
 ghost use Rattle.adx_json.specs.View.{tree_of, trees_of};
 ghost use Rattle.tree_view.specs.Checks.{Gives, judged};
 ghost use Rattle.rtb_request.specs.Faults.{lacks_memory};
 ghost use Rattle.rtb_request.specs.Distinct.{all_distinct};
 ghost use Rattle.rtb_request.specs.Deals.{deal_checks, deals_in, with_deal};
-ghost use Rattle.rtb_request.specs.Seen.{seen_deal, deal_has_id};
+ghost use Rattle.rtb_request.specs.Met.{AreIds};
+ghost use Rattle.rtb_request.specs.Seen.{seen_deal};
 
 use crate::amount::floor_in;
 use crate::deal::Deal;
 use crate::fault::{Field, RequestFault, bad_field};
 use crate::members::deal_members;
 use adx_json::Json;
-use adx_units::Text;
+use name_sets::NameSet;
 use std::alloc::Global;
 use tree_view::{
     are_texts_if_given, is_absent_or, is_number_text, is_text_if_given, text_in, texts_in,
@@ -25,17 +25,26 @@ pub(crate) fn deals_of(alloc: Global, trees: &[Json]) -> Result<Vec<Deal>, Reque
     ensures distinct { IfOk result (λ ds. all_distinct (map (λ d. d.id) ds.items) ≡ true) }
 {
     let mut deals = Vec::new(alloc);
+    let mut ids = NameSet::new(alloc);
     for tree in trees {
-        if let Err(fault) = add_deal(alloc, &mut deals, tree) {
+        if let Err(fault) = add_deal(alloc, &mut deals, &mut ids, tree) {
             return Err(fault);
         }
     }
     Ok(deals)
 }
 
-/// Adds a deal where it counts, or tells its first fault. Memory is asked for once every test holds.
-#[tactic(auto, using(crate::proofs::DealSteps::among_seen, crate::proofs::DealSteps::pushed_seen, crate::proofs::DealSteps::pushed_distinct))]
-fn add_deal(alloc: Global, deals: &mut Vec<Deal>, tree: &Json) -> Result<(), RequestFault>
+/// Adds a deal where it counts, or tells its first fault. Memory is asked for once every test holds. The ids are those
+/// of the deals.
+#[tactic(auto, using(crate::proofs::DealSteps::among_seen, crate::proofs::DealSteps::among_met, crate::proofs::DealSteps::met_more, crate::proofs::DealSteps::pushed_seen, crate::proofs::DealSteps::pushed_distinct))]
+fn add_deal<'a>(
+    alloc: Global,
+    deals: &mut Vec<Deal>,
+    ids: &mut NameSet<'a>,
+    tree: &'a Json,
+) -> Result<(), RequestFault>
+    requires ids { AreIds ids.old deals.old.items }
+    ensures ids { OnOk result (AreIds ids.new deals.new.items) }
     ensures gives { Gives lacks_memory (λ _. map seen_deal deals.new.items) result
         (judged (deal_checks (tree_of tree.now)) (with_deal (map seen_deal deals.old.items) (tree_of tree.now))) }
     ensures distinct { all_distinct (map (λ d. d.id) deals.old.items) ≡ true
@@ -57,9 +66,10 @@ fn add_deal(alloc: Global, deals: &mut Vec<Deal>, tree: &Json) -> Result<(), Req
     if !are_texts_if_given(found.wadomain) {
         return Err(bad_field(Field::DealWadomain));
     }
-    if !is_absent_or(found.bidfloorcur, "USD") || is_among(deals, id) {
+    if !is_absent_or(found.bidfloorcur, "USD") || ids.has(id.as_str()) {
         return Ok(());
     }
+    ids.put(id.as_str())?;
     let deal = Deal {
         id: id.copy(alloc)?,
         floor,
@@ -69,11 +79,4 @@ fn add_deal(alloc: Global, deals: &mut Vec<Deal>, tree: &Json) -> Result<(), Req
     };
     deals.push(deal)?;
     Ok(())
-}
-
-/// Whether one of the deals has this id.
-fn is_among(deals: &[Deal], id: &Text) -> bool
-    ensures { result ≡ list_any (deal_has_id id.now) deals.now }
-{
-    deals.iter().any(|deal| deal.id.as_bytes() == id.as_bytes())
 }

@@ -2,7 +2,7 @@
 //!
 //! A request's tree has a view, which is what its members say, or a first fault; `BidRequest::of` gives
 //! just that, and `OfferedImps::of` as much of it as a bidder reads. Ranges, lengths and distinct ids are facts of the types. `for_bidders` is what bidders are asked.
-//! Stands on adx_units, adx_json, tree_view and sha2.
+//! Stands on adx_units, name_sets, adx_json, tree_view and sha2.
 #![tactic(auto)]
 
 mod amount;

@@ -9,7 +9,8 @@ use Rattle.adx_json.specs.Named.{member_in}
 use Rattle.adx_units.specs.Number.{begins_with}
 use Rattle.tree_view.specs.Checks.{first_fault}
 use Rattle.tree_view.specs.Values.{text_in, or_empty}
-use Rattle.rtb_request.specs.Distinct.{is_among, all_distinct}
+use Rattle.name_sets.specs.Among.{is_among}
+use Rattle.rtb_request.specs.Distinct.{all_distinct}
 use Rattle.rtb_request.proofs.Distinct.{distinct_more}
 use Rattle.deal_floor.specs.Forms.{is_date, is_date_text, is_path, is_path_if_given, text_or, member_within}
 use Rattle.deal_floor.specs.Pairs.{Pair, is_pair_among, all_pairs_distinct, pair_of, have_bidders}

@@ -9,6 +9,7 @@ loop-tree-preserved c =
     let left = left_is c.args.trees.now c.loop-tree.tree-index c.tree-item.result c.loop-tree-test.true c.tree-item.is in
     record {
       gives = step_on _ _ (tree_of c.tree-item.result) _ _ left c.in_default.ensures.gives ∙ c.loop-tree.invariant.gives;
+      ids = c.in_default.ensures.ids;
       distinct = c.in_default.ensures.distinct c.loop-tree.invariant.distinct;
     }
 
