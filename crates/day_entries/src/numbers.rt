@@ -39,6 +39,26 @@ impl Numbers {
         }
     }
 
+    /// The fewest bytes of a name, of one byte behind its length.
+    pub(crate) fn least_name(self) -> usize
+        ensures { 1 ≤ result }
+    {
+        match self {
+            Numbers::Fixed => 5,
+            Numbers::Grouped => 2,
+        }
+    }
+
+    /// The fewest bytes of a bid's texts: its place and the lengths of seven empty texts.
+    pub(crate) fn least_kept(self) -> usize
+        ensures { 1 ≤ result }
+    {
+        match self {
+            Numbers::Fixed => 32,
+            Numbers::Grouped => 8,
+        }
+    }
+
     /// The fewest bytes of an offer.
     pub(crate) fn least_offer(self) -> usize
         ensures { 1 ≤ result }

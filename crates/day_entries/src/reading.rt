@@ -96,7 +96,9 @@ fn imps_of(alloc: Global, numbers: Numbers, bytes: &[u8]) -> Result<(Sequence<Id
     ensures { Gives (λ x. (x.0, x.1.now)) result ((imps numbers).reads bytes.now) }
 {
     let (count, first) = numbers.small(bytes)?;
-    let mut imps = Vec::new(alloc);
+    // No more than the bytes can hold, whatever the number says.
+    let room = first.len() / numbers.least_name();
+    let mut imps = Vec::with_capacity(alloc, (count as usize).min(room))?;
     let mut rest = first;
     for _ in 0..count {
         let (imp, after) = id_of(alloc, numbers, rest)?;
@@ -138,7 +140,9 @@ fn all_kept_of(
     ensures { Gives (λ x. (x.0, x.1.now)) result ((all_kept numbers).reads bytes.now) }
 {
     let (count, first) = numbers.long(bytes)?;
-    let mut kept = Vec::new(alloc);
+    // No more than the bytes can hold, whatever the number says.
+    let room = first.len() / numbers.least_kept();
+    let mut kept = Vec::with_capacity(alloc, (count as usize).min(room))?;
     let mut rest = first;
     for _ in 0..count {
         let (one, after) = kept_of(alloc, numbers, rest)?;
