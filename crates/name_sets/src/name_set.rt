@@ -1,5 +1,5 @@
 //! A set of names that are borrowed.
-ghost use Rattle.std.specs.Prelude.{◌≡◌, ◌||◌, [], List, ℕ, IfOk, OnOk};
+ghost use Rattle.std.specs.Prelude.{◌≡◌, ◌||◌, [], List, ℕ, IfOk, OnErr, OnOk};
 ghost use Rattle.std.specs.Str.{bytes_eq};
 ghost use Rattle.name_sets.specs.Among.{is_among};
 
@@ -53,9 +53,10 @@ impl<'a> NameSet<'a> {
         self.names.contains(name)
     }
 
-    /// Puts in a name.
+    /// Puts in a name. Where memory is refused, the names stay.
     pub fn put(&mut self, name: &'a str) -> Result<(), OutOfMemory>
-        ensures { OnOk result ((other : List ℕ) → is_among self.new other ≡ (bytes_eq name.now other || is_among self.old other)) }
+        ensures added { OnOk result ((other : List ℕ) → is_among self.new other ≡ (bytes_eq name.now other || is_among self.old other)) }
+        ensures stays { OnErr result (self.new ≡ self.old) }
     {
         let _is_new = self.names.insert(name)?;
         Ok(())

@@ -11,7 +11,7 @@ use std::alloc::Global;
 
 /// A list of names. Where it is long and memory allows, its names stand in a set, too.
 #[derive(Drop)]
-pub struct Names<'a> {
+pub(crate) struct Names<'a> {
     pub texts: &'a [Text],
     pub set: Option<NameSet<'a>>,
 
@@ -20,7 +20,7 @@ pub struct Names<'a> {
 
 impl<'a> Names<'a> {
     /// The names of a list. Where memory is refused for the set, each name is compared with each.
-    pub fn of(alloc: Global, texts: &'a [Text]) -> Names<'a>
+    pub(crate) fn of(alloc: Global, texts: &'a [Text]) -> Names<'a>
         ensures { result.texts.now ≡ texts.now }
     {
         if texts.len() <= FEW {
@@ -36,7 +36,7 @@ impl<'a> Names<'a> {
     }
 
     /// Whether a name is one of them.
-    pub fn has(&self, name: &Text) -> bool
+    pub(crate) fn has(&self, name: &Text) -> bool
         ensures { result ≡ is_among_by self.now.texts.now name.now }
     {
         match &self.set {
@@ -46,14 +46,14 @@ impl<'a> Names<'a> {
     }
 
     /// Whether one of some names is one of them.
-    pub fn has_any(&self, names: &[Text]) -> bool
+    pub(crate) fn has_any(&self, names: &[Text]) -> bool
         ensures { result ≡ list_any (is_among_by self.now.texts.now) names.now }
     {
         names.iter().any(|name| self.has(name))
     }
 
     /// Whether each of some names is one of them.
-    pub fn has_all(&self, names: &[Text]) -> bool
+    pub(crate) fn has_all(&self, names: &[Text]) -> bool
         ensures { result ≡ list_all (is_among_by self.now.texts.now) names.now }
     {
         names.iter().all(|name| self.has(name))
