@@ -1,5 +1,6 @@
 //! The bids that were taken so far: each as an offer, and with its texts.
-ghost use Rattle.std.specs.Prelude.{◌≡◌, ◌<◌, ◌≤◌, ◌+◌, ◌^◌, ◌∷◌, [], ℕ, length, option_map, OnOk, IfOk};
+ghost use Rattle.std.specs.Prelude.{◌≡◌, ◌<◌, ◌≤◌, ◌+◌, ◌^◌, ◌++◌, [], ℕ, All, length, map, OnOk, IfOk};
+ghost use Rattle.std.specs.List.{enumerate_from};
 ghost use Rattle.rtb_response.specs.declared.bid_answer.SeatBid.{SeatBid as Seat};
 ghost use Rattle.ask_making.specs.Making.{seated, bids_of_seat, bids_of, offer_of as offer_by_rules, kept_of};
 ghost use Rattle.rtb_response.specs.declared.bid.TheConstants.{MOST_BIDS};
@@ -27,14 +28,14 @@ pub(crate) struct Bids {
 }
 
 impl Bids {
-    /// No bid.
-    pub(crate) fn new(alloc: Global) -> Bids
-        ensures { (result.offers.items ≡ []) × (result.kept.items ≡ []) }
+    /// No bid, with room for so many.
+    pub(crate) fn with_room(alloc: Global, room: usize) -> Result<Bids, OutOfMemory>
+        ensures { IfOk result (λ bids. (bids.offers.items ≡ []) × (bids.kept.items ≡ [])) }
     {
-        Bids {
-            offers: Vec::new(alloc),
-            kept: Vec::new(alloc),
-        }
+        Ok(Bids {
+            offers: Vec::with_capacity(alloc, room)?,
+            kept: Vec::with_capacity(alloc, room)?,
+        })
     }
 
     /// Takes the bids of a bidder's answer; without an answer there are none.
@@ -43,12 +44,12 @@ impl Bids {
         alloc: Global,
         sale: Sale<'_>,
         bidder: u32,
-        answer: Option<&BidAnswer>,
+        answer: Option<BidAnswer>,
     ) -> Result<(), OutOfMemory>
         requires few { length self.old.offers.items + MOST_BIDS < 2 ^ 32 }
         ensures few { OnOk result (length self.new.offers.items ≤ length self.old.offers.items + MOST_BIDS) }
         ensures taken { OnOk result (HasTaken sale.entry.request.now sale.entry.roster.now.campaigns self.old self.new
-            (bids_of (bidder, option_map (λ x. x.now) answer.entry))) }
+            (bids_of (bidder, answer))) }
     {
         match answer {
             Some(answer) => {
@@ -65,14 +66,16 @@ impl Bids {
         alloc: Global,
         sale: Sale<'_>,
         bidder: u32,
-        answer: &BidAnswer,
+        answer: BidAnswer,
     ) -> Result<(), OutOfMemory>
-        requires few { length self.old.offers.items + length (bids_of_seats bidder answer.now) < 2 ^ 32 }
-        ensures counted { OnOk result (length self.new.offers.items ≡ length self.old.offers.items + length (bids_of_seats bidder answer.now)) }
+        requires few { length self.old.offers.items + length (bids_of_seats bidder answer) < 2 ^ 32 }
+        ensures counted { OnOk result (length self.new.offers.items ≡ length self.old.offers.items + length (bids_of_seats bidder answer)) }
         ensures taken { OnOk result (HasTaken sale.entry.request.now sale.entry.roster.now.campaigns self.old self.new
-            (bids_of_seats bidder answer.now)) }
+            (bids_of_seats bidder answer)) }
     {
-        for seat in answer.seats.as_slice() {
+        let mut left = answer.seats.into_vec();
+        left.reverse();
+        'seats: while let Some(seat) = left.pop() {
             self.take_seat(alloc, sale, bidder, &answer.bidid, seat)?;
         }
         Ok(())
@@ -85,41 +88,61 @@ impl Bids {
         sale: Sale<'_>,
         bidder: u32,
         bidid: &Text,
-        seat: &SeatBid,
+        seat: SeatBid,
     ) -> Result<(), OutOfMemory>
-        requires few { length self.old.offers.items + length seat.now.bids < 2 ^ 32 }
-        ensures counted { OnOk result (length self.new.offers.items ≡ length self.old.offers.items + length seat.now.bids) }
+        requires few { length self.old.offers.items + length seat.bids < 2 ^ 32 }
+        ensures counted { OnOk result (length self.new.offers.items ≡ length self.old.offers.items + length seat.bids) }
         ensures taken { OnOk result (HasTaken sale.entry.request.now sale.entry.roster.now.campaigns self.old self.new
-            (bids_of_seat bidder bidid.now seat.now)) }
+            (bids_of_seat bidder bidid.now seat)) }
     {
-        for bid in seat.bids.as_slice() {
-            self.take_bid(alloc, sale, bidder, bidid, seat, bid)?;
-        }
+        let first = self.offers.as_slice().len();
+        put_offers(alloc, sale, bidder, bidid, &seat, &mut self.offers)?;
+        let bids = seat.bids.into_vec();
+        put_kept(alloc, first, bidid, &seat.seat, bids, &mut self.kept)?;
         Ok(())
     }
+}
 
-    /// Takes a bid.
-    fn take_bid(
-        &mut self,
-        alloc: Global,
-        sale: Sale<'_>,
-        bidder: u32,
-        bidid: &Text,
-        seat: &SeatBid,
-        bid: &Bid,
-    ) -> Result<(), OutOfMemory>
-        requires few { length self.old.offers.items < 2 ^ 32 }
-        ensures counted { OnOk result (length self.new.offers.items ≡ length self.old.offers.items + 1) }
-        ensures taken { OnOk result (HasTaken sale.entry.request.now sale.entry.roster.now.campaigns self.old self.new
-            (seated bidder bidid.now seat.now bid.now ∷ [])) }
-    {
-        let place = self.offers.as_slice().len();
-        self.kept
-            .push(kept_texts(alloc, place, bidid, &seat.seat, bid)?)?;
-        self.offers
-            .push(offer_of(alloc, sale, bidder, bidid, seat, bid))?;
-        Ok(())
+/// Puts the offers that a seat's bids are behind those that were taken.
+fn put_offers(
+    alloc: Global,
+    sale: Sale<'_>,
+    bidder: u32,
+    bidid: &Text,
+    seat: &SeatBid,
+    offers: &mut Vec<Offer>,
+) -> Result<(), OutOfMemory>
+    ensures offers { OnOk result (offers.new.items ≡ offers.old.items
+        ++ map (offer_by_rules sale.entry.request.now sale.entry.roster.now.campaigns) (bids_of_seat bidder bidid.now seat.now)) }
+    ensures fit { OnOk result (All (FitsDay sale.entry.request.now sale.entry.roster.now.campaigns) (bids_of_seat bidder bidid.now seat.now)) }
+{
+    for bid in seat.bids.as_slice() {
+        offers.push(offer_of(alloc, sale, bidder, bidid, seat, bid))?;
     }
+    Ok(())
+}
+
+/// Puts the texts of a seat's bids, of which the first has that place among all bids, behind those that were taken.
+fn put_kept(
+    alloc: Global,
+    first: usize,
+    bidid: &Text,
+    seat: &Text,
+    bids: Vec<Bid>,
+    kept: &mut Vec<Kept>,
+) -> Result<(), OutOfMemory>
+    requires few { first + length bids.items < 2 ^ 32 }
+    ensures { OnOk result ((bidder : ℕ) (s : Seat) → s.seat ≡ seat.now → kept.new.items ≡ kept.old.items
+        ++ map kept_of (enumerate_from first (map (seated bidder bidid.now s) bids.items))) }
+{
+    let mut left = bids;
+    left.reverse();
+    let mut place = first;
+    'bids: while let Some(bid) = left.pop() {
+        kept.push(kept_texts(alloc, place, bidid, seat, bid)?)?;
+        place += 1;
+    }
+    Ok(())
 }
 
 /// The offer that a bid is, as it is admitted or refused.
@@ -148,25 +171,25 @@ fn offer_of(
     }
 }
 
-/// Copies of a bid's texts.
+/// A bid's texts, moved out of it, with copies of those that it came by.
 fn kept_texts(
     alloc: Global,
     place: usize,
     bidid: &Text,
     seat: &Text,
-    bid: &Bid,
+    bid: Bid,
 ) -> Result<Kept, OutOfMemory>
     requires { place < 2 ^ 32 }
-    ensures { IfOk result (λ k. (bidder : ℕ) (s : Seat) → s.seat ≡ seat.now → k ≡ kept_of (place, seated bidder bidid.now s bid.now)) }
+    ensures { IfOk result (λ k. (bidder : ℕ) (s : Seat) → s.seat ≡ seat.now → k ≡ kept_of (place, seated bidder bidid.now s bid)) }
 {
     Ok(Kept {
         bid: place as u32,
         seat: seat.copy(alloc)?,
         bidid: bidid.copy(alloc)?,
-        adid: bid.adid.copy(alloc)?,
-        nurl: bid.nurl.copy(alloc)?,
-        burl: bid.burl.copy(alloc)?,
-        lurl: bid.lurl.copy(alloc)?,
-        body: bid.body.copy(alloc)?,
+        adid: bid.adid,
+        nurl: bid.nurl,
+        burl: bid.burl,
+        lurl: bid.lurl,
+        body: bid.body,
     })
 }

@@ -1,5 +1,5 @@
 //! The ask of a request and its answers.
-ghost use Rattle.std.specs.Prelude.{◌≡◌, ◌≤◌, ◌<◌, ◌^◌, length, map, option_map, IfOk};
+ghost use Rattle.std.specs.Prelude.{◌≡◌, ◌≤◌, ◌<◌, ◌^◌, length, map, IfOk};
 ghost use Rattle.day_rules.specs.Asks.{IsWellFormed, IsUndecided};
 ghost use Rattle.ask_making.specs.Making.{ask_by_parts, ask_of};
 
@@ -18,43 +18,38 @@ pub fn make_ask(
     alloc: Global,
     request: &BidRequest,
     roster: &Roster,
-    answers: &[Option<BidAnswer>],
+    answers: Vec<Option<BidAnswer>>,
     now: u64,
 ) -> Result<Ask, OutOfMemory>
-    requires answers { length answers.now ≤ length roster.now.bidders }
+    requires answers { length answers.items ≤ length roster.now.bidders }
     requires now { now < 2 ^ 63 }
-    ensures gives { IfOk result (λ a. a ≡ ask_of request.now roster.entry.now.campaigns answers.now now) }
+    ensures gives { IfOk result (λ a. a ≡ ask_of request.now roster.entry.now.campaigns answers.items now) }
     ensures well_formed { IfOk result (IsWellFormed (length roster.entry.now.campaigns)) }
     ensures undecided { IfOk result IsUndecided }
 {
     let sale = Sale { request, roster };
-    let mut bids = Bids::new(alloc);
-    for (bidder, answer) in answers.iter().enumerate() {
-        bids.take_answer(alloc, sale, bidder as u32, answer.as_ref())?;
+    let mut bids = Bids::with_room(alloc, bid_count(answers.as_slice()))?;
+    let mut left = answers;
+    left.reverse();
+    let mut bidder = 0;
+    'answers: while let Some(answer) = left.pop() {
+        bids.take_answer(alloc, sale, bidder, answer)?;
+        bidder += 1;
     }
     ask_with(alloc, request, bids, now)
 }
 
-/// The same ask, by answers that are lent.
-pub fn make_ask_lent(
-    alloc: Global,
-    request: &BidRequest,
-    roster: &Roster,
-    answers: &[Option<&BidAnswer>],
-    now: u64,
-) -> Result<Ask, OutOfMemory>
-    requires answers { length answers.now ≤ length roster.now.bidders }
-    requires now { now < 2 ^ 63 }
-    ensures gives { IfOk result (λ a. a ≡ ask_of request.now roster.entry.now.campaigns (map (option_map (λ x. x.now)) answers.entry.now) now) }
-    ensures well_formed { IfOk result (IsWellFormed (length roster.entry.now.campaigns)) }
-    ensures undecided { IfOk result IsUndecided }
-{
-    let sale = Sale { request, roster };
-    let mut bids = Bids::new(alloc);
-    for (bidder, answer) in answers.iter().enumerate() {
-        bids.take_answer(alloc, sale, bidder as u32, *answer)?;
+/// How many bids some answers have, for the room that is taken for them.
+fn bid_count(answers: &[Option<BidAnswer>]) -> usize {
+    let mut count: usize = 0;
+    for answer in answers {
+        if let Some(answer) = answer {
+            for seat in answer.seats.as_slice() {
+                count = count.saturating_add(seat.bids.len());
+            }
+        }
     }
-    ask_with(alloc, request, bids, now)
+    count
 }
 
 /// The ask of a request with these bids.
@@ -76,7 +71,7 @@ fn ask_with(alloc: Global, request: &BidRequest, bids: Bids, now: u64) -> Result
 fn imp_ids(alloc: Global, imps: &[Imp]) -> Result<Sequence<Id>, OutOfMemory>
     ensures { IfOk result (λ ids. ids ≡ map (λ i. i.id) imps.now) }
 {
-    let mut ids = Vec::new(alloc);
+    let mut ids = Vec::with_capacity(alloc, imps.len())?;
     for imp in imps {
         ids.push(imp.id.copy(alloc)?)?;
     }

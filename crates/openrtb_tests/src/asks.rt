@@ -2,7 +2,7 @@
 
 use adx_json::{push_number, read};
 use adx_units::{Id, Offer, OutOfMemory};
-use ask_making::{make_ask, make_ask_lent};
+use ask_making::make_ask;
 use day_rules::{Ask, Kept};
 use deal_floor::Roster;
 use rtb_request::BidRequest;
@@ -137,53 +137,23 @@ fn has_text(alloc: Global, ask: &Ask, text: &str) -> Result<bool, OutOfMemory> {
     Ok(told.as_str() == text)
 }
 
-/// Whether a request and answers make the ask of this text.
+/// Whether a request and two answers make the ask of this text.
 fn makes(
     alloc: Global,
     request: &BidRequest,
-    roster: &Roster,
-    answers: &[Option<BidAnswer>; 2],
+    first: Option<BidAnswer>,
+    second: Option<BidAnswer>,
     text: &str,
 ) -> Result<bool, OutOfMemory> {
-    if roster.bidders.as_slice().len() < 2 {
-        return Err(OutOfMemory);
-    }
-    let ask = make_ask(alloc, request, roster, answers, 7)?;
-    has_text(alloc, &ask, text)
-}
-
-/// Whether they do where the answers are lent.
-fn makes_lent(
-    alloc: Global,
-    request: &BidRequest,
-    roster: &Roster,
-    answers: &[Option<BidAnswer>; 2],
-    text: &str,
-) -> Result<bool, OutOfMemory> {
-    if roster.bidders.as_slice().len() < 2 {
-        return Err(OutOfMemory);
-    }
-    let [first, second] = answers;
-    let ask = make_ask_lent(
-        alloc,
-        request,
-        roster,
-        &[first.as_ref(), second.as_ref()],
-        7,
-    )?;
-    has_text(alloc, &ask, text)
-}
-
-/// Whether a request makes the ask of this text with two answers, both ways.
-fn makes_both(
-    alloc: Global,
-    request: &BidRequest,
-    answers: &[Option<BidAnswer>; 2],
-    text: &str,
-) -> Result<[bool; 2], OutOfMemory> {
     let roster = roster(alloc)?;
-    let is_lent = makes_lent(alloc, request, &roster, answers, text)?;
-    Ok([is_lent, makes(alloc, request, &roster, answers, text)?])
+    let mut answers = Vec::with_capacity(alloc, 2)?;
+    answers.push(first)?;
+    answers.push(second)?;
+    if roster.bidders.as_slice().len() < answers.len() {
+        return Err(OutOfMemory);
+    }
+    let ask = make_ask(alloc, request, &roster, answers, 7)?;
+    has_text(alloc, &ask, text)
 }
 
 /// Whether a row makes its ask.
@@ -193,11 +163,11 @@ fn is_row(
     first: &str,
     second: &str,
     text: &str,
-) -> Result<[bool; 2], OutOfMemory> {
+) -> Result<bool, OutOfMemory> {
     let request = request_of(alloc, request)?;
     let first = answer_of(alloc, &request.id, first)?;
     let second = answer_of(alloc, &request.id, second)?;
-    makes_both(alloc, &request, &[first, second], text)
+    makes(alloc, &request, first, second, text)
 }
 
 #[test]
@@ -205,7 +175,7 @@ fn asks_have_all_bids_with_their_texts(rt: HostRuntime) {
     for (request, first, second, text) in ASKS {
         assert_eq!(rt;
             is_row(rt.alloc(), request, first, second, text),
-            Ok([true; 2]),
+            Ok(true),
             "{text}"
         );
     }

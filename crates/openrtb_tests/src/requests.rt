@@ -1,7 +1,7 @@
 //! A table of requests with their first fault, views, and what bidders are asked.
 
-use adx_json::{Json, read, write};
-use rtb_request::{BidRequest, Imp, OfferedImps, RequestFault, for_bidders};
+use adx_json::{Json, read};
+use rtb_request::{BidRequest, Imp, OfferedImps, RequestFault, push_for_bidders};
 use std::alloc::Global;
 
 /// Whether a fault is the one of that word: a member's name, the id of an impression, or the fault's own.
@@ -342,18 +342,11 @@ const ASKED: [(&str, &str); 4] = [
     ),
 ];
 
-/// Whether a tree is written so.
-fn is_written(alloc: Global, tree: &Json, want: &str) -> bool {
-    match write(alloc, tree) {
-        Ok(written) => written.as_str() == want,
-        Err(_) => false,
-    }
-}
-
-/// Whether bidders are asked so of a request.
+/// Whether bidders are asked so of a request, behind what stands in the text.
 fn is_asked_of_tree(alloc: Global, tree: &Json, want: &str) -> bool {
-    match for_bidders(alloc, tree) {
-        Ok(asked) => is_written(alloc, &asked, want),
+    let mut out = String::new(alloc);
+    match push_for_bidders(&mut out, tree) {
+        Ok(()) => out.as_str() == want,
         Err(_) => false,
     }
 }

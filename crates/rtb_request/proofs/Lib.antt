@@ -3,5 +3,5 @@ pub mod Distinct
 pub mod DealSteps
 pub mod ImpSteps
 pub mod RequestSteps
-pub mod Copies
+pub mod AskedParts
 pub mod Kept

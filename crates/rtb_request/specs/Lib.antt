@@ -6,5 +6,5 @@ pub mod Imps
 pub mod Requests
 pub mod Seen
 pub mod ForBidders
-pub mod Copies
+pub mod Asked
 pub mod Met

@@ -1,16 +1,15 @@
-//! What bidders are asked: a copy of the request, but for the members of an auction that is held again.
-ghost use Rattle.std.specs.Prelude.{◌≡◌, ◌≤◌, map, max, IfOk, true};
-ghost use Rattle.adx_json.specs.Named.{with_member as tree_with_member, IsObject};
-ghost use Rattle.adx_json.specs.Tree.{levels};
-ghost use Rattle.adx_json.specs.WellFormed.{IsWellFormed};
+//! What bidders are asked: the request, but for the members of an auction that is held again.
+ghost use Rattle.std.specs.Prelude.{◌≡◌, ◌≤◌, ◌∷◌, ◌++◌, max, OnOk, string_bytes};
+ghost use Rattle.adx_json.specs.Spelling.{spelling, items_spelling, members_spelling, text_spelling};
+ghost use Rattle.adx_json.specs.Tree.{items_of, levels, members_of};
 ghost use Rattle.adx_json.specs.View.{tree_of, trees_of, members_view};
-ghost use Rattle.tree_view.specs.Values.{given as given_in, is_number_text as is_number_by};
-ghost use Rattle.rtb_request.specs.ForBidders.{request_for_bidders, one as one_tree, dollars_alone as dollars_tree};
-ghost use Rattle.rtb_request.specs.Copies.{item_part, member_part, copy_of, member_copy, finished as finished_tree};
+ghost use Rattle.adx_json.specs.WellFormed.{IsWellFormed};
+ghost use Rattle.adx_json.proofs.Rows.{left_members};
+ghost use Rattle.rtb_request.specs.ForBidders.{request_for_bidders};
+ghost use Rattle.rtb_request.specs.Asked.{item_part, member_part, gets_at as gets_at_by, gets_cur as gets_cur_by, change_of, at_after, cur_after, changed_value, coming, asked, items_asked, members_asked};
 
-use adx_json::{Json, Member};
-use adx_units::{OutOfMemory, Text};
-use std::alloc::Global;
+use adx_json::{Json, Member, push_comma, push_text, push_value};
+use adx_units::OutOfMemory;
 use tree_view::{given, is_number_text};
 
 /// A part of a request, as far as a change can stand in it.
@@ -48,114 +47,181 @@ impl Part {
             _ => Part::Other,
         }
     }
-}
 
-/// What bidders are asked for a request: a copy with `at` 1 and `cur` ["USD"], in which each deal whose `at` isn't 3 has
-/// `at` 1. A member that is there keeps its place, and one that isn't comes last. What is no object stays as it is. A
-/// request that was read may be written and is read again.
-pub fn for_bidders(alloc: Global, tree: &Json) -> Result<Json, OutOfMemory>
-    ensures tree { IfOk result (λ asked. tree_of asked ≡ request_for_bidders (tree_of tree.now)) }
-    ensures well_formed { IsWellFormed (tree_of tree.now) → IfOk result (λ asked. IsWellFormed (tree_of asked)) }
-    ensures shallow { IfOk result (λ asked. levels (tree_of asked) ≤ max 2 (levels (tree_of tree.now))) }
-{
-    let asked = asked_of(alloc, tree)?;
-    Ok(asked)
-}
-
-#[tactic(auto, using(crate::proofs::Copies::request_is))]
-fn asked_of(alloc: Global, tree: &Json) -> Result<Json, OutOfMemory>
-    ensures { IfOk result (λ asked. tree_of asked ≡ request_for_bidders (tree_of tree.now)) }
-{
-    let copy = copied(alloc, Part::Request, tree)?;
-    let first_price = number_one(alloc)?;
-    let copy = with(alloc, copy, "at", first_price)?;
-    let dollars = dollars_alone(alloc)?;
-    let asked = with(alloc, copy, "cur", dollars)?;
-    Ok(asked)
-}
-
-fn number_one(alloc: Global) -> Result<Json, OutOfMemory>
-    ensures { IfOk result (λ one. tree_of one ≡ one_tree) }
-{
-    Ok(Json::Number(Text::of(alloc, "1")?))
-}
-
-fn dollars_alone(alloc: Global) -> Result<Json, OutOfMemory>
-    ensures { IfOk result (λ list. tree_of list ≡ dollars_tree) }
-{
-    let mut currencies = Vec::new(alloc);
-    currencies.push(Json::Text(Text::of(alloc, "USD")?))?;
-    Ok(Json::List(currencies))
-}
-
-/// An object with that member, its value replaced in its place or put at the end; what is no object stays as it is.
-fn with(alloc: Global, tree: Json, name: &str, value: Json) -> Result<Json, OutOfMemory>
-    ensures { IfOk result (λ new. tree_of new ≡ tree_with_member name.now (tree_of value) (tree_of tree)) }
-{
-    if tree.members().is_none() {
-        return Ok(tree);
+    /// Whether an object of this part gets `at` 1.
+    fn gets_at(self, tree: &Json) -> bool
+        ensures { result ≡ gets_at_by self (tree_of tree.now) }
+    {
+        match self {
+            Part::Request => true,
+            Part::Deal => !is_number_text(given(tree.member("at")), "3"),
+            _ => false,
+        }
     }
-    tree.with_member(alloc, name, value)
-}
 
-/// A copy of a part of a request, with the changes that stand in it.
-#[cycle(copy)]
-fn copied(alloc: Global, part: Part, tree: &Json) -> Result<Json, OutOfMemory>
-    ensures { IfOk result (λ copy. tree_of copy ≡ copy_of part (tree_of tree.now)) }
-{
-    match tree {
-        Json::Null => Ok(Json::Null),
-        Json::Bool(truth) => Ok(Json::Bool(*truth)),
-        Json::Number(number) => Ok(Json::Number(number.copy(alloc)?)),
-        Json::Text(text) => Ok(Json::Text(text.copy(alloc)?)),
-        Json::List(items) => Ok(Json::List(copied_items(alloc, part.item(), items)?)),
-        Json::Object(members) => {
-            let copy = Json::Object(copied_members(alloc, part, members)?);
-            let copy = finished(alloc, part, copy)?;
-            Ok(copy)
+    /// Whether an object of this part gets `cur` ["USD"].
+    fn gets_cur(self) -> bool
+        ensures { result ≡ gets_cur_by self }
+    {
+        match self {
+            Part::Request => true,
+            _ => false,
         }
     }
 }
 
-#[cycle(copy)]
-fn copied_items(alloc: Global, part: Part, items: &Vec<Json>) -> Result<Vec<Json>, OutOfMemory>
-    ensures { IfOk result (λ copies. trees_of copies.items ≡ map (copy_of part) (trees_of items.now.items)) }
+/// What becomes of a member.
+#[derive(Clone, Copy)]
+pub(crate) enum Change {
+    /// Its value is 1.
+    FirstPrice,
+    /// Its value is ["USD"].
+    Dollars,
+    /// It is a part of its own.
+    Stays,
+}
+
+impl Change {
+    /// The change of the member with that name, where `at` and `cur` are still to come.
+    fn of(at: bool, cur: bool, name: &str) -> Change
+        ensures { result ≡ change_of at cur name.now }
+    {
+        if at && name == "at" {
+            Change::FirstPrice
+        } else if cur && name == "cur" {
+            Change::Dollars
+        } else {
+            Change::Stays
+        }
+    }
+
+    /// Whether `at` is to come behind it.
+    fn at_after(self, at: bool) -> bool
+        ensures { result ≡ at_after self at }
+    {
+        match self {
+            Change::FirstPrice => false,
+            _ => at,
+        }
+    }
+
+    /// Whether `cur` is to come behind it.
+    fn cur_after(self, cur: bool) -> bool
+        ensures { result ≡ cur_after self cur }
+    {
+        match self {
+            Change::Dollars => false,
+            _ => cur,
+        }
+    }
+}
+
+/// Puts what bidders are asked for a request at the end: its compact spelling with `at` 1 and `cur` ["USD"], in which
+/// each deal whose `at` isn't 3 has `at` 1. A member that is there keeps its place, and one that isn't comes last. What
+/// is no object stays as it is.
+#[tactic(auto, using(crate::proofs::AskedParts::request_is))]
+pub fn push_for_bidders(out: &mut String, tree: &Json) -> Result<(), OutOfMemory>
+    ensures spelled { OnOk result (string_bytes out.new ≡ string_bytes out.old ++ spelling (request_for_bidders (tree_of tree.now))) }
+    // What bidders are asked is as well formed as the request, and hardly deeper.
+    ensures well_formed { IsWellFormed (tree_of tree.now) → IsWellFormed (request_for_bidders (tree_of tree.now)) }
+    ensures shallow { levels (request_for_bidders (tree_of tree.now)) ≤ max 2 (levels (tree_of tree.now)) }
 {
-    let mut copies = Vec::new(alloc);
+    push_part(out, Part::Request, tree)
+}
+
+#[cycle(push)]
+fn push_part(out: &mut String, part: Part, tree: &Json) -> Result<(), OutOfMemory>
+    ensures { OnOk result (string_bytes out.new ≡ string_bytes out.old ++ spelling (asked part (tree_of tree.now))) }
+{
+    if let Part::Other = part {
+        return push_value(out, tree);
+    }
+    match tree {
+        Json::Null | Json::Bool(_) | Json::Number(_) | Json::Text(_) => push_value(out, tree)?,
+        Json::List(items) => {
+            out.push_str("[")?;
+            push_items(out, part.item(), items)?;
+            out.push_str("]")?;
+        }
+        Json::Object(members) => {
+            out.push_str("{")?;
+            push_members(out, part, part.gets_at(tree), part.gets_cur(), members)?;
+            out.push_str("}")?;
+        }
+    }
+    Ok(())
+}
+
+#[cycle(push)]
+fn push_items(out: &mut String, part: Part, items: &Vec<Json>) -> Result<(), OutOfMemory>
+    ensures { OnOk result (string_bytes out.new ≡ string_bytes out.old ++ items_spelling (items_asked part (items_of (trees_of items.now.items)))) }
+{
+    let mut first = true;
     for item in items {
-        let copy = copied(alloc, part, item)?;
-        copies.push(copy)?;
+        push_comma(out, first)?;
+        push_part(out, part, item)?;
+        first = false;
     }
-    Ok(copies)
+    Ok(())
 }
 
-#[cycle(copy)]
-fn copied_members(
-    alloc: Global,
+#[cycle(push)]
+fn push_members(
+    out: &mut String,
     part: Part,
+    at: bool,
+    cur: bool,
     members: &Vec<Member>,
-) -> Result<Vec<Member>, OutOfMemory>
-    ensures { IfOk result (λ copies. members_view copies.items ≡ map (member_copy part) (members_view members.now.items)) }
+) -> Result<(), OutOfMemory>
+    ensures { OnOk result (string_bytes out.new ≡ string_bytes out.old ++ members_spelling (members_asked part at cur (members_of (members_view members.now.items)))) }
 {
-    let mut copies = Vec::new(alloc);
+    let mut first = true;
+    let mut at = at;
+    let mut cur = cur;
     for member in members {
-        let value = copied(alloc, part.member(member.name.as_str()), &member.value)?;
-        let name = member.name.copy(alloc)?;
-        copies.push(Member { name, value })?;
+        push_comma(out, first)?;
+        let change = Change::of(at, cur, member.name.as_str());
+        push_member(out, part, change, member)?;
+        at = change.at_after(at);
+        cur = change.cur_after(cur);
+        first = false;
     }
-    Ok(copies)
+    push_coming(out, first, at, cur)
 }
 
-/// A copied object with its own change: a deal whose `at` isn't 3 has `at` 1.
-fn finished(alloc: Global, part: Part, copy: Json) -> Result<Json, OutOfMemory>
-    ensures { IfOk result (λ new. tree_of new ≡ finished_tree part (tree_of copy)) }
+#[cycle(push)]
+fn push_member(
+    out: &mut String,
+    part: Part,
+    change: Change,
+    member: &Member,
+) -> Result<(), OutOfMemory>
+    ensures { OnOk result (string_bytes out.new ≡ string_bytes out.old
+        ++ (text_spelling member.now.name ++ 58 ∷ spelling (changed_value change (asked (member_part member.now.name part) (tree_of member.now.value))))) }
 {
-    let Part::Deal = part else {
-        return Ok(copy);
-    };
-    if is_number_text(given(copy.member("at")), "3") {
-        return Ok(copy);
+    push_text(out, member.name.as_str())?;
+    out.push_str(":")?;
+    match change {
+        Change::FirstPrice => out.push_str("1")?,
+        Change::Dollars => out.push_str("[\"USD\"]")?,
+        Change::Stays => push_part(out, part.member(member.name.as_str()), &member.value)?,
     }
-    let first_price = number_one(alloc)?;
-    with(alloc, copy, "at", first_price)
+    Ok(())
+}
+
+/// Puts the members that didn't come, behind others or first.
+fn push_coming(out: &mut String, first: bool, at: bool, cur: bool) -> Result<(), OutOfMemory>
+    ensures { OnOk result (string_bytes out.new ≡ string_bytes out.old ++ left_members first (coming at cur)) }
+{
+    let mut first = first;
+    if at {
+        push_comma(out, first)?;
+        out.push_str("\"at\":1")?;
+        first = false;
+    }
+    if cur {
+        push_comma(out, first)?;
+        out.push_str("\"cur\":[\"USD\"]")?;
+    }
+    Ok(())
 }

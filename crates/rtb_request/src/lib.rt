@@ -1,7 +1,7 @@
 //! Requests for bids (OpenRTB 2.6) as an exchange sees them.
 //!
 //! A request's tree has a view, which is what its members say, or a first fault; `BidRequest::of` gives
-//! just that, and `OfferedImps::of` as much of it as a bidder reads. Ranges, lengths and distinct ids are facts of the types. `for_bidders` is what bidders are asked.
+//! just that, and `OfferedImps::of` as much of it as a bidder reads. Ranges, lengths and distinct ids are facts of the types. `push_for_bidders` writes what bidders are asked.
 //! Stands on adx_units, name_sets, adx_json, tree_view and sha2.
 #![tactic(auto)]
 
@@ -17,7 +17,7 @@ mod members;
 mod offered_imps;
 mod request_reader;
 
-pub use asked::for_bidders;
+pub use asked::push_for_bidders;
 pub use bid_request::{BidRequest, MOST_IMPS};
 pub use deal::Deal;
 pub use fault::{Field, RequestFault};

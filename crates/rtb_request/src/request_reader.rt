@@ -16,11 +16,14 @@ use crate::fault::{Field, RequestFault, bad_field};
 use crate::imp_reader::imps_of;
 use crate::members::{RequestMembers, request_members};
 use crate::offered_imps::OfferedImps;
-use adx_json::{Json, write};
+use adx_json::{Json, push_value};
 use adx_units::{OutOfMemory, Sequence};
 use sha2::{Digest, Sha256};
 use std::alloc::Global;
 use tree_view::{are_texts_if_given, items_in, text_in, texts_in};
+
+/// The room with which the spelling of a request begins, in bytes: that of a short request.
+const DIGEST_ROOM: usize = 1_024;
 
 impl BidRequest {
     /// The view of a request, or its first fault: what an exchange reads of the tree (OpenRTB 2.6, section 3.2).
@@ -136,6 +139,7 @@ fn is_usd(currency: &Json) -> bool
 fn digest_of(alloc: Global, tree: &Json) -> Result<[u8; 32], OutOfMemory>
     ensures { IfOk result (λ d. d ≡ sha256 (spelling (tree_of tree.now))) }
 {
-    let text = write(alloc, tree)?;
-    Ok(Sha256::digest(text.as_bytes()))
+    let mut text = String::with_capacity(alloc, DIGEST_ROOM)?;
+    push_value(&mut text, tree)?;
+    Ok(Sha256::digest(text.as_str().as_bytes()))
 }

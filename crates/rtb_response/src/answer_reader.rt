@@ -21,6 +21,9 @@ use tree_view::{
     given, is_absent_or, is_list_if_given, is_number_text, items_in, members_in, met, text_in,
 };
 
+/// The room with which the bodies of an answer's bids begin, in bytes: that of a short body.
+const SCRATCH_ROOM: usize = 1_024;
+
 /// The members of an answer that its view reads, as they lie in its tree.
 #[derive(Clone, Copy)]
 struct AnswerMembers<'a> {
@@ -137,7 +140,7 @@ fn seat_of(alloc: Global, scratch: &mut String, tree: &Json) -> Result<SeatBid, 
 fn seats_of(alloc: Global, trees: &[Json]) -> Result<Vec<SeatBid>, OutOfMemory>
     ensures { IfOk result (λ ss. map seen_seat ss.items ≡ map seat_view (trees_of trees.now)) }
 {
-    let mut scratch = String::new(alloc);
+    let mut scratch = String::with_capacity(alloc, SCRATCH_ROOM)?;
     let mut seats = Vec::with_capacity(alloc, trees.len())?;
     for tree in trees {
         seats.push(seat_of(alloc, &mut scratch, tree)?)?;

@@ -46,7 +46,7 @@ pub(crate) fn ask_line(
         Err(fault) => return Err(fault),
     };
     let answers = answers_of(alloc, &request.id, answers)?;
-    Ok(make_ask(alloc, &request, roster, answers.as_slice(), now)?)
+    Ok(make_ask(alloc, &request, roster, answers, now)?)
 }
 
 /// The request that a tree is, or its first fault.

@@ -130,8 +130,9 @@ impl Exchange {
         ensures formed { IfOk result (IsWellFormed (length self.now.day.terms.budgets)) }
         ensures undecided { IfOk result IsUndecided }
     {
-        let answers = [answer];
-        make_ask(self.alloc, request, &self.roster, &answers, now)
+        let mut answers = Vec::with_capacity(self.alloc, 1)?;
+        answers.push(answer)?;
+        make_ask(self.alloc, request, &self.roster, answers, now)
     }
 
     /// The auction of an award.

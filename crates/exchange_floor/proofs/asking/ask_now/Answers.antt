@@ -17,7 +17,7 @@ pub returns-in-Ok-clause-asked : goal.returns-in-Ok-clause-asked
 returns-in-Ok-clause-asked g c =
     let clock = c.now-now.ensures in
     IfOk-weaker c.take_ask.result _ _
-    (λ a taken. asked_ticked g.Y.DayDesk.runs c.args.roster.now g.met.Y.DayDesk.join (IsMomentOf (g.C.Clock.moment c.args.clock.now)) c.args.request.now c.args.answers.now c.args.desk.now c.tick.new.self c.take_ask.new.desk c.now-now.result c.in_ok-ask.ask
+    (λ a taken. asked_ticked g.Y.DayDesk.runs c.args.roster.now g.met.Y.DayDesk.join (IsMomentOf (g.C.Clock.moment c.args.clock.now)) c.args.request.now c.args.answers.items c.args.desk.now c.tick.new.self c.take_ask.new.desk c.now-now.result c.in_ok-ask.ask
     (reply_of a (string_bytes c.take_ask.new.out)) (clock.within, clock.told) c.in_ok-ask.ensures.gives c.in-Ok.ensures.done taken)
     c.take_ask.ensures.taken
 
@@ -25,7 +25,7 @@ pub returns-in-Ok-clause-stopped : goal.returns-in-Ok-clause-stopped
 returns-in-Ok-clause-stopped g c =
     let clock = c.now-now.ensures in
     err_on c.take_ask.result _ _
-    (λ left. inl (stopped_ticked g.Y.DayDesk.runs c.args.roster.now g.met.Y.DayDesk.join (IsMomentOf (g.C.Clock.moment c.args.clock.now)) c.args.request.now c.args.answers.now c.args.desk.now c.tick.new.self c.take_ask.new.desk c.now-now.result c.in_ok-ask.ask
+    (λ left. inl (stopped_ticked g.Y.DayDesk.runs c.args.roster.now g.met.Y.DayDesk.join (IsMomentOf (g.C.Clock.moment c.args.clock.now)) c.args.request.now c.args.answers.items c.args.desk.now c.tick.new.self c.take_ask.new.desk c.now-now.result c.in_ok-ask.ask
     (clock.within, clock.told) c.in_ok-ask.ensures.gives c.in-Ok.ensures.done left))
     c.take_ask.ensures.left
 
@@ -33,7 +33,7 @@ pub returns-in-Err-clause-asked : goal.returns-in-Err-clause-asked
 returns-in-Err-clause-asked g c =
     let clock = c.now-now.ensures in
     IfOk-weaker c.answer_tick_fault.result _ _
-    (λ a replied. asked_unticked g.Y.DayDesk.runs c.args.roster.now g.met.Y.DayDesk.join (IsMomentOf (g.C.Clock.moment c.args.clock.now)) c.args.request.now c.args.answers.now c.args.desk.now c.tick.new.self c.now-now.result
+    (λ a replied. asked_unticked g.Y.DayDesk.runs c.args.roster.now g.met.Y.DayDesk.join (IsMomentOf (g.C.Clock.moment c.args.clock.now)) c.args.request.now c.args.answers.items c.args.desk.now c.tick.new.self c.now-now.result
     (reply_of a (string_bytes c.answer_tick_fault.new.out)) (clock.within, clock.told) c.in-Err.ensures.failed replied)
     c.answer_tick_fault.ensures
 
@@ -41,4 +41,4 @@ pub returns-in-Err-clause-stopped : goal.returns-in-Err-clause-stopped
 returns-in-Err-clause-stopped g c =
     let clock = c.now-now.ensures in
     on_err c.answer_tick_fault.result _
-    (inl (stopped_unticked g.Y.DayDesk.runs c.args.roster.now g.met.Y.DayDesk.join (IsMomentOf (g.C.Clock.moment c.args.clock.now)) c.args.request.now c.args.answers.now c.args.desk.now c.tick.new.self c.now-now.result (clock.within, clock.told) c.in-Err.ensures.failed))
+    (inl (stopped_unticked g.Y.DayDesk.runs c.args.roster.now g.met.Y.DayDesk.join (IsMomentOf (g.C.Clock.moment c.args.clock.now)) c.args.request.now c.args.answers.items c.args.desk.now c.tick.new.self c.now-now.result (clock.within, clock.told) c.in-Err.ensures.failed))

@@ -1,6 +1,5 @@
 -- The ask of the request and the answers, or the request's first fault.
-use Rattle.std.proofs.Common.{◌≤◌, length, option_map, ap, subst, sym, ◌∙◌}
-use Rattle.std.specs.List.{AllZip}
+use Rattle.std.proofs.Common.{◌≤◌, length, option_map, ap, subst, ◌∙◌}
 use Rattle.adx_json.specs.View.{tree_of, trees_of}
 use Rattle.script_lines.specs.Members.{answers_in}
 use Rattle.script_lines.specs.Meanings.{GivesAnswer}
@@ -16,12 +15,11 @@ returns-in-Err-clause-means c =
 pub make_ask-requires-clause-answers : goal.make_ask-requires-clause-answers
 make_ask-requires-clause-answers c =
     let few : length c.in-Some.answers.now ≤ length c.args.roster.now.bidders = subst (λ n. length c.in-Some.answers.now ≤ n) c.len.ensures c.in-Some.ensures.few in
-    subst (λ ys. length ys ≤ length c.args.roster.now.bidders) (sym c.as_slice.ensures.value)
-    (answers_few (GivesAnswer c.in-Ok.request.id) c.in-Some.answers.now c.in_ok-answers.answers.items (length c.args.roster.now.bidders) c.in_ok-answers.ensures few)
+    answers_few (GivesAnswer c.in-Ok.request.id) c.in-Some.answers.now c.in_ok-answers.answers.items (length c.args.roster.now.bidders) c.in_ok-answers.ensures few
 
 pub returns-clause-means : goal.returns-clause-means
 returns-clause-means c =
     let given = option_map (λ t. tree_of t.now) c.args.members.answers in
-    ask_found c.args.roster.now (tree_of c.args.request.now) _ _ (trees_of c.in-Some.answers.now) c.in-Some-ask_moment.now c.in-Ok.request c.as_slice.result.now c.in_ok-make_ask.field-0
+    ask_found c.args.roster.now (tree_of c.args.request.now) _ _ (trees_of c.in-Some.answers.now) c.in-Some-ask_moment.now c.in-Ok.request c.in_ok-answers.answers.items c.in_ok-make_ask.field-0
     (c.in-Some.ensures.value ∙ ap (λ n. answers_in n given) c.len.ensures) c.in-Some-ask_moment.ensures.value c.in-Ok.ensures
-    (subst (AllZip (GivesAnswer c.in-Ok.request.id) (trees_of c.in-Some.answers.now)) (sym c.as_slice.ensures.value) c.in_ok-answers.ensures) c.in_ok-make_ask.ensures.gives
+    c.in_ok-answers.ensures c.in_ok-make_ask.ensures.gives
