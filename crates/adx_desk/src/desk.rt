@@ -36,6 +36,7 @@ use notice_batches::Batch;
 use notice_book::NoticeKind;
 use std::alloc::Global;
 use std::marker::Model;
+use std::mem::forget;
 use std::snapshot::Snapshot;
 
 /// A serving day, the journal of its history, and the disk that it is kept on. A contract sees a `DeskState`, the disk,
@@ -310,6 +311,16 @@ impl<D: Disk + Drop> Desk<D> {
         ensures disk { result ≡ self.disk }
         ensures stands { self.since.tells ≡ true → StandsOnDisk (D.may_leave result) self.desk }
     {
+        self.disk
+    }
+
+    /// Gives back the disk as `close` does, but not the memory of the day: for a program that ends behind it. The system
+    /// takes that memory at once, while the many texts of a long day, freed one by one, take a part of its time.
+    pub fn leave(self) -> D
+        ensures disk { result ≡ self.disk }
+        ensures stands { self.since.tells ≡ true → StandsOnDisk (D.may_leave result) self.desk }
+    {
+        forget(self.kept);
         self.disk
     }
 }

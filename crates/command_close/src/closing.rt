@@ -24,6 +24,7 @@ use dual_cert::{Cert, push_beta_line, push_bound_line, push_cert_front};
 use history_runs::{Print, run_history};
 use served_record::{ClosedDay, close_day};
 use std::alloc::Global;
+use std::mem::forget;
 
 /// The lines of a record's impressions.
 #[derive(Drop)]
@@ -89,15 +90,15 @@ fn put_imps<S: Source, K: Sink>(imps: &[ImpRow], talk: &mut Talk<'_, S, K>) -> R
     }
 }
 
-/// Puts the lines of a record in pieces. Its memory is free afterwards.
-fn put_record<S: Source, K: Sink>(day: Record, talk: &mut Talk<'_, S, K>) -> Result<(), Stop>
+/// Puts the lines of a record in pieces.
+fn put_record<S: Source, K: Sink>(day: &Record, talk: &mut Talk<'_, S, K>) -> Result<(), Stop>
     ensures puts { PutsPiece (state_of talk.old).held (state_of talk.new).held
-        ((state_of talk.old).out ++ record_document day) (state_of talk.new).out result }
+        ((state_of talk.old).out ++ record_document day.now) (state_of talk.new).out result }
     ensures rest { talk.new.source ≡ talk.old.source }
     ensures causes { HasCauses (state_of talk.old) (state_of talk.new) result }
     ensures same { place_of talk.new ≡ place_of talk.old }
 {
-    match push_record_front(talk.out, &day) {
+    match push_record_front(talk.out, day) {
         Ok(()) => put_imps(day.imps.as_slice(), talk),
         Err(_) => Err(Stop::OutOfMemory),
     }
@@ -140,28 +141,27 @@ fn put_cert<S: Source, K: Sink>(cert: &Cert, talk: &mut Talk<'_, S, K>) -> Resul
 }
 
 /// Puts the lines of a record and after them those of its certificate.
-fn put_both<S: Source, K: Sink>(closed: ClosedDay, talk: &mut Talk<'_, S, K>) -> Result<(), Stop>
+fn put_both<S: Source, K: Sink>(closed: &ClosedDay, talk: &mut Talk<'_, S, K>) -> Result<(), Stop>
     ensures puts { PutsPiece (state_of talk.old).held (state_of talk.new).held
-        ((state_of talk.old).out ++ (record_document closed.record ++ cert_document closed.cert)) (state_of talk.new).out result }
+        ((state_of talk.old).out ++ (record_document closed.now.record ++ cert_document closed.now.cert)) (state_of talk.new).out result }
     ensures rest { talk.new.source ≡ talk.old.source }
     ensures causes { HasCauses (state_of talk.old) (state_of talk.new) result }
     ensures same { place_of talk.new ≡ place_of talk.old }
 {
-    let ClosedDay { record, cert } = closed;
-    match put_record(record, talk) {
-        Ok(()) => put_cert(&cert, talk),
+    match put_record(&closed.record, talk) {
+        Ok(()) => put_cert(&closed.cert, talk),
         Err(stop) => Err(stop),
     }
 }
 
 /// Puts all of a closed day's document, where nothing else is to be put.
 fn put_document<S: Source, K: Sink>(
-    closed: ClosedDay,
+    closed: &ClosedDay,
     talk: &mut Talk<'_, S, K>,
 ) -> Result<(), Stop>
     requires unwritten { (state_of talk.old).out ≡ [] }
     ensures puts { PutsBytes (K.held talk.old.sink.now) (K.held talk.new.sink.now)
-        (record_document closed.record ++ cert_document closed.cert) result }
+        (record_document closed.now.record ++ cert_document closed.now.cert) result }
     ensures rest { talk.new.source ≡ talk.old.source }
     ensures causes { HasCauses (state_of talk.old) (state_of talk.new) result }
     ensures same { place_of talk.new ≡ place_of talk.old }
@@ -187,7 +187,12 @@ fn put_closed_day<S: Source, K: Sink>(
     ensures same { place_of talk.new ≡ place_of talk.old }
 {
     match close_day(alloc, roster, entries) {
-        Ok(closed) => put_document(closed, talk),
+        Ok(closed) => {
+            let put = put_document(&closed, talk);
+            // The program ends behind it: as that of the desk that is left, this memory isn't freed piece by piece.
+            forget(closed);
+            put
+        }
         Err(_) => Err(Stop::OutOfMemory),
     }
 }

@@ -145,7 +145,7 @@ fn serve_roster<S: Source, K: Sink, D: Disk>(
         Ok(desk) => {
             let mut desk = desk;
             let ended = serve_after(alloc, roster, &mut desk, &mut lanes, talk);
-            let _ = desk.close();
+            let _ = desk.leave();
             ended
         }
         Err(refused) => {

@@ -35,7 +35,7 @@ fn serve_roster<S: Source, K: Sink, D: Disk>(
         Ok(desk) => {
             let mut desk = desk;
             let ended = run_lines(alloc, roster, &mut desk, talk);
-            let _ = desk.close();
+            let _ = desk.leave();
             ended
         }
         Err(refused) => {

@@ -131,7 +131,7 @@ fn serve_roster<K: Sink, D: Disk>(
         Ok(desk) => {
             let mut desk = desk;
             let ended = run_calls(alloc, roster, &mut desk, generator, sink);
-            let _ = desk.close();
+            let _ = desk.leave();
             ended
         }
         Err(refused) => {

@@ -147,7 +147,7 @@ fn open_day<S: Source, K: Sink, D: Disk>(
     match Desk::open(alloc, &mut *disk, roster) {
         Ok(desk) => {
             let ended = reconcile_day(alloc, name, roster, desk.entries(), talk);
-            let _ = desk.close();
+            let _ = desk.leave();
             ended
         }
         Err(refused) => {

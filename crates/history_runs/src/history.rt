@@ -93,7 +93,7 @@ fn print_day<P: Print, S: Source, K: Sink, D: Disk>(
     match Desk::open(alloc, &mut *disk, roster) {
         Ok(desk) => {
             let ended = print_history(alloc, print, roster, desk.entries(), talk);
-            let _ = desk.close();
+            let _ = desk.leave();
             ended
         }
         Err(refused) => {

@@ -10,10 +10,10 @@ returns-in-Ok-clause-puts g c =
     let before = state_of c.args.talk.now in
     let mid = state_of c.put_record.new.talk in
     let now = state_of c.put_cert.new.talk in
-    steps_on before.held mid.held now.held before.out mid.out now.out (record_document c.args.closed.record) (cert_document c.args.closed.cert) c.put_cert.result c.in-Ok.ensures.puts c.put_cert.ensures.puts
+    steps_on before.held mid.held now.held before.out mid.out now.out (record_document c.args.closed.now.record) (cert_document c.args.closed.now.cert) c.put_cert.result c.in-Ok.ensures.puts c.put_cert.ensures.puts
 
-pub returns-clause-puts : goal.returns-clause-puts
-returns-clause-puts g c =
+pub returns-in-Err-clause-puts : goal.returns-in-Err-clause-puts
+returns-in-Err-clause-puts g c =
     let before = state_of c.args.talk.now in
     let mid = state_of c.put_record.new.talk in
-    stops_first before.held mid.held before.out (record_document c.args.closed.record) (cert_document c.args.closed.cert) c.in-Err.stop c.in-Err.ensures.puts
+    stops_first before.held mid.held before.out (record_document c.args.closed.now.record) (cert_document c.args.closed.now.cert) c.in-Err.stop c.in-Err.ensures.puts

@@ -9,8 +9,8 @@ use Rattle.command_close.proofs.closing.put_closed_day.Goals as goal
 pub returns-in-Ok-clause-printed : goal.returns-in-Ok-clause-printed
 returns-in-Ok-clause-printed g c =
     let closed = c.in-Ok.closed in
-    printed_by IsClosedDay c.args.roster.now c.args.entries.now (g.K.Sink.held c.args.talk.now.sink.now) (g.K.Sink.held c.put_document.new.talk.sink.now)
-    (record_document closed.record ++ cert_document closed.cert) c.put_document.result
+    printed_by IsClosedDay c.args.roster.now c.args.entries.now (g.K.Sink.held c.args.talk.now.sink.now) (g.K.Sink.held c.put_document-put.new.talk.sink.now)
+    (record_document closed.record ++ cert_document closed.cert) c.put_document-put.result
     (record {
       day = closed.record;
       cert = closed.cert;
@@ -19,4 +19,4 @@ returns-in-Ok-clause-printed g c =
       spelled = refl;
       accepted = c.in-Ok.ensures.certificate;
       hindsight = c.in-Ok.ensures.hindsight;
-    }) c.put_document.ensures.puts
+    }) c.put_document-put.ensures.puts

@@ -13,7 +13,7 @@ pub returns-in-Ok-clause-puts : goal.returns-in-Ok-clause-puts
 returns-in-Ok-clause-puts g c =
     let before = state_of c.args.talk.now in
     let now = state_of c.put_imps.new.talk in
-    let x = c.args.day in
+    let x = c.args.day.now in
     subst (λ (b : List ℕ). PutsPiece before.held now.held b now.out c.put_imps.result)
     (ap (λ (o : List ℕ). o ++ record_rest x) c.in-Ok.ensures ∙ append_assoc before.out (record_front x) (record_rest x) ∙ ap (λ (b : List ℕ). before.out ++ b) (sym (in_pieces x)))
     (subst (λ (imps : List ImpRow). PutsPiece before.held now.held (string_bytes c.push_record_front.new.out ++ (flat_map ended (map imp_line (enumerate_from 0 imps)) ++ ended (end_line (length imps)))) now.out c.put_imps.result)
