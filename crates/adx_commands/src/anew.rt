@@ -9,14 +9,14 @@ ghost use Rattle.adx_commands.specs.Anew.{NothingStandsForNothing, RunsConnectio
 ghost use Rattle.adx_commands.specs.Commands.{IsArchive, IsArchiveList, IsArchivePut, IsBidder, IsCheck, IsCommand, IsConnection, IsDay, IsGenerated, RunsBidder};
 
 use crate::command::adx;
-use adx_io::{ByteDisk, Sink, Source};
+use adx_io::{Sink, Source, WriteOnlyDisk};
 use adx_units::Text;
 use day_archive::Keeper;
 use std::alloc::Global;
 
 /// Runs the command that the words name as `adx` does, on a new disk in memory, and gives the exit status. A day begins with
 /// no history; the table of a generated day that is done is that of the run over its calls, from no history. The status is 6
-/// only where memory is refused to the disk.
+/// only where the disk fails, as it does where memory is refused to it.
 pub fn adx_in_memory<S: Source, K: Sink, P: Keeper>(
     alloc: Global,
     words: &[Text],
@@ -56,6 +56,6 @@ pub fn adx_in_memory<S: Source, K: Sink, P: Keeper>(
     ensures source_same { S.place source.new ≡ S.place source.old }
     ensures sink_same { K.place sink.new ≡ K.place sink.old }
 {
-    let mut disk = ByteDisk::new(alloc);
+    let mut disk = WriteOnlyDisk::new(alloc);
     adx(alloc, words, source, sink, &mut disk, keeper)
 }

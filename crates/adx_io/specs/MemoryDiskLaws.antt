@@ -23,7 +23,7 @@ length-reaching at d = omega (arith, length-append d (replicate (at - length d) 
 length-front : (at : ℕ) (d : List ℕ) → length (take at (reaching at d)) ≡ at
 length-front at d = length-take-le at (reaching at d) (omega (arith, length-reaching at d))
 
-length-written : (at : ℕ) (piece d : List ℕ) → length (written at piece d) ≡ max (length d) (at + length piece)
+pub length-written : (at : ℕ) (piece d : List ℕ) → length (written at piece d) ≡ max (length d) (at + length piece)
 length-written at piece d =
     omega (
       arith,

@@ -1,5 +1,5 @@
-//! A generated day: its table from no entry and on the disk that has it, and over a disk that fails.
-use adx_commands::adx;
+//! A generated day: its table from no entry and on the disk that has it, with no disk, and over a disk that fails.
+use adx_commands::{adx, adx_in_memory};
 use adx_io::{MemoryDisk, MemorySink, MemorySource};
 use adx_units::{OutOfMemory, Text};
 use day_archive::MemoryKeeper;
@@ -67,6 +67,21 @@ fn gives_twice(alloc: Global) -> Result<(bool, bool), OutOfMemory> {
 #[test]
 fn generates_a_day_and_finds_it_again(rt: HostRuntime) {
     assert_eq!(rt; gives_twice(rt.alloc()), Ok((true, true)));
+}
+
+/// Whether the day gives its table with no disk of its own.
+fn gives_in_memory(alloc: Global) -> Result<bool, OutOfMemory> {
+    let words = words_of(alloc, WORDS)?;
+    let mut source = MemorySource::new(alloc, b"", 0, &[])?;
+    let mut sink = MemorySink::new(alloc, 0, &[])?;
+    let mut keeper = MemoryKeeper::new(alloc, &[])?;
+    let ended = adx_in_memory(alloc, words.as_slice(), &mut source, &mut sink, &mut keeper);
+    Ok(ended == 0 && sink.taken() == TABLE.as_bytes())
+}
+
+#[test]
+fn generates_a_day_that_no_file_keeps(rt: HostRuntime) {
+    assert_eq!(rt; gives_in_memory(rt.alloc()), Ok(true));
 }
 
 /// Whether a run on a file whose disk fails at these calls gives this status and this output.

@@ -1,11 +1,13 @@
 //! Tables of tests of what a day's desk stands on: the lines of a script and of a closing table, entries as bytes, batches
-//! of notices and journals, over public calls.
+//! of notices, journals, and a disk in memory that keeps little, over public calls.
 #![tactic(auto)]
 
 #[cfg(test)]
 mod batches;
 #[cfg(test)]
 mod closing_counts;
+#[cfg(test)]
+mod disks;
 #[cfg(test)]
 mod entries;
 #[cfg(test)]

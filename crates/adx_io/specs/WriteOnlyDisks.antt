@@ -1,0 +1,18 @@
+-- What a disk in memory holds, by the writes to it. This project's own.
+use Rattle.std.specs.Prelude.{ℕ, List, [], ◌∷◌}
+use Rattle.adx_io.specs.Disks.{written}
+
+-- a write: its place, and its bytes
+pub record Write : Type 0 where
+  pub at : ℕ
+  pub piece : List ℕ
+
+-- what is held behind writes to what was held
+abbrev pub behind : List ℕ → List Write → List ℕ
+behind bytes [] = bytes
+behind bytes (w ∷ ws) = behind (written w.at w.piece bytes) ws
+
+-- what was held before each of the writes
+abbrev pub before_each : List ℕ → List Write → List (List ℕ)
+before_each bytes [] = []
+before_each bytes (w ∷ ws) = bytes ∷ before_each (written w.at w.piece bytes) ws
