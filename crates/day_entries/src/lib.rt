@@ -7,6 +7,7 @@
 
 mod copying;
 mod fields;
+mod gathering;
 mod numbers;
 mod reading;
 mod unread;

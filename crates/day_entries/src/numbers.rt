@@ -4,19 +4,14 @@ ghost use Rattle.day_entries.specs.declared.unread.Unread.{Unread};
 ghost use Rattle.formats.specs.Formats.{Adds};
 ghost use Rattle.day_entries.specs.Numbers.{long, numbers_of, short, small, wide};
 ghost use Rattle.day_entries.specs.Reading.{Gives};
-ghost use Rattle.day_entries.specs.declared.numbers.TheConstants.{OFFER_ROOM};
+ghost use Rattle.day_entries.specs.Pieces.{with_pieces};
+ghost use Rattle.day_entries.specs.declared.gathering.TheConstants.{GATHERED};
 
+use crate::gathering::{Pieces, make_room};
 use crate::unread::Unread;
 use adx_io::Frame;
 use adx_units::OutOfMemory;
-use arrayvec::ArrayVec;
 use formats::{byte, fixed_u16, fixed_u32, fixed_u64, grouped, groups, push_groups};
-
-/// How many bytes the numbers of an offer have at most, with room for a number of ten bytes in the place of the last.
-pub(crate) const OFFER_ROOM: usize = 32;
-
-/// The bytes of an offer, built before they are added to a payload.
-pub(crate) type OfferBytes = ArrayVec<u8, OFFER_ROOM>;
 
 /// How whole numbers are written.
 #[derive(Clone, Copy, Debug, PartialEq, Eq)]
@@ -129,17 +124,6 @@ impl Numbers {
 }
 
 impl Numbers {
-    /// Adds a number below 2^8.
-    pub(crate) fn push_small(self, number: u8, out: &mut Frame) -> Result<(), OutOfMemory>
-        ensures ok { OnOk result (Adds (small self) out.old.payload out.new.payload number) }
-        ensures marked { out.new.marked ≡ out.old.marked }
-    {
-        match self {
-            Numbers::Fixed => out.push(&[number]),
-            Numbers::Grouped => out.push(groups(u64::from(number)).as_slice()),
-        }
-    }
-
     /// Adds a number below 2^32.
     pub(crate) fn push_long(self, number: u32, out: &mut Frame) -> Result<(), OutOfMemory>
         ensures ok { OnOk result (Adds (long self) out.old.payload out.new.payload number) }
@@ -174,9 +158,9 @@ impl Numbers {
 }
 
 impl Numbers {
-    /// Adds a number below 2^8 to the bytes of an offer.
-    pub(crate) fn put_small(self, number: u8, out: &mut OfferBytes)
-        requires { length out.old.items + 10 ≤ OFFER_ROOM }
+    /// Adds a number below 2^8 to the pieces, which have room for it.
+    pub(crate) fn put_small(self, number: u8, out: &mut Pieces)
+        requires { length out.old.items + 10 ≤ GATHERED }
         ensures added { Adds (small self) out.old.items out.new.items number }
         ensures few { length out.new.items ≤ length out.old.items + 2 }
     {
@@ -186,9 +170,9 @@ impl Numbers {
         }
     }
 
-    /// Adds a number below 2^16 to the bytes of an offer.
-    pub(crate) fn put_short(self, number: u16, out: &mut OfferBytes)
-        requires { length out.old.items + 10 ≤ OFFER_ROOM }
+    /// Adds a number below 2^16 to the pieces, which have room for it.
+    pub(crate) fn put_short(self, number: u16, out: &mut Pieces)
+        requires { length out.old.items + 10 ≤ GATHERED }
         ensures { Adds (short self) out.old.items out.new.items number }
     {
         match self {
@@ -201,9 +185,9 @@ impl Numbers {
         }
     }
 
-    /// Adds a number below 2^32 to the bytes of an offer.
-    pub(crate) fn put_long(self, number: u32, out: &mut OfferBytes)
-        requires { length out.old.items + 10 ≤ OFFER_ROOM }
+    /// Adds a number below 2^32 to the pieces, which have room for it.
+    pub(crate) fn put_long(self, number: u32, out: &mut Pieces)
+        requires { length out.old.items + 10 ≤ GATHERED }
         ensures added { Adds (long self) out.old.items out.new.items number }
         ensures few { length out.new.items ≤ length out.old.items + 5 }
     {
@@ -219,9 +203,9 @@ impl Numbers {
         }
     }
 
-    /// Adds a number below 2^64 to the bytes of an offer.
-    pub(crate) fn put_wide(self, number: u64, out: &mut OfferBytes)
-        requires { length out.old.items + 10 ≤ OFFER_ROOM }
+    /// Adds a number below 2^64 to the pieces, which have room for it.
+    pub(crate) fn put_wide(self, number: u64, out: &mut Pieces)
+        requires { length out.old.items + 10 ≤ GATHERED }
         ensures added { Adds (wide self) out.old.items out.new.items number }
         ensures few { length out.new.items ≤ length out.old.items + 10 }
     {
@@ -232,6 +216,53 @@ impl Numbers {
             }
             Numbers::Grouped => push_groups(out, number),
         }
+    }
+}
+
+impl Numbers {
+    /// Adds a number below 2^8 behind the pieces.
+    pub(crate) fn gather_small(
+        self,
+        number: u8,
+        pieces: &mut Pieces,
+        out: &mut Frame,
+    ) -> Result<(), OutOfMemory>
+        ensures ok { OnOk result (Adds (small self) (with_pieces pieces.old.items out.old) (with_pieces pieces.new.items out.new) number) }
+        ensures marked { out.new.marked ≡ out.old.marked }
+    {
+        make_room(pieces, out)?;
+        self.put_small(number, pieces);
+        Ok(())
+    }
+
+    /// Adds a number below 2^32 behind the pieces.
+    pub(crate) fn gather_long(
+        self,
+        number: u32,
+        pieces: &mut Pieces,
+        out: &mut Frame,
+    ) -> Result<(), OutOfMemory>
+        ensures ok { OnOk result (Adds (long self) (with_pieces pieces.old.items out.old) (with_pieces pieces.new.items out.new) number) }
+        ensures marked { out.new.marked ≡ out.old.marked }
+    {
+        make_room(pieces, out)?;
+        self.put_long(number, pieces);
+        Ok(())
+    }
+
+    /// Adds a number below 2^64 behind the pieces.
+    pub(crate) fn gather_wide(
+        self,
+        number: u64,
+        pieces: &mut Pieces,
+        out: &mut Frame,
+    ) -> Result<(), OutOfMemory>
+        ensures ok { OnOk result (Adds (wide self) (with_pieces pieces.old.items out.old) (with_pieces pieces.new.items out.new) number) }
+        ensures marked { out.new.marked ≡ out.old.marked }
+    {
+        make_room(pieces, out)?;
+        self.put_wide(number, pieces);
+        Ok(())
     }
 }
 

@@ -3,9 +3,12 @@ ghost use Rattle.std.specs.Prelude.{◌≡◌, ◌<◌, ◌≤◌, ◌+◌, ◌^
 ghost use Rattle.formats.specs.Formats.{Adds, last_kind};
 ghost use Rattle.day_entries.specs.Entries.{Fits, HasBytes, HasShortTexts, IsNoticeOrMoment, IsSpelled, all_kept, ask as ask_format, change as change_format, entry as entry_format, entry_bytes, imps as imps_format, kept as kept_format, name, offer as offer_format, offers as offers_format, text as text_format};
 ghost use Rattle.day_entries.specs.Numbers.{long, wide};
+ghost use Rattle.day_entries.specs.Pieces.{with_pieces};
+ghost use Rattle.day_entries.specs.declared.gathering.TheConstants.{GATHERED, PIECE_ROOM};
 ghost use Rattle.day_rules.specs.Entries.{change_of};
 
-use crate::numbers::{Numbers, OfferBytes};
+use crate::gathering::{Pieces, add_gathered, gather, make_room};
+use crate::numbers::Numbers;
 use adx_io::Frame;
 use adx_units::{Id, Offer, OutOfMemory, Units};
 use arrayvec::ArrayVec;
@@ -82,130 +85,173 @@ fn push_first_ask(ask: &Ask, numbers: Numbers, out: &mut Frame) -> Result<(), Ou
     ensures marked { out.new.marked ≡ out.old.marked }
 {
     out.push(&[1])?;
-    push_ask(ask, numbers, out)?;
+    let mut pieces = ArrayVec::new();
+    gather_ask(ask, numbers, &mut pieces, out)?;
+    add_gathered(&mut pieces, out)?;
     Ok(())
 }
 
 /// Adds an ask: what it is, its impressions, its offers and the texts that are kept.
-fn push_ask(ask: &Ask, numbers: Numbers, out: &mut Frame) -> Result<(), OutOfMemory>
+fn gather_ask(
+    ask: &Ask,
+    numbers: Numbers,
+    pieces: &mut Pieces,
+    out: &mut Frame,
+) -> Result<(), OutOfMemory>
     requires { HasBytes ask.now }
-    ensures ok { OnOk result (Adds (ask_format numbers) out.old.payload out.new.payload ask.entry.now) }
+    ensures ok { OnOk result (Adds (ask_format numbers) (with_pieces pieces.old.items out.old) (with_pieces pieces.new.items out.new) ask.entry.now) }
     ensures marked { out.new.marked ≡ out.old.marked }
 {
-    push_name(&ask.auction, numbers, out)?;
-    out.push(&ask.digest)?;
-    numbers.push_wide(ask.now, out)?;
-    numbers.push_long(ask.first, out)?;
-    push_imps(ask.imps.as_slice(), numbers, out)?;
-    push_offers(ask.offers.as_slice(), numbers, out)?;
-    push_all_kept(ask.kept.as_slice(), numbers, out)?;
+    gather_name(&ask.auction, numbers, pieces, out)?;
+    gather(&ask.digest, pieces, out)?;
+    numbers.gather_wide(ask.now, pieces, out)?;
+    numbers.gather_long(ask.first, pieces, out)?;
+    gather_imps(ask.imps.as_slice(), numbers, pieces, out)?;
+    gather_offers(ask.offers.as_slice(), numbers, pieces, out)?;
+    gather_all_kept(ask.kept.as_slice(), numbers, pieces, out)?;
     Ok(())
 }
 
 /// Adds a text behind its length.
-fn push_text(text: &[u8], numbers: Numbers, out: &mut Frame) -> Result<(), OutOfMemory>
+fn gather_text(
+    text: &[u8],
+    numbers: Numbers,
+    pieces: &mut Pieces,
+    out: &mut Frame,
+) -> Result<(), OutOfMemory>
     requires short { length text.now < 2 ^ 32 }
     requires utf8 { IsUtf8 text.now }
-    ensures ok { OnOk result (Adds (text_format numbers) out.old.payload out.new.payload text.now) }
+    ensures ok { OnOk result (Adds (text_format numbers) (with_pieces pieces.old.items out.old) (with_pieces pieces.new.items out.new) text.now) }
     ensures marked { out.new.marked ≡ out.old.marked }
 {
-    numbers.push_long(text.len() as u32, out)?;
+    numbers.gather_long(text.len() as u32, pieces, out)?;
     if !text.is_empty() {
-        out.push(text)?;
+        gather(text, pieces, out)?;
     }
     Ok(())
 }
 
 /// Adds a name behind its length.
-fn push_name(id: &Id, numbers: Numbers, out: &mut Frame) -> Result<(), OutOfMemory>
-    ensures ok { OnOk result (Adds (name numbers) out.old.payload out.new.payload id.now) }
+fn gather_name(
+    id: &Id,
+    numbers: Numbers,
+    pieces: &mut Pieces,
+    out: &mut Frame,
+) -> Result<(), OutOfMemory>
+    ensures ok { OnOk result (Adds (name numbers) (with_pieces pieces.old.items out.old) (with_pieces pieces.new.items out.new) id.now) }
     ensures marked { out.new.marked ≡ out.old.marked }
 {
-    push_text(id.as_bytes(), numbers, out)?;
+    gather_text(id.as_bytes(), numbers, pieces, out)?;
     Ok(())
 }
 
 /// Adds the ids of impressions behind their number.
 #[tactic(auto, unfolding(crate::specs::Entries::imps))]
-fn push_imps(imps: &[Id], numbers: Numbers, out: &mut Frame) -> Result<(), OutOfMemory>
+fn gather_imps(
+    imps: &[Id],
+    numbers: Numbers,
+    pieces: &mut Pieces,
+    out: &mut Frame,
+) -> Result<(), OutOfMemory>
     requires { length imps.now < 2 ^ 8 }
-    ensures ok { OnOk result (Adds (imps_format numbers) out.old.payload out.new.payload imps.now) }
+    ensures ok { OnOk result (Adds (imps_format numbers) (with_pieces pieces.old.items out.old) (with_pieces pieces.new.items out.new) imps.now) }
     ensures marked { out.new.marked ≡ out.old.marked }
 {
-    numbers.push_small(imps.len() as u8, out)?;
+    numbers.gather_small(imps.len() as u8, pieces, out)?;
     for imp in imps {
-        push_name(imp, numbers, out)?;
+        gather_name(imp, numbers, pieces, out)?;
     }
     Ok(())
 }
 
 /// Adds offers behind their number.
 #[tactic(auto, unfolding(crate::specs::Entries::offers))]
-fn push_offers(offers: &[Offer], numbers: Numbers, out: &mut Frame) -> Result<(), OutOfMemory>
+fn gather_offers(
+    offers: &[Offer],
+    numbers: Numbers,
+    pieces: &mut Pieces,
+    out: &mut Frame,
+) -> Result<(), OutOfMemory>
     requires few { length offers.now < 2 ^ 32 }
     requires imps { All (λ o. o.imp < 2 ^ 8) offers.now }
-    ensures ok { OnOk result (Adds (offers_format numbers) out.old.payload out.new.payload offers.now) }
+    ensures ok { OnOk result (Adds (offers_format numbers) (with_pieces pieces.old.items out.old) (with_pieces pieces.new.items out.new) offers.now) }
     ensures marked { out.new.marked ≡ out.old.marked }
 {
-    numbers.push_long(offers.len() as u32, out)?;
+    numbers.gather_long(offers.len() as u32, pieces, out)?;
     for offer in offers {
-        push_offer(offer, numbers, out)?;
+        gather_offer(offer, numbers, pieces, out)?;
     }
     Ok(())
 }
 
 /// Adds an offer.
-fn push_offer(offer: &Offer, numbers: Numbers, out: &mut Frame) -> Result<(), OutOfMemory>
+fn gather_offer(
+    offer: &Offer,
+    numbers: Numbers,
+    pieces: &mut Pieces,
+    out: &mut Frame,
+) -> Result<(), OutOfMemory>
     requires { offer.now.imp < 2 ^ 8 }
-    ensures ok { OnOk result (Adds (offer_format numbers) out.old.payload out.new.payload offer.now) }
+    ensures ok { OnOk result (Adds (offer_format numbers) (with_pieces pieces.old.items out.old) (with_pieces pieces.new.items out.new) offer.now) }
     ensures marked { out.new.marked ≡ out.old.marked }
 {
-    out.push(bytes_of(offer, numbers).as_slice())
+    make_room(pieces, out)?;
+    put_offer(offer, numbers, pieces);
+    Ok(())
 }
 
-/// The bytes of an offer.
-fn bytes_of(offer: &Offer, numbers: Numbers) -> OfferBytes
-    requires { offer.now.imp < 2 ^ 8 }
-    ensures { Adds (offer_format numbers) [] result.items offer.now }
+/// Puts an offer behind the pieces.
+fn put_offer(offer: &Offer, numbers: Numbers, pieces: &mut Pieces)
+    requires imp { offer.now.imp < 2 ^ 8 }
+    requires room { length pieces.old.items + PIECE_ROOM ≤ GATHERED }
+    ensures { Adds (offer_format numbers) pieces.old.items pieces.new.items offer.now }
 {
-    let mut bytes = ArrayVec::new();
-    numbers.put_small(offer.imp as u8, &mut bytes);
-    numbers.put_long(offer.campaign, &mut bytes);
-    numbers.put_wide(offer.charge.0, &mut bytes);
-    numbers.put_long(offer.life, &mut bytes);
-    numbers.put_short(offer.reason, &mut bytes);
-    bytes
+    numbers.put_small(offer.imp as u8, pieces);
+    numbers.put_long(offer.campaign, pieces);
+    numbers.put_wide(offer.charge.0, pieces);
+    numbers.put_long(offer.life, pieces);
+    numbers.put_short(offer.reason, pieces);
 }
 
 /// Adds the texts of bids behind the number of these bids.
 #[tactic(auto, unfolding(crate::specs::Entries::all_kept))]
-fn push_all_kept(kept: &[Kept], numbers: Numbers, out: &mut Frame) -> Result<(), OutOfMemory>
+fn gather_all_kept(
+    kept: &[Kept],
+    numbers: Numbers,
+    pieces: &mut Pieces,
+    out: &mut Frame,
+) -> Result<(), OutOfMemory>
     requires few { length kept.now < 2 ^ 32 }
     requires texts { All HasShortTexts kept.now }
-    ensures ok { OnOk result (Adds (all_kept numbers) out.old.payload out.new.payload kept.now) }
+    ensures ok { OnOk result (Adds (all_kept numbers) (with_pieces pieces.old.items out.old) (with_pieces pieces.new.items out.new) kept.now) }
     ensures marked { out.new.marked ≡ out.old.marked }
 {
-    numbers.push_long(kept.len() as u32, out)?;
+    numbers.gather_long(kept.len() as u32, pieces, out)?;
     for one in kept {
-        push_kept(one, numbers, out)?;
+        gather_kept(one, numbers, pieces, out)?;
     }
     Ok(())
 }
 
 /// Adds the texts of one bid behind its place.
-fn push_kept(kept: &Kept, numbers: Numbers, out: &mut Frame) -> Result<(), OutOfMemory>
+fn gather_kept(
+    kept: &Kept,
+    numbers: Numbers,
+    pieces: &mut Pieces,
+    out: &mut Frame,
+) -> Result<(), OutOfMemory>
     requires { HasShortTexts kept.now }
-    ensures ok { OnOk result (Adds (kept_format numbers) out.old.payload out.new.payload kept.now) }
+    ensures ok { OnOk result (Adds (kept_format numbers) (with_pieces pieces.old.items out.old) (with_pieces pieces.new.items out.new) kept.now) }
     ensures marked { out.new.marked ≡ out.old.marked }
 {
-    numbers.push_long(kept.bid, out)?;
-    push_text(kept.seat.as_bytes(), numbers, out)?;
-    push_text(kept.bidid.as_bytes(), numbers, out)?;
-    push_text(kept.adid.as_bytes(), numbers, out)?;
-    push_text(kept.nurl.as_bytes(), numbers, out)?;
-    push_text(kept.burl.as_bytes(), numbers, out)?;
-    push_text(kept.lurl.as_bytes(), numbers, out)?;
-    push_text(kept.body.as_bytes(), numbers, out)?;
+    numbers.gather_long(kept.bid, pieces, out)?;
+    gather_text(kept.seat.as_bytes(), numbers, pieces, out)?;
+    gather_text(kept.bidid.as_bytes(), numbers, pieces, out)?;
+    gather_text(kept.adid.as_bytes(), numbers, pieces, out)?;
+    gather_text(kept.nurl.as_bytes(), numbers, pieces, out)?;
+    gather_text(kept.burl.as_bytes(), numbers, pieces, out)?;
+    gather_text(kept.lurl.as_bytes(), numbers, pieces, out)?;
+    gather_text(kept.body.as_bytes(), numbers, pieces, out)?;
     Ok(())
 }
 

@@ -1,0 +1,6 @@
+-- A payload with the pieces that stand behind it and aren't added yet. This project's own.
+use Rattle.std.specs.Prelude.{ℕ, List, ◌++◌}
+use Rattle.adx_io.specs.Frames.{FrameState}
+
+abbrev pub with_pieces : List ℕ → FrameState → List ℕ
+with_pieces pieces frame = frame.payload ++ pieces
