@@ -2,3 +2,4 @@ pub mod Holding
 pub mod Places
 pub mod Bare
 pub mod Sought
+mod Plain

@@ -1,8 +1,9 @@
 //! The path and the query of a request's target.
-ghost use Rattle.std.specs.Prelude.{◌≡◌, ◌≤◌, List, ℕ, length, position, option_map, IfOk};
+ghost use Rattle.std.specs.Prelude.{◌≡◌, ◌≤◌, List, ℕ, length, position, option_map, true, All, IfOk};
 ghost use Rattle.std.specs.Borrow.{Bor};
 ghost use Rattle.std.specs.List.{position_or_len};
 ghost use Rattle.std.specs.Cow.{cow_str_bytes};
+ghost use Rattle.form_urlencoded.specs.Form.{IsPlain};
 ghost use Rattle.adx_http.specs.Targets.{is_end, is_question_mark, rest_of, path_of, query_of, decoded, first_of, raw_value_of, value_of};
 
 use adx_units::OutOfMemory;
@@ -111,6 +112,25 @@ fn first_value<'a>(found: Option<&'a [u8]>, is_named: bool, value: &'a [u8]) -> 
     }
 }
 
+/// Whether bytes stand for themselves in a form: none is a plus sign or begins an escape.
+fn are_plain(bytes: &[u8]) -> bool
+    ensures { result ≡ true → All IsPlain bytes.now }
+{
+    bytes.iter().all(|byte| *byte != b'+' && *byte != b'%')
+}
+
+/// A name or a value of a query as text. Most stand for themselves, which is seen at once.
+fn as_text(alloc: Global, bytes: &[u8]) -> Result<CowStr<'_, Global>, OutOfMemory>
+    ensures { IfOk result (λ text. cow_str_bytes text ≡ decoded bytes.now) }
+{
+    if are_plain(bytes) {
+        if let Ok(text) = str::from_utf8(bytes) {
+            return Ok(CowStr::Borrowed(text));
+        }
+    }
+    Ok(decode(alloc, bytes)?)
+}
+
 /// The values of the first pairs with these names in a query, which aren't decoded.
 fn raw_values<'a>(
     alloc: Global,
@@ -125,7 +145,7 @@ fn raw_values<'a>(
     let mut second = None;
     let mut pairs = raw_pairs(query);
     'pairs: while let Some((name, value)) = pairs.next() {
-        let key = decode(alloc, name)?;
+        let key = as_text(alloc, name)?;
         first = first_value(first, key.as_str() == one, value);
         second = first_value(second, key.as_str() == other, value);
         if first.is_some() && second.is_some() {
@@ -143,7 +163,7 @@ fn text_of<'a>(
     ensures { IfOk result (λ text. option_map cow_str_bytes text ≡ option_map (λ (v : Bor (List ℕ)). decoded v.now) value.entry) }
 {
     match value {
-        Some(bytes) => Ok(Some(decode(alloc, bytes)?)),
+        Some(bytes) => Ok(Some(as_text(alloc, bytes)?)),
         None => Ok(None),
     }
 }

@@ -1,5 +1,6 @@
 //! An object's members by their names, in one walk over them.
 ghost use Rattle.std.specs.Prelude.{◌≡◌, option_map};
+ghost use Rattle.std.specs.Str.{bytes_eq};
 ghost use Rattle.adx_json.specs.Tree.{members_of};
 ghost use Rattle.adx_json.specs.View.{tree_of, member_of, members_view};
 ghost use Rattle.tree_view.specs.Values.{not_null};
@@ -24,9 +25,17 @@ pub fn met<'a>(found: Option<&'a Json>, name: &str, member: &'a Member) -> Optio
 {
     match found {
         Some(value) => Some(value),
-        None if member.name.as_str() == name => Some(&member.value),
+        None if is_named(member, name) => Some(&member.value),
         None => None,
     }
+}
+
+/// Whether a member has a name. Of the names that a walk looks for most differ in length from the member's.
+fn is_named(member: &Member, name: &str) -> bool
+    ensures { result ≡ bytes_eq (member_of member.now).0 name.now }
+{
+    let given = member.name.as_str();
+    given.len() == name.len() && given == name
 }
 
 /// What was found, where it isn't null.
