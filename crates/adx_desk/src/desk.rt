@@ -305,13 +305,22 @@ impl<D: Disk> Desk<D> {
 }
 
 impl<D: Disk + Drop> Desk<D> {
+    /// The day, and the disk that it was kept on.
+    fn apart(self) -> (JournaledDay, D)
+        ensures disk { result.1 ≡ self.disk }
+        ensures stands { self.since.tells ≡ true → StandsOnDisk (D.may_leave result.1) self.desk }
+    {
+        (self.kept, self.disk)
+    }
+
     /// Gives back the disk. Where it told at the opening what it read, each of its images stands for the history, or for
     /// it and one record that a fault of the disk left in doubt.
     pub fn close(self) -> D
         ensures disk { result ≡ self.disk }
         ensures stands { self.since.tells ≡ true → StandsOnDisk (D.may_leave result) self.desk }
     {
-        self.disk
+        let (_kept, disk) = self.apart();
+        disk
     }
 
     /// Gives back the disk as `close` does, but not the memory of the day: for a program that ends behind it. The system
@@ -320,8 +329,9 @@ impl<D: Disk + Drop> Desk<D> {
         ensures disk { result ≡ self.disk }
         ensures stands { self.since.tells ≡ true → StandsOnDisk (D.may_leave result) self.desk }
     {
-        forget(self.kept);
-        self.disk
+        let (kept, disk) = self.apart();
+        forget(kept);
+        disk
     }
 }
 

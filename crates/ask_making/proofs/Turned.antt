@@ -1,5 +1,5 @@
 -- A list that was turned round, from whose end items are taken: they come in the list's order.
-use Rattle.std.proofs.Common.{◌≡◌, List, [], ◌∷◌, ◌++◌, append-nil, append_assoc, sym, ap, ◌∙◌}
+use Rattle.std.proofs.Common.{◌≡◌, List, [], ◌∷◌, ◌++◌, append_assoc, sym, ap, ◌∙◌}
 use mathlib.Core.List.{reverse}
 use Rattle.std.proofs.lemmas.List.{reverse-append, reverse-reverse}
 
@@ -11,7 +11,3 @@ none_taken all left is = ap reverse is ∙ reverse-reverse all
 pub one_taken : {X : Type 0} (taken left rest all : List X) (x : X) → left ≡ rest ++ x ∷ [] → taken ++ reverse left ≡ all → (taken ++ x ∷ []) ++ reverse rest ≡ all
 one_taken taken left rest all x is behind =
     append_assoc taken (x ∷ []) (reverse rest) ∙ ap (λ l. taken ++ l) (sym (reverse-append rest (x ∷ [])) ∙ ap reverse (sym is)) ∙ behind
-
--- all were taken
-pub all_taken : {X : Type 0} (taken left all : List X) → left ≡ [] → taken ++ reverse left ≡ all → taken ≡ all
-all_taken taken left all none behind = sym (append-nil taken) ∙ ap (λ l. taken ++ reverse l) (sym none) ∙ behind

@@ -1,5 +1,5 @@
 -- What words do, by what is read of them.
-use Rattle.std.proofs.Common.{◌≡◌, ◌∙◌, ◌⊎◌, inl, inr, sym, subst, ℕ, List, Option, Some, None, arith}
+use Rattle.std.proofs.Common.{◌≡◌, ◌∙◌, inl, inr, sym, subst, ℕ, List, Option, Some, None, arith}
 use Rattle.adx_acceptors.specs.declared.acceptor.Acceptor as acceptors
 use Rattle.adx_io.specs.declared.disk.Disk as disks
 use Rattle.adx_io.specs.declared.sink.Sink as sinks

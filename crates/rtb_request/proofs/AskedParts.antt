@@ -3,7 +3,7 @@ use Rattle.std.proofs.Common.{◌≡◌, ℕ, List, [], ◌∷◌, ◌++◌, Boo
 use Rattle.std.proofs.lemmas.Bool.{false≢true}
 use Rattle.std.proofs.lemmas.List.{append_assoc}
 use Rattle.std.proofs.lemmas.Slice.Eq.{bytes_eq-Decides}
-use Rattle.adx_json.specs.Named.{with_member, with_value}
+use Rattle.adx_json.specs.Named.{with_value}
 use Rattle.adx_json.specs.Spelling.{spelling, items_spelling, members_spelling}
 use Rattle.adx_json.specs.Tree.{Tree, null, boolean, number, text, list, object, Items, no_items, item, items_of, Members, no_members, member, members_of}
 use Rattle.adx_json.specs.View.{tree_of, trees_of, members_view}
@@ -12,8 +12,8 @@ use Rattle.adx_json.specs.declared.tree.Json.TheVariants as json
 use Rattle.adx_json.specs.declared.tree.Member.{Member}
 use Rattle.adx_json.proofs.Views.{tree_of-List, tree_of-Object}
 use Rattle.tree_view.specs.Values.{given, is_number_text}
-use Rattle.rtb_request.specs.ForBidders.{changed, with_changed, each, with_each, one, dollars_alone, deal_for_bidders, pmp_for_bidders, imp_for_bidders, request_for_bidders}
-use Rattle.rtb_request.specs.Asked.{item_part, member_part, gets_at, gets_cur, change_of, at_after, cur_after, changed_value, coming_cur, coming, asked, items_asked, members_asked}
+use Rattle.rtb_request.specs.ForBidders.{changed, each, with_each, one, dollars_alone, deal_for_bidders, pmp_for_bidders, imp_for_bidders, request_for_bidders}
+use Rattle.rtb_request.specs.Asked.{item_part, member_part, gets_at, gets_cur, at_after, cur_after, changed_value, coming, asked, items_asked, members_asked}
 use Rattle.rtb_request.specs.declared.asked.Part.{Part}
 use Rattle.rtb_request.specs.declared.asked.Part.TheVariants as parts
 use Rattle.rtb_request.specs.declared.asked.Change.TheVariants as changes

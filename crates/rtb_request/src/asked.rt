@@ -1,9 +1,8 @@
 //! What bidders are asked: the request, but for the members of an auction that is held again.
-ghost use Rattle.std.specs.Prelude.{◌≡◌, ◌≤◌, ◌∷◌, ◌++◌, max, OnOk, string_bytes};
+ghost use Rattle.std.specs.Prelude.{◌≡◌, ◌∷◌, ◌++◌, OnOk, string_bytes};
 ghost use Rattle.adx_json.specs.Spelling.{spelling, items_spelling, members_spelling, text_spelling};
-ghost use Rattle.adx_json.specs.Tree.{items_of, levels, members_of};
+ghost use Rattle.adx_json.specs.Tree.{items_of, members_of};
 ghost use Rattle.adx_json.specs.View.{tree_of, trees_of, members_view};
-ghost use Rattle.adx_json.specs.WellFormed.{IsWellFormed};
 ghost use Rattle.adx_json.proofs.Rows.{left_members};
 ghost use Rattle.rtb_request.specs.ForBidders.{request_for_bidders};
 ghost use Rattle.rtb_request.specs.Asked.{item_part, member_part, gets_at as gets_at_by, gets_cur as gets_cur_by, change_of, at_after, cur_after, changed_value, coming, asked, items_asked, members_asked};
@@ -121,10 +120,7 @@ impl Change {
 /// is no object stays as it is.
 #[tactic(auto, using(crate::proofs::AskedParts::request_is))]
 pub fn push_for_bidders(out: &mut String, tree: &Json) -> Result<(), OutOfMemory>
-    ensures spelled { OnOk result (string_bytes out.new ≡ string_bytes out.old ++ spelling (request_for_bidders (tree_of tree.now))) }
-    // What bidders are asked is as well formed as the request, and hardly deeper.
-    ensures well_formed { IsWellFormed (tree_of tree.now) → IsWellFormed (request_for_bidders (tree_of tree.now)) }
-    ensures shallow { levels (request_for_bidders (tree_of tree.now)) ≤ max 2 (levels (tree_of tree.now)) }
+    ensures { OnOk result (string_bytes out.new ≡ string_bytes out.old ++ spelling (request_for_bidders (tree_of tree.now))) }
 {
     push_part(out, Part::Request, tree)
 }

@@ -5,7 +5,7 @@ use Rattle.turnstile.specs.declared.view.SeatView.{SeatView}
 use Rattle.std.proofs.Common.{◌-◌, append-nil, length-append}
 use Rattle.turnstile.specs.Rule.{is_pass}
 use Rattle.turnstile.specs.declared.limits.TheConstants.{LAST_COUNT}
-use Rattle.turnstile.specs.Turns.{added_by, placed, HasRisen, AreRight}
+use Rattle.turnstile.specs.Turns.{added_by, placed, HasRisen}
 use Rattle.turnstile.specs.Steps.{Sat, places}
 use Rattle.turnstile.specs.Hand.{InHand, Begun, Took, with_new, with_rise, turned, HasRun}
 

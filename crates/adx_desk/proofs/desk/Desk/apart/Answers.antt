@@ -3,7 +3,7 @@ use Rattle.std.proofs.Common.{◌∙◌, ℕ, List, ap, subst}
 use Rattle.adx_desk.specs.Desks.{OnDisk}
 use Rattle.adx_desk.specs.Histories.{WithOrWithout}
 use Rattle.adx_desk.proofs.Keeping.{keeps_histories}
-use Rattle.adx_desk.proofs.desk.Desk.close.Goals as goal
+use Rattle.adx_desk.proofs.desk.Desk.apart.Goals as goal
 
 pub returns-clause-stands : goal.returns-clause-stands
 returns-clause-stands g c = λ told.
