@@ -1,5 +1,5 @@
-//! Tables of tests of what the program does, over public calls: words and what they ask for, whole runs of its commands
-//! with their output and status, and what adx_io makes of files and sockets.
+//! Tables of tests of what the program does, over public calls: whole runs of its commands with their output and
+//! status, and what adx_io makes of files and sockets.
 #![tactic(auto)]
 
 #[cfg(test)]
@@ -15,10 +15,6 @@ mod generated;
 #[cfg(test)]
 mod journals;
 #[cfg(test)]
-mod network_words;
-#[cfg(test)]
 mod runs;
 #[cfg(test)]
 mod tables;
-#[cfg(test)]
-mod words;
