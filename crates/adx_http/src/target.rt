@@ -1,5 +1,5 @@
 //! The path and the query of a request's target.
-ghost use Rattle.std.specs.Prelude.{◌≡◌, ◌≤◌, List, ℕ, length, position, option_map, true, All, IfOk};
+ghost use Rattle.std.specs.Prelude.{◌≡◌, ◌<◌, ◌≤◌, List, ℕ, length, position, option_map, true, All, IfOk};
 ghost use Rattle.std.specs.Borrow.{Bor};
 ghost use Rattle.std.specs.List.{position_or_len};
 ghost use Rattle.std.specs.Cow.{cow_str_bytes};
@@ -7,7 +7,7 @@ ghost use Rattle.form_urlencoded.specs.Form.{IsPlain};
 ghost use Rattle.adx_http.specs.Targets.{is_end, is_question_mark, rest_of, path_of, query_of, decoded, first_of, raw_value_of, value_of};
 
 use adx_units::OutOfMemory;
-use form_urlencoded::{decode, parse, raw_pairs};
+use form_urlencoded::{decode, raw_pairs};
 use std::alloc::Global;
 use std::borrow::CowStr;
 
@@ -83,24 +83,6 @@ pub fn read_target(target: &[u8]) -> Target<'_>
     }
 }
 
-/// The value of the first pair with this name in a query, both decoded as in a form.
-pub fn query_value<'a>(
-    alloc: Global,
-    query: &'a [u8],
-    name: &str,
-) -> Result<Option<CowStr<'a, Global>>, OutOfMemory>
-    ensures { IfOk result (λ found. option_map cow_str_bytes found ≡ value_of name.now query.now) }
-{
-    let mut pairs = parse(alloc, query);
-    'pairs: while let Some(pair) = pairs.next() {
-        let (key, value) = pair?;
-        if key.as_str() == name {
-            return Ok(Some(value));
-        }
-    }
-    Ok(None)
-}
-
 /// The value, where no earlier one was found and its name is the wanted one.
 fn first_value<'a>(found: Option<&'a [u8]>, is_named: bool, value: &'a [u8]) -> Option<&'a [u8]>
     ensures { result ≡ first_of found.entry is_named value.entry }
@@ -112,11 +94,14 @@ fn first_value<'a>(found: Option<&'a [u8]>, is_named: bool, value: &'a [u8]) -> 
     }
 }
 
-/// Whether bytes stand for themselves in a form: none is a plus sign or begins an escape.
+/// Whether bytes are ASCII that stands for itself in a form: none is a plus sign or begins an escape.
 fn are_plain(bytes: &[u8]) -> bool
-    ensures { result ≡ true → All IsPlain bytes.now }
+    ensures plain { result ≡ true → All IsPlain bytes.now }
+    ensures ascii { result ≡ true → All (λ b. b < 128) bytes.now }
 {
-    bytes.iter().all(|byte| *byte != b'+' && *byte != b'%')
+    bytes
+        .iter()
+        .all(|byte| *byte < 128 && *byte != b'+' && *byte != b'%')
 }
 
 /// A name or a value of a query as text. Most stand for themselves, which is seen at once.
@@ -124,9 +109,7 @@ fn as_text(alloc: Global, bytes: &[u8]) -> Result<CowStr<'_, Global>, OutOfMemor
     ensures { IfOk result (λ text. cow_str_bytes text ≡ decoded bytes.now) }
 {
     if are_plain(bytes) {
-        if let Ok(text) = str::from_utf8(bytes) {
-            return Ok(CowStr::Borrowed(text));
-        }
+        return Ok(CowStr::Borrowed(unsafe { str::from_utf8_unchecked(bytes) }));
     }
     Ok(decode(alloc, bytes)?)
 }
@@ -166,6 +149,18 @@ fn text_of<'a>(
         Some(bytes) => Ok(Some(as_text(alloc, bytes)?)),
         None => Ok(None),
     }
+}
+
+/// The value of the first pair with this name in a query, both decoded as in a form.
+pub fn query_value<'a>(
+    alloc: Global,
+    query: &'a [u8],
+    name: &str,
+) -> Result<Option<CowStr<'a, Global>>, OutOfMemory>
+    ensures { IfOk result (λ found. option_map cow_str_bytes found ≡ value_of name.now query.now) }
+{
+    let (found, _) = raw_values(alloc, query, name, name)?;
+    text_of(alloc, found)
 }
 
 /// The values of the first pairs with these names in a query, in one pass over its pairs, decoded as

@@ -36,3 +36,6 @@ splat_left h y (x ∷ xs) = ap (λ r. h y x ∷ r) (splat_left h y xs)
 pub from_splat : (h : ℕ → ℕ → ℕ) (f : ℕ → ℕ) (y n : ℕ) (v : List ℕ) {a : List ℕ} → length v ≡ n → a ≡ map f v → zip2 h (replicate n y) a ≡ map (λ x. h y (f x)) v
 from_splat h f y n v long p =
     ap (zip2 h (replicate n y)) p ∙ ap (λ k. zip2 h (replicate k y) (map f v)) (sym (length-map v f ∙ long)) ∙ splat_left h y (map f v) ∙ map-map (h y) f v
+
+pub from_splat_alone : (h : ℕ → ℕ → ℕ) (y n : ℕ) (v : List ℕ) → length v ≡ n → zip2 h (replicate n y) v ≡ map (h y) v
+from_splat_alone h y n v long = ap (λ k. zip2 h (replicate k y) v) (sym long) ∙ splat_left h y v

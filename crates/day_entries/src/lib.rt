@@ -2,7 +2,7 @@
 //!
 //! A contract sees the spelling of an entry as a list of bytes, in the format of its journal. What is read is
 //! spelled so, each byte of it; what is spelled so is read, whatever follows. An ask can be copied, since a
-//! history keeps its own. Stands on `adx_units`, `adx_io`, `day_rules` and `formats`.
+//! history keeps its own. Stands on `adx_units`, `byte_runs`, `adx_io`, `day_rules` and `formats`.
 #![tactic(auto)]
 
 mod copying;

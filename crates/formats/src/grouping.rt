@@ -12,9 +12,16 @@ const MOST_GROUPS: u32 = 10;
 pub type Groups = ArrayVec<u8, 10>;
 
 /// A number below 2^64. None where the bytes don't begin with one in its one spelling.
+#[inline(always)]
 pub fn grouped(bytes: &[u8]) -> Option<(u64, &[u8])>
     ensures { Finds (λ x. (x.0, x.1.now)) result ((grouped_format (2 ^ 64)).reads bytes.now) }
 {
+    // Most numbers are one group.
+    if let Some((first, rest)) = bytes.split_first() {
+        if *first < 128 {
+            return Some((u64::from(*first), rest));
+        }
+    }
     groups_at(bytes, MOST_GROUPS)
 }
 

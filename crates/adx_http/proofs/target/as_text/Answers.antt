@@ -1,7 +1,14 @@
--- What is plain and UTF-8 is what it stands for.
+-- ASCII that is plain is what it stands for.
 use Rattle.std.proofs.Common.{sym, ◌∙◌}
+use Rattle.std.proofs.lemmas.Str.{IsUtf8-from_ascii}
+use Rattle.std.proofs.lemmas.Str.Ascii.{IsAscii-from_all}
 use Rattle.adx_http.proofs.Plain.{decoded_plain}
 use Rattle.adx_http.proofs.target.as_text.Goals as goal
 
-pub returns-in-Ok : goal.returns-in-Ok
-returns-in-Ok c = c.in-Ok.ensures.cases.0 ∙ sym (decoded_plain c.args.bytes.now (c.are_plain.ensures c.if-are_plain.true) c.in-Ok.ensures.cases.1)
+pub from_utf8_unchecked-requires : goal.from_utf8_unchecked-requires
+from_utf8_unchecked-requires c = IsUtf8-from_ascii _ (IsAscii-from_all c.args.bytes.now (c.are_plain.ensures.ascii c.if-are_plain.true))
+
+pub returns-then-are_plain : goal.returns-then-are_plain
+returns-then-are_plain c =
+    let utf8 = IsUtf8-from_ascii _ (IsAscii-from_all c.args.bytes.now (c.are_plain.ensures.ascii c.if-are_plain.true)) in
+    c.from_utf8_unchecked.ensures ∙ sym (decoded_plain c.args.bytes.now (c.are_plain.ensures.plain c.if-are_plain.true) utf8)
