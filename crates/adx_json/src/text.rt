@@ -12,9 +12,8 @@ use crate::fault::Stop;
 use crate::front::{after, ascii_text};
 use crate::utf8::broken;
 use adx_units::{OutOfMemory, Text};
-use byte_runs::unescaped_len;
+use byte_runs::{unescaped_len, utf8_text};
 use std::alloc::Global;
-use std::str;
 
 /// The text behind its opening quotation mark, and the bytes behind its closing one.
 pub(crate) fn text_at(alloc: Global, bytes: &[u8]) -> Result<(Text, &[u8]), Stop>
@@ -93,12 +92,12 @@ fn push_run(
         return Ok(waiting);
     }
     push_unpaired(out, waiting)?;
-    match str::from_utf8(run) {
-        Ok(text) => {
+    match utf8_text(run) {
+        Some(text) => {
             out.push_str(text)?;
             Ok(None)
         }
-        Err(_) => Err(Stop::Utf8(broken(run) + behind.len())),
+        None => Err(Stop::Utf8(broken(run) + behind.len())),
     }
 }
 
