@@ -1,7 +1,7 @@
 //! The system's clock.
 ghost use Rattle.std.specs.Prelude.{◌<◌, ◌^◌};
 
-use exchange_floor::Clock;
+use exchange_messages::Clock;
 use std::time::{SystemTime, UNIX_EPOCH};
 
 /// The greatest moment that a clock may give.

@@ -1,10 +1,10 @@
 //! An exchange for OpenRTB 2.6 that serves a day of first-price auctions.
 //!
 //! The call `adx` of the crate `adx_commands` does what the program does between its standard streams, from the words of its
-//! command line and the bytes of a source to those of a sink, and `adx_serve` of `network_commands` what it does over the
+//! command line and the bytes of a source to those of a sink, and `adx_serve` of `adx_commands` what it does over the
 //! network; their contracts are the program's. This crate opens what the words name: the file of a journal, of a roster or of
-//! a price line, a port, or by `archive_file` the file of an archive of closed days. Stands on `command_words`,
-//! `adx_commands`, `network_commands`, `adx_acceptors`, `adx_links`, `command_runs`, `day_archive`, `archive_file`,
+//! a price line, a port, or by `sql_archive` the file of an archive of closed days. Stands on `command_words`,
+//! `adx_commands`, `adx_commands`, `adx_links`, `adx_links`, `command_runs`, `day_archive`, `sql_archive`,
 //! `noted_streams`, `adx_io` and `adx_units`.
 #![tactic(auto)]
 

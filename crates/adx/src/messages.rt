@@ -2,12 +2,11 @@
 use crate::clock::SystemClock;
 use adx_commands::{
     DISK_FAULT, DONE, KEEPER_FAULT, NO_COMMAND, NO_HISTORY, NOT_ACCEPTED, NOT_KEPT, OUT_OF_MEMORY,
-    READ_FAULT, REFUSED, WRITE_FAULT,
+    PENDING, READ_FAULT, REFUSED, WRITE_FAULT,
 };
 use adx_units::Text;
 use command_words::complaint_of;
-use exchange_floor::Clock;
-use network_commands::PENDING;
+use exchange_messages::Clock;
 use noted_streams::{Reason, Told};
 use std::fmt::Display;
 use std::net::SocketAddr;

@@ -9,15 +9,13 @@ use crate::messages::{
 };
 use crate::run::status_of_fault;
 use crate::watching::{WatchedAcceptor, WatchedLink};
-use adx_acceptors::{MemoryAcceptor, TcpAcceptor};
-use adx_commands::{OUT_OF_MEMORY, READ_FAULT, REFUSED};
+use adx_commands::{OUT_OF_MEMORY, READ_FAULT, REFUSED, adx_serve};
 use adx_io::{ByteDisk, Disk, FileDisk};
-use adx_links::TcpLink;
+use adx_links::{MemoryAcceptor, TcpAcceptor, TcpLink};
 use adx_units::{OutOfMemory, Text};
+use command_notices::first_roster;
 use command_runs::LINE_LIMIT;
-use network_commands::adx_serve;
 use noted_streams::Noting;
-use notice_posting::first_roster;
 use script_lines::RosterLineFault;
 use std::fs::File;
 use std::io;

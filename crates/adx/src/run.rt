@@ -11,6 +11,7 @@ use adx_units::Text;
 use command_words::{Paths, paths_of};
 use day_archive::{Keeper, MemoryKeeper};
 use noted_streams::Noting;
+use sql_archive::Opening;
 use std::fs::File;
 use std::io::ErrorKind;
 use std::marker::Sync;
@@ -94,7 +95,8 @@ fn run_between(rt: &HostRuntime, words: &[Text]) -> u8 {
             say(rt, words, NO_FILE, &heard, status);
             status
         }
-        Ok(Kept::Archived(path)) => run_with_archive(rt, words, path.as_str()),
+        Ok(Kept::Archived(path)) => run_with_archive(rt, words, path.as_str(), Opening::Made),
+        Ok(Kept::Listed(path)) => run_with_archive(rt, words, path.as_str(), Opening::Existing),
         Ok(Kept::Made(path)) => run_with_journal(rt, words, path.as_str(), true),
         Ok(Kept::Existing(path)) => run_with_journal(rt, words, path.as_str(), false),
         Err(_) => {

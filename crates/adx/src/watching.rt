@@ -1,14 +1,13 @@
 //! Connections and notices that are watched: what failed is said on standard error, one line each, and all are counted.
 ghost use Rattle.std.specs.Prelude.{◌≡◌, true, false, IfOk, IfSome, None};
-ghost use Rattle.adx_acceptors.specs.Pairs.{IsNew, PairTold, is_over_after};
-ghost use Rattle.adx_acceptors.specs.TcpAcceptors.{acceptor_faults, is_closed, peer_faults};
+ghost use Rattle.adx_links.specs.Pairs.{IsNew, PairTold, is_over_after};
+ghost use Rattle.adx_links.specs.TcpAcceptors.{acceptor_faults, is_closed, peer_faults};
 ghost use Rattle.adx_io.specs.Adapters.{source_faults};
 ghost use Rattle.adx_io.specs.Streams.{HasCause};
 
 use crate::messages::{say_connection, say_host};
-use adx_acceptors::{Acceptor, PeerSink, TcpAcceptor};
 use adx_io::{Failed, Sink, Source, StdSource};
-use adx_links::{Link, TcpLink};
+use adx_links::{Acceptor, Link, PeerSink, TcpAcceptor, TcpLink};
 use adx_units::Text;
 use std::net::{TcpListener, TcpStream};
 
@@ -91,7 +90,7 @@ impl<'a> WatchedAcceptor<'a> {
 
 impl<'a> Acceptor for WatchedAcceptor<'a> {
     ghost use Rattle.std.specs.Prelude.{None};
-    ghost use Rattle.adx_acceptors.specs.TcpAcceptors.{acceptor_faults, is_closed};
+    ghost use Rattle.adx_links.specs.TcpAcceptors.{acceptor_faults, is_closed};
 
     type In = Watched<StdSource<TcpStream>>;
 

@@ -24,7 +24,7 @@ use Rattle.command_words.proofs.Rows.{plain_only, some_reading}
 use Rattle.day_archive.specs.declared.keeper.Keeper as keepers
 use Rattle.history_runs.specs.Histories.{Prints}
 use Rattle.history_runs.specs.Runs.{history_command}
-use Rattle.desk_runs.specs.Courses.{unopened}
+use Rattle.desk_calls.specs.Courses.{unopened}
 use Rattle.command_gen.specs.GeneratedEnds.{GeneratedRuns}
 use Rattle.adx_commands.specs.Commands.{Does, DoesAsRead, IsCommand, Outside, Runs, RunsBidder, RunsConnection, RunsDay, RunsPrint}
 

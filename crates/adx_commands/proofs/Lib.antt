@@ -1,3 +1,9 @@
 pub mod Outcomes
 pub mod Commands
 pub mod Beginnings
+pub mod Words
+mod Documents
+mod LinkLanes
+mod Ends
+mod ServedRuns
+mod NetworkCommands

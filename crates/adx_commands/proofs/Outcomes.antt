@@ -18,11 +18,11 @@ use Rattle.command_runs.specs.Runs.{HasRunCauses}
 use Rattle.command_runs.specs.Statuses.{status_by}
 use Rattle.command_runs.specs.declared.outcome.Outcome.{Outcome}
 use Rattle.deal_floor.specs.declared.roster.Roster.{Roster}
-use Rattle.desk_runs.specs.Courses.{Course as DayCourse}
-use Rattle.desk_runs.specs.OnDisk.{CourseOn}
+use Rattle.desk_calls.specs.Courses.{Course as DayCourse}
+use Rattle.desk_calls.specs.OnDisk.{CourseOn}
 use Rattle.history_runs.specs.Histories.{Opening}
 use Rattle.history_runs.proofs.DiskCounts.{IsLeft, disk_later, disk_rises, disk_stays}
-use Rattle.desk_runs.proofs.DiskCounts.{day_later as course_later}
+use Rattle.desk_calls.proofs.DiskCounts.{day_later as course_later}
 use Rattle.adx_commands.specs.Statuses.{HasCauses, HasDiskCauses}
 
 -- the ends that have these statuses

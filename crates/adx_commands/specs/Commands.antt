@@ -1,5 +1,7 @@
 -- What comes of a command, and what words that aren't one write. How words ask for a command stands in `command_words`.
 -- This project's own.
+-- Example: the words `day`, `--journal`, `a` serve a day in plain spelling; `day`, `--journal=a` aren't in plain
+-- spelling, and do what `clap` reads of them.
 use Rattle.std.specs.Prelude.{◌≡◌, ◌⊎◌, ℕ, List, codes, true, false, Option, Some, None, Result}
 use Rattle.adx_io.specs.Streams.{Tape, Took, WhereTold}
 use Rattle.adx_io.specs.declared.disk.Disk as disks
@@ -30,11 +32,11 @@ use Rattle.command_words.specs.declared.command.Command.{Command}
 use Rattle.command_words.specs.declared.command.Topic.{Topic}
 use Rattle.day_archive.specs.declared.keeper.Keeper as keepers
 use Rattle.deal_floor.specs.declared.roster.Roster.{Roster}
-use Rattle.desk_runs.specs.Courses.{Course, GoesOn}
-use Rattle.desk_runs.specs.OnDisk.{CourseOn}
+use Rattle.desk_calls.specs.Courses.{Course, GoesOn}
+use Rattle.desk_calls.specs.OnDisk.{CourseOn}
 use Rattle.history_runs.specs.Histories.{LeavesDay, Opening, Prints}
 use Rattle.history_runs.specs.Runs.{history_command}
-use Rattle.script_day.specs.Endings.{TookFront}
+use Rattle.history_runs.specs.Endings.{TookFront}
 
 -- the words serve a day, in plain spelling: with no journal, or with one in a file
 abbrev pub IsDay : List (List ℕ) → Type 0
@@ -60,6 +62,7 @@ IsNotices words = (journal : List ℕ) × IsPlain (Command.Notices journal) word
 abbrev pub IsClose : List (List ℕ) → Type 0
 IsClose words = (journal : List ℕ) × IsPlain (Command.Close journal false) words
 
+-- the line of its revenue guarantee
 abbrev pub IsRatio : List (List ℕ) → Type 0
 IsRatio words = (journal : List ℕ) × IsPlain (Command.Close journal true) words
 
@@ -87,6 +90,7 @@ IsReconcile words name = (journal : List ℕ) × IsPlain (Command.Reconcile jour
 abbrev pub IsHelp : List (List ℕ) → Topic → Type 0
 IsHelp words topic = IsPlain (Command.Help topic) words
 
+-- the words ask for the version
 abbrev pub IsVersion : List (List ℕ) → Type 0
 IsVersion words = IsPlain Command.Version words
 
@@ -183,6 +187,7 @@ usage_line = codes "usage: adx COMMAND\n"
 -- no command.
 module _ {S K D P : Type 0} (s : sources.Ghosts S) (k : sinks.Ghosts K) (d : disks.Ghosts D) (p : keepers.Ghosts P)
     (o : Outside S K D P) (status : ℕ) where
+  -- what was read of the words ran so; where nothing was read, they are no command
   abbrev pub Runs : Option Command → Type 0
   Runs (Some (Command.Day journal)) =
       RunsDay d (s.tape o.source) (s.tape o.source_now) (k.held o.sink) (k.held o.sink_now) o.disk o.disk_now status

@@ -2,3 +2,10 @@ pub mod Statuses
 pub mod Commands
 pub mod Keeping
 pub mod Anew
+pub mod Words
+pub mod Served
+pub mod Documents
+pub mod Lanes
+pub mod Serving
+pub mod NetworkCommands
+pub mod Causes

@@ -6,7 +6,8 @@ ghost use Rattle.command_archive.specs.Lists.{ListsAs};
 ghost use Rattle.command_archive.specs.declared.list.Query.{Query as Asked};
 ghost use Rattle.command_check.specs.Runs.{AcceptsInput, ChecksInput};
 ghost use Rattle.adx_commands.specs.Anew.{NothingStandsForNothing, RunsConnectionAnew, RunsDayAnew, RunsGeneratedAnew, TookGenerated};
-ghost use Rattle.adx_commands.specs.Commands.{IsArchive, IsArchiveList, IsArchivePut, IsBidder, IsCheck, IsCommand, IsConnection, IsDay, IsGenerated, RunsBidder};
+ghost use Rattle.adx_commands.specs.Words.{DoesWordsAnew};
+ghost use Rattle.adx_commands.specs.Commands.{IsArchive, IsArchiveList, IsArchivePut, IsBidder, IsCheck, IsConnection, IsDay, IsGenerated, RunsBidder};
 
 use crate::command::adx;
 use adx_io::{Sink, Source, WriteOnlyDisk};
@@ -43,7 +44,7 @@ pub fn adx_in_memory<S: Source, K: Sink, P: Keeper>(
     ensures archive_list { (q : Asked) → IsArchiveList words.now q →
         ListsAs P.Keeper q keeper.old keeper.new (K.held sink.old) (K.held sink.new) result }
     ensures empty { NothingStandsForNothing }
-    ensures usage { result ≡ 2 → IsCommand words.now → ⊥ }
+    ensures words { DoesWordsAnew S.Source K.Sink P.Keeper source.old source.new sink.old sink.new keeper.old keeper.new result words.now }
     ensures read_fault { result ≡ 4 → Rises (S.faults source.old) (S.faults source.new) }
     ensures read_passed { result ≢ 4 → S.faults source.new ≡ S.faults source.old }
     ensures write_fault { result ≡ 5 → Rises (K.faults sink.old) (K.faults sink.new) }

@@ -16,6 +16,7 @@ ghost use Rattle.command_words.specs.Meanings.{HasFewAsks, IsPlain};
 ghost use Rattle.command_words.specs.declared.command.Command.{Command as Meaning};
 ghost use Rattle.command_words.specs.declared.command.Topic.{Topic as HelpTopic};
 ghost use Rattle.adx_commands.specs.Statuses.{HasCauses, HasDiskCauses};
+ghost use Rattle.adx_commands.specs.Words.{DoesWords};
 ghost use Rattle.adx_commands.specs.Commands.{AsksNothing, Does, DoesAsRead, IsArchive, IsArchiveList, IsArchivePut, IsBidder, IsCheck, IsClose, IsCommand, IsConnection, IsDay, IsGenerated, IsHelp, IsNotices, IsRatio, IsReconcile, IsVersion, LeavesDisk, LeavesKeeper, Runs, RunsBidder, RunsConnection, RunsDay, RunsGenerated, RunsPrint, RunsReconcile, Tells};
 
 use crate::status::{DONE, NO_COMMAND, OUT_OF_MEMORY, WRITE_FAULT, status_of_outcome};
@@ -265,11 +266,7 @@ pub fn adx<S: Source, K: Sink, D: Disk, P: Keeper>(
         ListsAs P.Keeper q keeper.old keeper.new (K.held sink.old) (K.held sink.new) result }
     ensures reconcile { (name : List ℕ) → IsReconcile words.now name →
         RunsReconcile S.Source K.Sink D.Disk name source.old source.new sink.old sink.new disk.old disk.new result }
-    ensures help { (topic : HelpTopic) → IsHelp words.now topic →
-        Tells (help_text topic) 0 (K.held sink.old) (K.held sink.new) result }
-    ensures version { IsVersion words.now → Tells version_text 0 (K.held sink.old) (K.held sink.new) result }
-    ensures usage { result ≡ 2 → IsCommand words.now → ⊥ }
-    ensures other { DoesAsRead S.Source K.Sink D.Disk P.Keeper (record {
+    ensures words { DoesWords S.Source K.Sink D.Disk P.Keeper (record {
       source = source.old;
       source_now = source.new;
       sink = sink.old;
@@ -279,12 +276,6 @@ pub fn adx<S: Source, K: Sink, D: Disk, P: Keeper>(
       keeper = keeper.old;
       keeper_now = keeper.new;
     }) result words.now }
-    ensures unasked { (command : Meaning) → IsPlain command words.now → AsksNothing (Some command) →
-        source.new ≡ source.old }
-    ensures untouched { (command : Meaning) → IsPlain command words.now → LeavesDisk (Some command) →
-        disk.new ≡ disk.old }
-    ensures nothing_kept { (command : Meaning) → IsPlain command words.now → LeavesKeeper (Some command) →
-        keeper.new ≡ keeper.old }
     ensures read_fault { result ≡ 4 → Rises (S.faults source.old) (S.faults source.new) }
     ensures read_passed { result ≢ 4 → S.faults source.new ≡ S.faults source.old }
     ensures write_fault { result ≡ 5 → Rises (K.faults sink.old) (K.faults sink.new) }

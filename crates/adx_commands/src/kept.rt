@@ -20,6 +20,8 @@ pub enum Kept {
     Existing(Text),
     /// There is no journal. Closed days are kept in the archive in this file, which is made where there is none.
     Archived(Text),
+    /// There is no journal. Closed days are listed from the archive in this file, which has to be there.
+    Listed(Text),
 }
 
 /// Where the journal of a day is kept, by the file that is named.
@@ -43,7 +45,7 @@ fn kept_of(read: Option<Command>) -> Kept
         Some(Command::Close { journal, .. }) => Kept::Existing(journal),
         Some(Command::Reconcile { journal, .. }) => Kept::Existing(journal),
         Some(Command::ArchivePut { archive }) => Kept::Archived(archive),
-        Some(Command::ArchiveList { archive, .. }) => Kept::Archived(archive),
+        Some(Command::ArchiveList { archive, .. }) => Kept::Listed(archive),
         Some(Command::Bidder)
         | Some(Command::Generate { .. })
         | Some(Command::Check)

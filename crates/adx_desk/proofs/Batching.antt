@@ -7,9 +7,9 @@ use Rattle.day_rules.specs.declared.entry.Entry.{Entry}
 use Rattle.day_rules.specs.DayState.{DayState, IsDay}
 use Rattle.day_rules.specs.Laws.{Arrival}
 use Rattle.day_rules.specs.Legal.{IsLegal}
-use Rattle.notice_batches.specs.Batches.{AreApart, answers_in_turn, entries_in_turn}
-use Rattle.notice_batches.specs.Held.{held}
-use Rattle.notice_batches.proofs.InTurn.{answers_now, arrivals_are, arrivals_legal, arrivals_take, entries_now, in_turn}
+use Rattle.day_machine.specs.Batches.{AreApart, answers_in_turn, entries_in_turn}
+use Rattle.day_machine.specs.Held.{held}
+use Rattle.day_machine.proofs.InTurn.{answers_now, arrivals_are, arrivals_legal, arrivals_take, entries_now, in_turn}
 use Rattle.adx_desk.specs.Desks.{DeskState}
 use Rattle.adx_desk.specs.Journaled.{AreJournaled, JournaledState}
 use Rattle.adx_desk.proofs.Inside.{known, shown}

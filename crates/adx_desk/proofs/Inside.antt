@@ -11,7 +11,7 @@ use Rattle.day_rules.specs.DayState.{DayState, IsDay}
 use Rattle.day_rules.specs.Legal.{IsLegal, MayFollow}
 use Rattle.day_rules.specs.Terms.{AreTerms, Terms}
 use Rattle.adx_desk.specs.Desks.{DeskState}
-use Rattle.notice_batches.specs.Held.{held, longest_record, open_count}
+use Rattle.day_machine.specs.Held.{held, longest_record, open_count}
 use Rattle.adx_desk.specs.Histories.{longest_size}
 use Rattle.adx_desk.specs.Journaled.{AreJournaled, JournaledState}
 use Rattle.adx_desk.proofs.Keeping.{MayAdd}

@@ -1,5 +1,5 @@
 -- What a desk keeps, from call to call.
-use Rattle.std.proofs.Common.{◌≡◌, ◌⊎◌, ⊎_elim, inl, inr, ℕ, ◌+◌, ◌<◌, ◌≤◌, List, [], ◌∷◌, ◌++◌, Bool, true, false, IsTrue, Option, Some, None, length, refl, sym, ◌∙◌, ap, subst, arith}
+use Rattle.std.proofs.Common.{◌≡◌, ◌⊎◌, ⊎_elim, inl, inr, ℕ, ◌+◌, ◌<◌, ◌≤◌, List, [], ◌∷◌, ◌++◌, Bool, true, false, IsTrue, Option, Some, None, length, refl, sym, ◌∙◌, ap, subst, arith, append-nil}
 use Rattle.std.specs.Prelude.{is_some}
 use Rattle.std.proofs.lemmas.Bool.{false≢true}
 use Rattle.adx_io.specs.Disks.{Each, LeavesOnly}
@@ -12,12 +12,12 @@ use Rattle.day_rules.specs.declared.entry.Entry.{Entry}
 use Rattle.day_rules.specs.DayState.{IsDay}
 use Rattle.day_rules.specs.Legal.{IsLegal, MayFollow}
 use Rattle.day_rules.proofs.Histories.{legal_push}
-use Rattle.adx_desk.specs.Desks.{DeskKeeps, DeskState, MayStandBehind}
+use Rattle.adx_desk.specs.Desks.{DeskKeeps, DeskKeepsSome, DeskState, MayStandBehind, StandsOnDisk}
 use Rattle.adx_desk.specs.Endings.{size_with}
-use Rattle.notice_batches.specs.Held.{held}
+use Rattle.day_machine.specs.Held.{held}
 use Rattle.adx_desk.specs.Histories.{IsRecord, WithAtMostOne, WithOrWithout}
 use Rattle.adx_desk.specs.Journaled.{beside}
-use Rattle.notice_batches.proofs.Holding.{held_falls}
+use Rattle.day_machine.proofs.Holding.{held_falls}
 use Rattle.adx_desk.proofs.Records.{behind_stands, history_stands, no_empty, one_bytes, one_record, records_push}
 
 -- a journal that isn't in doubt keeps its payloads with any tail
@@ -49,6 +49,38 @@ keeps_by images desk tail false is k c left =
 
 pub keeps_histories : (images : List ℕ → Type 0) (desk : DeskState) (tail : List Entry) → DeskKeeps images desk tail → Each images (WithOrWithout desk.terms desk.history tail)
 keeps_histories images desk tail k = keeps_by images desk tail desk.journal.in_doubt refl k
+
+-- a desk that isn't in doubt keeps its history with no tail
+sure_keeps : (images : List ℕ → Type 0) (desk : DeskState) (tail : List Entry) → desk.journal.in_doubt ≡ false → DeskKeeps images desk tail → DeskKeeps images desk []
+sure_keeps images desk tail sure k =
+    let no : IsTrue desk.journal.in_doubt → ⊥ = λ yes. false≢true (sym sure ∙ yes) in record {
+      rest = k.rest;
+      kept = any_tail images desk.journal (desk.terms.digest ∷ k.rest) (entries_bytes desk.journal.format tail) (entries_bytes desk.journal.format []) no k.kept;
+      records = k.records;
+      legal = k.legal;
+      room = k.room;
+      doubted = λ yes. absurd (no yes);
+    }
+
+-- what a crash leaves of a desk
+pub stands_on_disk : (images : List ℕ → Type 0) (desk : DeskState) → DeskKeepsSome images desk → StandsOnDisk images desk
+stands_on_disk images desk k = by desk.journal.in_doubt refl
+  where
+    by : (b : Bool) → desk.journal.in_doubt ≡ b → StandsOnDisk images desk
+    by true doubt = record {
+      tail = k.tail;
+      one_record = k.one_record;
+      legal = (k.keeps.doubted doubt).legal;
+      sure = λ none. let s = k.sure none in absurd (sure_by_none images desk.journal (desk.terms.digest ∷ s.rest) s.kept doubt);
+      each = keeps_histories images desk k.tail k.keeps;
+    }
+    by false sure = record {
+      tail = [];
+      one_record = omega arith;
+      legal = subst (IsLegal desk.terms.day) (sym (append-nil desk.history)) k.keeps.legal;
+      sure = λ none. refl;
+      each = keeps_histories images desk [] (sure_keeps images desk k.tail sure k.keeps);
+    }
 
 -- the room that an entry leaves, and what the journal was told to hold beside its record
 pub fits_with : (desk : DeskState) (e : Entry) → IsDay desk.terms.day desk.history → MayFollow desk.terms.day desk.history e → size_of desk.journal + held desk.journal.format desk.history ≤ greatest_size

@@ -9,8 +9,8 @@ use Rattle.day_journal.proofs.Apart.{stands_or_bad, stands_or_no_head}
 use Rattle.day_journal.proofs.Once.{one_format, same_format, same_payload, short, stands_once}
 use Rattle.day_rules.specs.declared.entry.Entry.{Entry}
 use Rattle.adx_desk.specs.declared.fault.DeskFault.{DeskFault}
-use Rattle.notice_batches.specs.Held.{held}
-use Rattle.notice_batches.proofs.OpenAwards.{none_held}
+use Rattle.day_machine.specs.Held.{held}
+use Rattle.day_machine.proofs.OpenAwards.{none_held}
 use Rattle.adx_desk.specs.Histories.{AreRecords, DeskTerms, IsHistoryOf, Spells}
 use Rattle.adx_desk.specs.Openings.{HasBadEntry, HasNoRoom, HasOtherRoster, IsRefusal, RefusesDesk}
 use Rattle.adx_desk.proofs.OneSpelling.{NextIn, RecordAt, next_in, record_at, same_records}

@@ -21,14 +21,14 @@ use Rattle.day_rules.specs.declared.entry.Entry.{Entry}
 use Rattle.day_rules.specs.Legal.{IsLegal}
 use Rattle.adx_desk.specs.declared.fault.DeskFault.{DeskFault}
 use Rattle.adx_desk.specs.Desks.{DeskKeeps}
-use Rattle.notice_batches.specs.Held.{held}
+use Rattle.day_machine.specs.Held.{held}
 use Rattle.adx_desk.specs.Histories.{DeskTerms, IsHistoryOf, Spells, StandsSame}
 use Rattle.day_entries.specs.Entries.{entries_bytes}
 use Rattle.adx_desk.specs.Loading.{HasOpened}
 use Rattle.adx_desk.specs.Openings.{HasDiskCause, HasNoRoom, IsRefusal, RefusesDesk, StandsAsRead, append_fault_of, fault_of}
 use Rattle.adx_desk.proofs.Keeping.{sure_by_none}
 use Rattle.day_rules.proofs.Histories.{legal_none}
-use Rattle.notice_batches.proofs.OpenAwards.{none_held}
+use Rattle.day_machine.proofs.OpenAwards.{none_held}
 use Rattle.adx_desk.proofs.Records.{no_records}
 
 -- how many bytes a journal with these payloads has

@@ -1,14 +1,16 @@
 -- What a call leaves, by its parts.
-use Rattle.std.proofs.Common.{◌≡◌, ◌⊎◌, ⊎_elim, inl, ℕ, List, [], ◌∷◌, ◌++◌, Option, Some, None, refl, sym, ◌∙◌, ap, subst, arith}
+use Rattle.std.proofs.Common.{◌≡◌, ◌⊎◌, inl, inr, ℕ, ◌<◌, ◌≤◌, List, [], ◌∷◌, ◌++◌, length, Option, Some, None, refl, sym, ◌∙◌, ap, subst, arith}
 use Rattle.std.specs.Prelude.{Result, Ok, Err, IfErr}
 use Rattle.std.proofs.lemmas.List.{append-nil}
 use Rattle.adx_io.specs.Disks.{LeavesOnly}
+use Rattle.adx_io.specs.Fakes.{counted}
 use Rattle.day_journal.specs.Tails.{JournalState, Keeps, WithAtMostOne as WithOnePayload}
 use Rattle.day_rules.specs.declared.entry.Entry.{Entry}
 use Rattle.adx_desk.specs.declared.fault.DeskFault.{DeskFault}
 use Rattle.adx_desk.specs.Desks.{AtOpening, DeskKeeps, DeskKeepsSome, DeskState, OnDisk}
+use Rattle.adx_desk.specs.Endings.{EndsAsk, EndsNotice}
 use Rattle.adx_desk.specs.Journaled.{unopened}
-use Rattle.notice_batches.specs.Batches.{added_by}
+use Rattle.day_machine.specs.Batches.{added_by}
 use Rattle.day_entries.specs.Entries.{entries_bytes}
 use Rattle.adx_desk.specs.Serving.{Serves, ServesAll}
 use Rattle.adx_desk.proofs.Keeping.{MayAdd, after_fault, keeps_doubted, keeps_pushed, moments_pushed, moments_same}
@@ -219,14 +221,62 @@ pub refused_since : {D T : Type 0} (since : AtOpening) (a b : DeskState) (old ne
 refused_since since a b old new (Ok x) same = record {}
 refused_since {D} since a b old new (Err e) same = λ other. ap (λ (o : OnDisk D). record o { since = since }) (same other)
 
-module _ {D : Type 0} (may_leave : D → List ℕ → Type 0) (moment : D → ℕ) (left_since : D → ℕ → List ℕ → Type 0) where
-  -- after a call the desk keeps its history, with the same tail or with the call's record in doubt
-  pub keeps_some : {T : Type 0} (old new : OnDisk D) (entry : Option Entry) (r : Result T DeskFault) → Serves {T = T} may_leave moment left_since old new entry r
-      → DeskKeepsSome (may_leave old.disk) old.desk → DeskKeepsSome (may_leave new.disk) new.desk
-  keeps_some old new entry (Ok x) s k = (k.0, s.done k.0 k.1)
-  keeps_some old new entry (Err e) s k = ⊎_elim (λ (same : DeskKeeps (may_leave new.disk) new.desk k.0). (k.0, same)) (λ (own : DeskKeeps (may_leave new.disk) new.desk (added_by entry)). (added_by entry, own)) (s.doubted k.0 k.1)
+-- how the number of faults goes on in a call: as it was where the call was done, and else nothing changed or it isn't 0
+abbrev pub CountsFault : {D T : Type 0} → OnDisk D → OnDisk D → Result T DeskFault → Type 0
+CountsFault old new (Ok x) = new.desk.faults ≡ old.desk.faults
+CountsFault old new (Err e) = (new ≡ old) ⊎ (0 < new.desk.faults)
 
-  pub keeps_some_all : {T : Type 0} (old new : OnDisk D) (entries : List Entry) (r : Result T DeskFault) → ServesAll {T = T} may_leave moment left_since old new entries r
-      → DeskKeepsSome (may_leave old.disk) old.desk → DeskKeepsSome (may_leave new.disk) new.desk
-  keeps_some_all old new entries (Ok x) s k = (k.0, s.done k.0 k.1)
-  keeps_some_all old new entries (Err e) s k = ⊎_elim (λ (same : DeskKeeps (may_leave new.disk) new.desk k.0). (k.0, same)) (λ (own : DeskKeeps (may_leave new.disk) new.desk entries). (entries, own)) (s.doubted k.0 k.1)
+some_counted : (n m : ℕ) → n ≡ counted m → 0 < n
+some_counted n m is = omega (arith, is)
+
+-- so it does in a notice, a tick and a batch, and in an ask and a change of a budget
+pub notice_counts : {D T : Type 0} (before now : ℕ) (old new : OnDisk D) (r : Result T DeskFault) → EndsNotice before now old.desk new.desk r → CountsFault old new r
+notice_counts before now old new (Ok answer) ends = ends.desk
+notice_counts before now old new (Err DeskFault.DiskFault) ends = inr (some_counted new.desk.faults old.desk.faults ends.counted)
+notice_counts before now old new (Err (DeskFault.JournalFull size)) ends = absurd ends
+notice_counts before now old new (Err (DeskFault.BadEntry at)) ends = absurd ends
+notice_counts before now old new (Err (DeskFault.OtherRoster kept)) ends = absurd ends
+notice_counts before now old new (Err (DeskFault.NotAJournal at)) ends = absurd ends
+notice_counts before now old new (Err (DeskFault.BadLength at)) ends = absurd ends
+notice_counts before now old new (Err DeskFault.OutOfMemory) ends = absurd ends
+
+pub ask_counts : {D T : Type 0} (before now : ℕ) (old new : OnDisk D) (entry : Option Entry) (r : Result T DeskFault) → EndsAsk before now old.desk new.desk entry r
+    → IfErr r (λ e. (e ≡ DeskFault.DiskFault → ⊥) → new ≡ old) → CountsFault old new r
+ask_counts before now old new entry (Ok answer) ends same = ends.1.desk
+ask_counts before now old new entry (Err DeskFault.DiskFault) ends same = inr (some_counted new.desk.faults old.desk.faults ends.1.counted)
+ask_counts before now old new entry (Err (DeskFault.JournalFull size)) ends same = inl (same (λ e. cc e))
+ask_counts before now old new entry (Err (DeskFault.BadEntry at)) ends same = absurd ends
+ask_counts before now old new entry (Err (DeskFault.OtherRoster kept)) ends same = absurd ends
+ask_counts before now old new entry (Err (DeskFault.NotAJournal at)) ends same = absurd ends
+ask_counts before now old new entry (Err (DeskFault.BadLength at)) ends same = absurd ends
+ask_counts before now old new entry (Err DeskFault.OutOfMemory) ends same = inl (same (λ e. cc e))
+
+pub few_added : (entry : Option Entry) → length (added_by entry) ≤ 32
+few_added None = omega arith
+few_added (Some e) = omega arith
+
+module _ {D : Type 0} (may_leave : D → List ℕ → Type 0) where
+  -- where nothing changed, or the number of faults isn't 0
+  refused_sure : (old new : OnDisk D) → (new ≡ old) ⊎ (0 < new.desk.faults) → DeskKeepsSome (may_leave old.disk) old.desk → new.desk.faults ≡ 0 → DeskKeeps (may_leave new.disk) new.desk []
+  refused_sure old new (inl same) k none = subst (λ (o : OnDisk D). o.desk.faults ≡ 0 → DeskKeeps (may_leave o.disk) o.desk []) (sym same) k.sure none
+  refused_sure old new (inr some) k none = absurd (omega (arith, some, none))
+
+  kept_by : (old new : OnDisk D) (own : List Entry) → length own ≤ 32 → (new ≡ old) ⊎ (0 < new.desk.faults) → (k : DeskKeepsSome (may_leave old.disk) old.desk)
+      → DeskKeeps (may_leave new.disk) new.desk k.tail ⊎ DeskKeeps (may_leave new.disk) new.desk own → DeskKeepsSome (may_leave new.disk) new.desk
+  kept_by old new own few counts k (inl same) = record { tail = k.tail; one_record = k.one_record; keeps = same; sure = refused_sure old new counts k }
+  kept_by old new own few counts k (inr record_is) = record { tail = own; one_record = few; keeps = record_is; sure = refused_sure old new counts k }
+
+  module _ (moment : D → ℕ) (left_since : D → ℕ → List ℕ → Type 0) where
+    -- after a call the desk keeps its history, with the same tail or with the call's record in doubt
+    pub keeps_some : {T : Type 0} (old new : OnDisk D) (entry : Option Entry) (r : Result T DeskFault) → CountsFault old new r → Serves {T = T} may_leave moment left_since old new entry r
+        → DeskKeepsSome (may_leave old.disk) old.desk → DeskKeepsSome (may_leave new.disk) new.desk
+    keeps_some old new entry (Ok x) counts s k =
+        record { tail = k.tail; one_record = k.one_record; keeps = s.done k.tail k.keeps; sure = λ none. s.done [] (k.sure (sym counts ∙ none)) }
+    keeps_some old new entry (Err e) counts s k = kept_by old new (added_by entry) (few_added entry) counts k (s.doubted k.tail k.keeps)
+
+    pub keeps_some_all : {T : Type 0} (old new : OnDisk D) (entries : List Entry) (r : Result T DeskFault) → length entries ≤ 32 → CountsFault old new r
+        → ServesAll {T = T} may_leave moment left_since old new entries r
+        → DeskKeepsSome (may_leave old.disk) old.desk → DeskKeepsSome (may_leave new.disk) new.desk
+    keeps_some_all old new entries (Ok x) few counts s k =
+        record { tail = k.tail; one_record = k.one_record; keeps = s.done k.tail k.keeps; sure = λ none. s.done [] (k.sure (sym counts ∙ none)) }
+    keeps_some_all old new entries (Err e) few counts s k = kept_by old new entries few counts k (s.doubted k.tail k.keeps)

@@ -6,8 +6,8 @@ use Rattle.day_entries.specs.Entries.{entry_bytes, entries_bytes}
 use Rattle.day_entries.proofs.Lengths.{some_bytes}
 use Rattle.day_rules.specs.declared.entry.Entry.{Entry}
 use Rattle.day_rules.specs.Terms.{Terms}
-use Rattle.notice_batches.specs.Held.{longest_record, record_size}
-use Rattle.notice_batches.proofs.Sizes.{record_longest}
+use Rattle.day_machine.specs.Held.{longest_record, record_size}
+use Rattle.day_machine.proofs.Sizes.{record_longest}
 use Rattle.adx_desk.specs.Loading.{TakesFront}
 
 -- so few bytes for each of so few awards

@@ -1,11 +1,12 @@
 -- The calls of a desk in few words: the reply to each by what the desk has, and what is said of its disk, with all that
 -- a disk tells as one value. This project's own.
+-- Example: of a desk `old`, `reply_to_tick old 60` is `tick_reply old.history 60`.
 use Rattle.std.specs.Prelude.{◌≡◌, ℕ, List, [], Option, Some, Result}
 use Rattle.adx_io.specs.declared.disk.Disk as disk
 use Rattle.adx_io.specs.Disks.{AsRead, LeavesOnly}
 use Rattle.notice_book.specs.declared.kind.NoticeKind.{NoticeKind}
 use Rattle.day_journal.specs.Openings.{OpeningState, StandsBehind}
-use Rattle.notice_batches.specs.Batches.{entries_in_turn}
+use Rattle.day_machine.specs.Batches.{entries_in_turn}
 use Rattle.day_entries.specs.Entries.{entries_bytes}
 use Rattle.day_rules.specs.Laws.{Arrival}
 use Rattle.day_rules.specs.Terms.{Terms}

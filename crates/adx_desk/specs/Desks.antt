@@ -1,5 +1,6 @@
 -- What a contract sees of a desk, and what its disk keeps of the history. This project's own.
-use Rattle.std.specs.Prelude.{ℕ, Bool, List, [], ◌∷◌, ◌++◌, IsTrue}
+use Rattle.std.specs.Prelude.{◌≡◌, ℕ, ◌≤◌, Bool, List, [], ◌∷◌, ◌++◌, length, IsTrue}
+use Rattle.adx_io.specs.Disks.{Each}
 use Rattle.day_journal.specs.Tails.{JournalState, Keeps}
 use Rattle.day_rules.specs.declared.entry.Entry.{Entry}
 use Rattle.day_rules.specs.Legal.{IsLegal}
@@ -41,10 +42,23 @@ pub record DeskKeeps (images : List ℕ → Type 0) (desk : DeskState) (tail : L
   pub room : HasRoom desk.journal.format (desk.terms.digest ∷ rest) desk.history
   pub doubted : IsTrue desk.journal.in_doubt → MayStandBehind desk.terms desk.journal.format (desk.terms.digest ∷ rest) desk.history tail
 
--- the desk keeps its history on a disk with these images, with some record in doubt or none
-abbrev pub DeskKeepsSome : (List ℕ → Type 0) → DeskState → Type 0
-DeskKeepsSome images desk = (tail : List Entry) × DeskKeeps images desk tail
+-- the desk keeps its history on a disk with these images, with a record of at most 32 entries in doubt or none; none where
+-- no call met a fault of the disk
+pub record DeskKeepsSome (images : List ℕ → Type 0) (desk : DeskState) : Type 0 where
+  pub tail : List Entry
+  pub one_record : length tail ≤ 32
+  pub keeps : DeskKeeps images desk tail
+  pub sure : desk.faults ≡ 0 → DeskKeeps images desk []
 
--- each image stands for the history, or for it and the entries of one record
+-- Each image stands for the history, or for it and a tail: the entries of one record, at most 32, that may follow it. No
+-- record is in doubt where no call met a fault of the disk.
+pub record StandsInDoubt (images : List ℕ → Type 0) (terms : DeskTerms) (history : List Entry) (faults : ℕ) : Type 0 where
+  pub tail : List Entry
+  pub one_record : length tail ≤ 32
+  pub legal : IsLegal terms.day (history ++ tail)
+  pub sure : faults ≡ 0 → tail ≡ []
+  pub each : Each images (WithOrWithout terms history tail)
+
+-- the same of a desk's disk
 abbrev pub StandsOnDisk : (List ℕ → Type 0) → DeskState → Type 0
-StandsOnDisk images desk = (tail : List Entry) × ((file : List ℕ) → images file → WithOrWithout desk.terms desk.history tail file)
+StandsOnDisk images desk = StandsInDoubt images desk.terms desk.history desk.faults

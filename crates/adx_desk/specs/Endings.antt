@@ -7,7 +7,7 @@ use Rattle.day_journal.specs.Tails.{size_of}
 use Rattle.day_rules.specs.declared.entry.Entry.{Entry}
 use Rattle.adx_desk.specs.declared.fault.DeskFault.{DeskFault}
 use Rattle.adx_desk.specs.Desks.{DeskState}
-use Rattle.notice_batches.specs.Held.{held, record_size}
+use Rattle.day_machine.specs.Held.{held, record_size}
 
 -- what the journal comes to with the record of an entry and with all that is held then
 abbrev pub size_with : DeskState → Entry → ℕ

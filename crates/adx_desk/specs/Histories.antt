@@ -8,7 +8,7 @@ use Rattle.day_rules.specs.declared.entry.Entry.{Entry}
 use Rattle.day_rules.specs.Legal.{IsLegal}
 use Rattle.day_rules.specs.Terms.{Terms}
 use Rattle.day_entries.specs.Entries.{Fits, entries_bytes}
-use Rattle.notice_batches.specs.Held.{held, longest_record}
+use Rattle.day_machine.specs.Held.{held, longest_record}
 
 -- what a desk was opened with: the terms of its day, and the digest of its roster
 pub record DeskTerms : Type 0 where

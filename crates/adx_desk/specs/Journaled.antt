@@ -8,7 +8,7 @@ use Rattle.day_rules.specs.DayState.{DayState, IsDay, Room}
 use Rattle.adx_desk.specs.Desks.{AtOpening, DeskState, OnDisk}
 use Rattle.adx_desk.specs.declared.fault.DeskFault.{DeskFault}
 use Rattle.adx_desk.specs.Endings.{FailsDisk, NoFault, PassesJournal, size_with}
-use Rattle.notice_batches.specs.Held.{held, open_count}
+use Rattle.day_machine.specs.Held.{held, open_count}
 use Rattle.adx_desk.specs.Histories.{longest_size}
 
 -- a desk but for its disk, and what there is memory for

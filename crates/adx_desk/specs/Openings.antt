@@ -10,7 +10,7 @@ use Rattle.day_rules.specs.declared.entry.Entry.{Entry}
 use Rattle.day_rules.specs.Legal.{IsLegal, MayFollow}
 use Rattle.day_entries.specs.Entries.{BeginsWith, Fits, entries_bytes}
 use Rattle.adx_desk.specs.declared.fault.DeskFault.{DeskFault}
-use Rattle.notice_batches.specs.Held.{held}
+use Rattle.day_machine.specs.Held.{held}
 use Rattle.adx_desk.specs.Histories.{AreRecords, DeskTerms, Spells, StandsSame}
 
 -- what is told of a first payload that isn't the roster's digest

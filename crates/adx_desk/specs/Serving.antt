@@ -5,7 +5,7 @@ use Rattle.day_rules.specs.declared.entry.Entry.{Entry}
 use Rattle.day_rules.specs.Replies.{with_entry}
 use Rattle.adx_desk.specs.declared.fault.DeskFault.{DeskFault}
 use Rattle.adx_desk.specs.Desks.{DeskKeeps, OnDisk}
-use Rattle.notice_batches.specs.Batches.{added_by}
+use Rattle.day_machine.specs.Batches.{added_by}
 use Rattle.adx_desk.specs.Histories.{WithAtMostOne}
 
 -- A call whose reply has that entry, if any. The tail is whatever record was in doubt before it.

@@ -5,14 +5,15 @@ use Rattle.day_journal.specs.Faults.{greatest_size}
 use Rattle.day_rules.specs.declared.entry.Entry.{Entry}
 use Rattle.day_rules.specs.Replies.{Call as DayCall, Reply, ask, notice, tick, set_budget, reply}
 use Rattle.day_rules.specs.Entries.{change_of}
-use Rattle.day_rules.specs.Runs.{IsCall}
+use Rattle.day_rules.specs.RunBooks.{HasBooks}
+use Rattle.day_rules.specs.Runs.{IsCall, Outcome, Turn as DayTurn, done, faulted, run}
 use Rattle.adx_desk.specs.declared.fault.DeskFault.{DeskFault}
 use Rattle.adx_desk.specs.declared.shared.OpenedWith.{OpenedWith}
 use Rattle.adx_desk.specs.declared.turn.Call.{Call}
 use Rattle.adx_desk.specs.declared.turn.Turn.{Turn}
 use Rattle.adx_desk.specs.Desks.{AtOpening}
 use Rattle.adx_desk.specs.Histories.{DeskTerms, longest_size}
-use Rattle.notice_batches.specs.Held.{longest_held, longest_record}
+use Rattle.day_machine.specs.Held.{longest_held, longest_record}
 
 -- what a desk was opened with, by its terms and what is known from the opening
 abbrev pub opened_with : DeskTerms → AtOpening → OpenedWith
@@ -71,3 +72,18 @@ is_disk_fault (Err (DeskFault.OtherRoster kept)) = false
 is_disk_fault (Err (DeskFault.NotAJournal at)) = false
 is_disk_fault (Err (DeskFault.BadLength at)) = false
 is_disk_fault (Err DeskFault.OutOfMemory) = false
+
+-- how a call ended, as a run of the day has it
+abbrev pub outcome_in : Result Answer DeskFault → Outcome
+outcome_in (Ok answer) = done
+outcome_in (Err fault) = faulted
+
+-- a turn as a run of the day has it
+abbrev pub day_turn : Turn → DayTurn
+day_turn turn = record { call = call_of turn.call; outcome = outcome_in turn.ended }
+
+-- What the turn leaves of the history that it is called at is what a run over it alone leaves: each campaign's money is that
+-- of the calls taken once, within its budget at each point; each ask stands there as its choice was; and it is a repeat
+-- exactly where its call was taken before.
+abbrev pub IsTakenAt : DeskTerms → List Entry → Turn → Type 0
+IsTakenAt terms history turn = HasBooks terms.day history (day_turn turn ∷ []) (run terms.day history (day_turn turn ∷ []))

@@ -1,7 +1,7 @@
 //! Planned entries written into a frame.
 ghost use Rattle.std.specs.Prelude.{◌≡◌, ◌+◌, ◌≤◌, length, OnOk};
 ghost use Rattle.day_entries.specs.Entries.{Fits, IsNoticeOrMoment, IsSpelled, entry_bytes};
-ghost use Rattle.notice_batches.specs.declared.held.TheConstants.{NOTICE_ROOM};
+ghost use Rattle.day_machine.specs.declared.held.TheConstants.{NOTICE_ROOM};
 
 use adx_io::Frame;
 use adx_units::OutOfMemory;

@@ -10,17 +10,17 @@ ghost use Rattle.campaign_book.specs.Accounts.{IsBudget};
 ghost use Rattle.day_rules.specs.Entries.{asked, change_of};
 ghost use Rattle.day_rules.specs.DayState.{HasRoomFor, IsDay};
 ghost use Rattle.day_rules.specs.Legal.{MayFollow};
-ghost use Rattle.day_meters.specs.DayMeters.{meters_after, steps_of};
+ghost use Rattle.day_rules.specs.DayMeters.{meters_after, steps_of};
 ghost use Rattle.adx_desk.specs.Calls.{batch_bytes, DayEndsAsk, DayServes, DayServesAll, IsUnmoved, reply_to_ask, reply_to_change, reply_to_notice, reply_to_tick, terms_of};
 ghost use Rattle.adx_desk.specs.Asked.{ask_for};
-ghost use Rattle.notice_batches.specs.Batches.{answers_in_turn, entries_in_turn};
+ghost use Rattle.day_machine.specs.Batches.{answers_in_turn, entries_in_turn};
 ghost use Rattle.adx_desk.specs.Endings.{EndsNotice, size_with};
-ghost use Rattle.notice_batches.specs.Held.{held};
+ghost use Rattle.day_machine.specs.Held.{held};
 ghost use Rattle.adx_desk.specs.Histories.{longest_size};
 ghost use Rattle.adx_desk.specs.Journaled.{EndsRecord, beside, day_in};
 ghost use Rattle.adx_desk.specs.declared.fault.DeskFault.{DeskFault as Fault};
-ghost use Rattle.notice_batches.specs.declared.batch.TheConstants.{BATCH_LIMIT};
-ghost use Rattle.notice_batches.specs.declared.held.TheConstants.{NOTICE_ROOM};
+ghost use Rattle.day_machine.specs.declared.batch.TheConstants.{BATCH_LIMIT};
+ghost use Rattle.day_machine.specs.declared.held.TheConstants.{NOTICE_ROOM};
 
 use crate::copying::{copy_for, copy_in, fitted, swapped};
 use crate::done::Done;
@@ -29,13 +29,11 @@ use crate::framing::{put_notice, put_planned};
 use adx_io::{Disk, Frame};
 use adx_units::{OutOfMemory, Units};
 use day_journal::{AppendFault, Journal};
-use day_machine::{Day, sale_count};
-use day_rules::{Answer, Ask, Entry};
-use meter_steps::{MeterStep, Meters};
-use metered_day::MeteredDay;
-use notice_batches::{
-    Batch, GREATEST_SIZE, expiry_record, held_by, notice_record, open_awards, open_behind,
+use day_machine::{
+    Batch, Day, GREATEST_SIZE, MeteredDay, expiry_record, held_by, notice_record, open_awards,
+    open_behind, sale_count,
 };
+use day_rules::{Answer, Ask, Entry, MeterStep, Meters};
 use notice_book::NoticeKind;
 use std::alloc::Global;
 use std::marker::Model;

@@ -4,7 +4,7 @@ ghost use Rattle.std.specs.List.{sum_by};
 ghost use Rattle.day_journal.specs.Openings.{OnlyReads, StandsBehind};
 ghost use Rattle.day_journal.specs.Places.{IsClosed, opened};
 ghost use Rattle.day_rules.specs.DayState.{IsDay};
-ghost use Rattle.notice_batches.specs.Held.{longest_record};
+ghost use Rattle.day_machine.specs.Held.{longest_record};
 ghost use Rattle.adx_desk.specs.Calls.{terms_of};
 ghost use Rattle.adx_desk.specs.Histories.{longest_size};
 ghost use Rattle.adx_desk.specs.Loading.{HasRead, HasReadAll};
@@ -15,7 +15,7 @@ use crate::fault::DeskFault;
 use crate::record_reading::take_record;
 use adx_io::Disk;
 use day_journal::Opening;
-use metered_day::MeteredDay;
+use day_machine::MeteredDay;
 use sha2::{Digest, Sha256};
 use std::alloc::Global;
 

@@ -16,7 +16,7 @@ use crate::journaled_day::JournaledDay;
 use crate::loading::load;
 use adx_io::{Disk, Frame};
 use day_journal::{Journal, Opening};
-use metered_day::MeteredDay;
+use day_machine::MeteredDay;
 use std::alloc::Global;
 
 /// Makes the frame's payload the first one of a journal that has none.

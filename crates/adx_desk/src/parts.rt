@@ -4,7 +4,7 @@ ghost use Rattle.day_rules.specs.DayState.{IsDay};
 ghost use Rattle.adx_desk.specs.Calls.{DeskGivesUp, DeskOpens};
 ghost use Rattle.adx_desk.specs.Openings.{EndsByDisk};
 ghost use Rattle.adx_desk.specs.Rosters.{desk_terms};
-ghost use Rattle.notice_batches.specs.declared.held.TheConstants.{NOTICE_ROOM as notice_room};
+ghost use Rattle.day_machine.specs.declared.held.TheConstants.{NOTICE_ROOM as notice_room};
 
 use crate::fault::DeskFault;
 use crate::journaled_day::JournaledDay;
@@ -12,9 +12,8 @@ use crate::opening::open_on;
 use crate::roster_day::day_of;
 use adx_io::{Disk, Frame};
 use adx_units::OutOfMemory;
+use day_machine::{MeteredDay, NOTICE_ROOM};
 use deal_floor::Roster;
-use metered_day::MeteredDay;
-use notice_batches::NOTICE_ROOM;
 use std::alloc::Global;
 
 /// A desk but for its disk.

@@ -5,8 +5,8 @@ ghost use Rattle.adx_desk.specs.Loading.{RefusesEntry, RefusesNext, RefusesRecor
 
 use crate::fault::DeskFault;
 use day_entries::decode;
+use day_machine::MeteredDay;
 use day_rules::Entry;
-use metered_day::MeteredDay;
 use std::alloc::Global;
 
 /// That no entry that may stand there stands at the next place of the history.

@@ -4,9 +4,9 @@ ghost use Rattle.deal_floor.specs.declared.campaign.Campaign.{Campaign};
 ghost use Rattle.adx_desk.specs.Rosters.{desk_terms};
 
 use adx_units::{OutOfMemory, Units};
+use day_machine::MeteredDay;
 use day_rules::DayLimits;
 use deal_floor::{Campaign, Roster};
-use metered_day::MeteredDay;
 use std::alloc::Global;
 
 /// The budgets of campaigns, in their order.

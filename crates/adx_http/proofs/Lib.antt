@@ -3,3 +3,6 @@ pub mod Places
 pub mod Bare
 pub mod Sought
 mod Plain
+pub mod Asked
+pub mod Heard
+pub mod Whole

@@ -8,6 +8,7 @@ use Rattle.adx_http.specs.declared.reply.Reply.{Reply}
 abbrev pub field_line : List ℕ → List ℕ → List ℕ
 field_line name value = name ++ codes ": " ++ value ++ crlf_bytes
 
+-- the bytes if the condition holds, and else none
 abbrev pub when : Bool → List ℕ → List ℕ
 when b bytes = if b then bytes else []
 
@@ -22,9 +23,11 @@ has_body r = not r.head && not (r.status == 204)
 abbrev pub phrase : ℕ → List ℕ
 phrase status = if nat_le 100 status && nat_lt status 1000 then unwrap_or (reason_phrase status) [] else []
 
+-- the first line of a reply
 abbrev pub status_line : ℕ → List ℕ
 status_line status = codes "HTTP/1.1 " ++ decimal status ++ codes " " ++ phrase status ++ crlf_bytes
 
+-- the field lines of a reply: type, version of OpenRTB, allowed methods, length, and that the connection closes
 abbrev pub field_lines : Reply → List ℕ
 field_lines r =
     when (has_type r) (field_line (codes "Content-Type") (codes "application/json"))
@@ -33,6 +36,8 @@ field_lines r =
     ++ when (has_body r) (field_line (codes "Content-Length") (decimal (length r.body.now)))
     ++ when r.close (field_line (codes "Connection") (codes "close"))
 
+-- a reply: status line, field lines, an empty line, the body
+-- Example: status 204 alone is `HTTP/1.1 204 No Content\r\n\r\n`.
 abbrev pub reply_bytes : Reply → List ℕ
 reply_bytes r = status_line r.status ++ field_lines r ++ crlf_bytes ++ when (has_body r) r.body.now
 
@@ -40,5 +45,6 @@ reply_bytes r = status_line r.status ++ field_lines r ++ crlf_bytes ++ when (has
 abbrev pub is_bare : Reply → Bool
 is_bare r = ((r.status == 204 && not r.openrtb) && length r.allow.now == 0) && not r.close
 
+-- the whole of a reply with status 204 and no field
 abbrev pub bare_bytes : List ℕ
 bare_bytes = codes "HTTP/1.1 204 No Content" ++ crlf_bytes ++ crlf_bytes

@@ -6,6 +6,7 @@ use Rattle.std.specs.Str.{bytes_eq, str_eq_ignore_ascii_case}
 use Rattle.std.specs.Str.Lossy.{utf8_lossy}
 use Rattle.form_urlencoded.specs.Form.{raw_pairs, decode}
 
+-- the byte `?`, before which a path ends
 abbrev pub is_question_mark : ℕ → Bool
 is_question_mark b = b == 63
 
@@ -24,6 +25,7 @@ rest_of target =
 abbrev pub path_of : List ℕ → List ℕ
 path_of target = if length (before_first is_question_mark (rest_of target)) == 0 then codes "/" else before_first is_question_mark (rest_of target)
 
+-- what comes after the first question mark
 abbrev pub query_of : List ℕ → List ℕ
 query_of target = after_first is_question_mark (rest_of target)
 
@@ -31,6 +33,7 @@ query_of target = after_first is_question_mark (rest_of target)
 abbrev pub decoded : List ℕ → List ℕ
 decoded bytes = utf8_lossy (decode bytes)
 
+-- the pair's name, decoded, is this one
 abbrev pub has_name : List ℕ → List ℕ × List ℕ → Bool
 has_name name pair = bytes_eq (decoded pair.0) name
 

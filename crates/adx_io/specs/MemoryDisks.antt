@@ -38,6 +38,7 @@ pub record MemoryDiskState : Type 0 where
   pub changes : List Change
   pub habits : DiskHabits
 
+-- what a read of a disk in memory gives
 abbrev pub reads_of : MemoryDiskState → List ℕ
 reads_of d = reading d.start d.changes
 
@@ -46,12 +47,15 @@ abbrev pub HasCome : Option ℕ → ℕ → Type 0
 HasCome None call = ⊥
 HasCome (Some stop) call = stop ≤ call
 
+-- what a crash at this moment may leave of a disk in memory
 abbrev pub images_of : MemoryDiskState → List ℕ → Type 0
 images_of d = IsImage d.start d.changes
 
+-- what a crash since that moment might have left
 abbrev pub left_of : MemoryDiskState → ℕ → List ℕ → Type 0
 left_of d = LeftSince d.start d.changes
 
+-- the moment: how many changes there were
 abbrev pub moment_of : MemoryDiskState → ℕ
 moment_of d = length d.changes
 

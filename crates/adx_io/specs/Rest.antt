@@ -1,4 +1,6 @@
 -- The rest of an input, read to its end. This project's own.
+-- Example: with `ab` before, `cde` left and a limit of 2, `abcd` stands there, `e` was taken and is lost, and the
+-- answer is that the limit was passed.
 use Rattle.std.specs.Prelude.{◌≡◌, ℕ, ◌+◌, ◌≤◌, List, [], ◌∷◌, ◌++◌, length, Result, Ok, Err}
 use Rattle.adx_io.specs.Streams.{Tape}
 use Rattle.adx_io.specs.declared.rest.Rest.{Rest}

@@ -1,4 +1,5 @@
 -- What a disk in memory holds, by the writes to it. This project's own.
+-- Example: behind the writes of 7 at 0 and of 8 at 2 it holds 7, 0, 8.
 use Rattle.std.specs.Prelude.{ℕ, List, [], ◌∷◌}
 use Rattle.adx_io.specs.Disks.{written}
 

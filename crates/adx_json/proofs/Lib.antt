@@ -32,3 +32,7 @@ pub mod OneString
 pub mod OneTree
 pub mod TextsUtf8
 pub mod PutMembers
+pub mod Meeting
+pub mod Judging
+pub mod Items
+pub mod Finding

@@ -4,7 +4,7 @@ use Rattle.std.proofs.lemmas.Bool.{and_parts, and_from}
 use Rattle.std.proofs.lemmas.Bool.Decides.{nat_tests}
 use Rattle.std.proofs.lemmas.Str.{IsUtf8-from_ascii}
 use Rattle.std.specs.List.{list_all, prefix_len}
-use Rattle.byte_runs.specs.Unescaped.{is_unescaped}
+use Rattle.adx_units.specs.Unescaped.{is_unescaped}
 use Rattle.adx_json.specs.Reading.{is_bare}
 use Rattle.adx_json.specs.Found.{AddsRun, FoundText}
 use Rattle.adx_json.proofs.TextParts.{run_none, run_some, text_start, text_run, text_closes}

@@ -37,6 +37,7 @@ pub record FoundSpace (bytes rest : List ℕ) : Type 0 where
   pub is : IsSpace space
   pub ends : Stops is_space rest
 
+-- A number, and the rest
 pub record FoundNumber (bytes n rest : List ℕ) : Type 0 where
   pub is : IsTrue (is_number n)
   pub whole : bytes ≡ n ++ rest

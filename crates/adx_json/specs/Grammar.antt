@@ -152,10 +152,12 @@ abbrev mutual
   resolved (list ts) = list (resolved_items ts)
   resolved (object ms) = object (last_of_each (resolved_members ms))
 
+  -- the items of a list, each resolved
   pub resolved_items : Items → Items
   resolved_items no_items = no_items
   resolved_items (item t ts) = item (resolved t) (resolved_items ts)
 
+  -- the members of an object, each value resolved
   pub resolved_members : Members → Members
   resolved_members no_members = no_members
   resolved_members (member n t ms) = member n (resolved t) (resolved_members ms)

@@ -10,3 +10,7 @@ pub mod Found
 pub mod Repeats
 pub mod WellFormed
 pub mod Named
+pub mod Values
+pub mod Checks
+pub mod Walks
+pub mod FoundMembers

@@ -18,6 +18,7 @@ abbrev pub with_value : List ℕ → Tree → Members → Members
 with_value name t no_members = member name t no_members
 with_value name t (member n u ms) = if bytes_eq n name then member n t ms else member n u (with_value name t ms)
 
+-- the tree is an object
 abbrev pub IsObject : Tree → Type 0
 IsObject (object ms) = Unit {0}
 IsObject _ = ⊥

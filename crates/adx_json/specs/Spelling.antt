@@ -29,6 +29,7 @@ abbrev pub text_spelling : List ℕ → List ℕ
 text_spelling t = 34 ∷ (flat_map escape t ++ 34 ∷ [])
 
 abbrev mutual
+  -- the bytes of a value
   pub spelling : Tree → List ℕ
   spelling null = codes "null"
   spelling (boolean b) = if b then codes "true" else codes "false"
@@ -47,10 +48,12 @@ abbrev mutual
   more_items_spelling no_items = []
   more_items_spelling (item t ts) = 44 ∷ (spelling t ++ more_items_spelling ts)
 
+  -- members with commas between them
   pub members_spelling : Members → List ℕ
   members_spelling no_members = []
   members_spelling (member n t ms) = text_spelling n ++ 58 ∷ (spelling t ++ more_members_spelling ms)
 
+  -- each further member behind its comma
   pub more_members_spelling : Members → List ℕ
   more_members_spelling no_members = []
   more_members_spelling (member n t ms) = 44 ∷ (text_spelling n ++ 58 ∷ (spelling t ++ more_members_spelling ms))

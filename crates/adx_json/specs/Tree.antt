@@ -2,6 +2,7 @@
 use Rattle.std.specs.Prelude.{ℕ, suc, max, List, [], ◌∷◌, Bool}
 
 mutual
+  -- a value: null, a boolean, a number as its text, a text, a list or an object
   pub data Tree : Type 0 where
     null : Tree
     boolean : Bool → Tree
@@ -10,10 +11,12 @@ mutual
     list : Items → Tree
     object : Members → Tree
 
+  -- the items of a list
   pub data Items : Type 0 where
     no_items : Items
     item : Tree → Items → Items
 
+  -- the members of an object, each a name and a value
   pub data Members : Type 0 where
     no_members : Members
     member : List ℕ → Tree → Members → Members
@@ -35,6 +38,7 @@ names_of (member n t ms) = n ∷ names_of ms
 
 -- how many lists and objects stand one within the other
 abbrev mutual
+  -- how many lists and objects stand one within the other
   pub levels : Tree → ℕ
   levels null = 0
   levels (boolean b) = 0
@@ -43,10 +47,12 @@ abbrev mutual
   levels (list ts) = suc (items_levels ts)
   levels (object ms) = suc (members_levels ms)
 
+  -- the greatest number of levels among items
   pub items_levels : Items → ℕ
   items_levels no_items = 0
   items_levels (item t ts) = max (levels t) (items_levels ts)
 
+  -- the greatest number of levels among members
   pub members_levels : Members → ℕ
   members_levels no_members = 0
   members_levels (member n t ms) = max (levels t) (members_levels ms)

@@ -14,6 +14,7 @@ value_step (Json-F.Text t) = text t
 value_step (Json-F.List v) = list (items_of v.items)
 value_step (Json-F.Object v) = object (members_of v.items)
 
+-- one member as its name and its tree
 abbrev pub member_step : Member-F Tree (List ℕ × Tree) → List ℕ × Tree
 member_step m = (m.name, m.value)
 
@@ -29,5 +30,6 @@ member_of = fold-Member Tree (List ℕ × Tree) value_step member_step
 abbrev pub trees_of : List Json → List Tree
 trees_of vs = map tree_of vs
 
+-- the names and trees of several members
 abbrev pub members_view : List Member → List (List ℕ × Tree)
 members_view ms = map member_of ms

@@ -14,10 +14,12 @@ abbrev mutual
   IsWellFormed (list ts) = AreWellFormed ts
   IsWellFormed (object ms) = AllPairs (λ a b. a ≢ b) (names_of ms) × HaveWellFormed ms
 
+  -- every item is well formed
   pub AreWellFormed : Items → Type 0
   AreWellFormed no_items = Unit {0}
   AreWellFormed (item t ts) = IsWellFormed t × AreWellFormed ts
 
+  -- every member's value is well formed
   pub HaveWellFormed : Members → Type 0
   HaveWellFormed no_members = Unit {0}
   HaveWellFormed (member n t ms) = IsWellFormed t × HaveWellFormed ms
@@ -32,10 +34,12 @@ abbrev mutual
   HasUtf8 (list ts) = AllHaveUtf8 ts
   HasUtf8 (object ms) = MembersHaveUtf8 ms
 
+  -- all texts in the items are UTF-8
   pub AllHaveUtf8 : Items → Type 0
   AllHaveUtf8 no_items = Unit {0}
   AllHaveUtf8 (item t ts) = HasUtf8 t × AllHaveUtf8 ts
 
+  -- the names of the members and all texts in their values are UTF-8
   pub MembersHaveUtf8 : Members → Type 0
   MembersHaveUtf8 no_members = Unit {0}
   MembersHaveUtf8 (member n t ms) = IsUtf8 n × HasUtf8 t × MembersHaveUtf8 ms

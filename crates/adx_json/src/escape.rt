@@ -4,8 +4,7 @@ ghost use Rattle.std.specs.List.{list_all, prefix_len, flat_map};
 ghost use Rattle.adx_json.specs.Spelling.{hex_digit as hex_digit_of, control_escape, escape, text_spelling};
 ghost use Rattle.adx_json.specs.Reading.{Stops, is_bare as is_bare_byte};
 
-use adx_units::OutOfMemory;
-use byte_runs::unescaped_len;
+use adx_units::{OutOfMemory, unescaped_len};
 
 /// Puts the text at the end, between quotation marks.
 pub fn push_text(out: &mut String, text: &str) -> Result<(), OutOfMemory>

@@ -11,8 +11,7 @@ use crate::escape::bare_len;
 use crate::fault::Stop;
 use crate::front::{after, ascii_text};
 use crate::utf8::broken;
-use adx_units::{OutOfMemory, Text};
-use byte_runs::{unescaped_len, utf8_text};
+use adx_units::{OutOfMemory, Text, unescaped_len, utf8_text};
 use std::alloc::Global;
 
 /// The text behind its opening quotation mark, and the bytes behind its closing one.

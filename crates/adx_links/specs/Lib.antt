@@ -1,3 +1,10 @@
 pub mod Links
 pub mod TcpLinks
 pub mod MemoryLinks
+pub mod Pairs
+pub mod MemoryAcceptors
+pub mod TcpAcceptors
+pub mod Told
+pub mod Serving
+pub mod Lobbies
+pub mod Halls

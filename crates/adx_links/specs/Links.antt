@@ -1,4 +1,6 @@
 -- A link: a host is called, bytes are asked of it, and it answers. This project's own.
+-- Example: after a start for which `abc` was planned, `ask` put and two bytes taken, the exchange that goes on has
+-- `ask` asked and `ab` answered, and the connection has `c` left.
 use Rattle.std.specs.Prelude.{◌≡◌, ◌⊎◌, ◌==◌, ◌-◌, ℕ, List, [], ◌∷◌, ◌++◌, get_or, drop, Bool, false, if◌then◌else◌, IsTrue, Option, Some, None, option_map, option_to_list, Result, Ok, Err, ⊤}
 use Rattle.adx_io.specs.declared.failed.Failed.{Failed}
 use Rattle.adx_links.specs.declared.planned.Planned.{Planned}
@@ -24,9 +26,11 @@ exchanges_in e = e.past ++ option_to_list e.now
 abbrev pub begun : List ℕ → ℕ → Exchange
 begun host port = record { host = host; port = port; asked = []; answered = [] }
 
+-- the exchange after these bytes more were asked
 abbrev pub asking : List ℕ → Exchange → Exchange
 asking bytes e = record e { asked = e.asked ++ bytes }
 
+-- the exchange after these bytes more were answered
 abbrev pub answering : List ℕ → Exchange → Exchange
 answering bytes e = record e { answered = e.answered ++ bytes }
 
@@ -54,6 +58,7 @@ pub record Plan : Type 0 where
 abbrev pub next_start : Plan → Planned
 next_start p = get_or p.starts 0 p.past_end
 
+-- the plan after the next start
 abbrev pub after_start : Plan → Plan
 after_start p = record p { starts = drop 1 p.starts }
 
@@ -82,6 +87,7 @@ abbrev pub Connects : Result Unit Failed → Course → Course → Type 0
 Connects (Ok done) old new = new ≡ record { now = Some (connection_of (next_start old.plan)); plan = after_start old.plan }
 Connects (Err e) old new = new ≡ record { now = None; plan = after_start old.plan }
 
+-- A put moves no bytes that are answered
 abbrev pub after_put : Connection → Connection
 after_put c = record c { put_fails = false }
 
@@ -95,6 +101,7 @@ pub record TakesFrom (out : List ℕ) (result : Result ℕ Failed) (old new : Co
   pub put_same : new.put_fails ≡ old.put_fails
   pub nearer : new.take_fails ≡ one_nearer old.take_fails
 
+-- a take moves the next bytes of the connection into the buffer; the plan stays
 pub record Takes (out : List ℕ) (result : Result ℕ Failed) (old new : Course) : Type 0 where
   pub takes : WhereTold old.now new.now (TakesFrom out result)
   pub same : new.plan ≡ old.plan

@@ -16,21 +16,26 @@ pub record RunningState : Type 0 where
   pub asked : List ℕ
   pub connection : Connection
 
+-- the exchange that it is
 abbrev pub exchange_of : RunningState → Exchange
 exchange_of r = record { host = r.host; port = r.port; asked = r.asked; answered = r.connection.tape.taken }
 
+-- and how one begins
 abbrev pub running_of : List ℕ → ℕ → Planned → RunningState
 running_of host port p = record { host = host; port = port; asked = []; connection = connection_of p }
 
+-- a link in memory: the exchanges that ended, the one that goes on, what is planned, and the count of faults
 pub record MemoryLinkState : Type 0 where
   pub past : List Exchange
   pub running : Option RunningState
   pub plan : Plan
   pub faults : ℕ
 
+-- the exchanges that it reports
 abbrev pub exchanges_of : MemoryLinkState → Exchanges
 exchanges_of l = record { past = l.past; now = option_map exchange_of l.running }
 
+-- the connection that it has, and what is planned
 abbrev pub course_of : MemoryLinkState → Course
 course_of l = record { now = option_map (λ (r : RunningState). r.connection) l.running; plan = l.plan }
 

@@ -2,9 +2,11 @@
 use Rattle.std.specs.Prelude.{ℕ, Option, Some, None, ⊤}
 use Rattle.adx_links.specs.declared.tcp_link.TcpLink.{TcpLink}
 
+-- the connection that a link over sockets has, if any
 abbrev pub stream_of : {R S L : Type 0} → TcpLink R S L → Option S
 stream_of l = l.stream
 
+-- how often it has failed
 abbrev pub link_faults : {R S L : Type 0} → TcpLink R S L → ℕ
 link_faults l = l.faults
 

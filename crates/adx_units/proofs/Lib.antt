@@ -9,3 +9,7 @@ pub mod Trimmed
 pub mod Written
 pub mod Changed
 pub mod Scans
+pub mod Sets
+pub mod Lanes
+pub mod Runs
+pub mod Texts

@@ -5,3 +5,6 @@ pub mod Texts
 pub mod Ids
 pub mod Changed
 pub mod Scans
+pub mod Among
+pub mod Ascii
+pub mod Unescaped

@@ -8,6 +8,7 @@ use Rattle.adx_units.specs.declared.units.Units.{Units}
 use Rattle.adx_units.specs.declared.price.PriceFault.{PriceFault}
 use Rattle.adx_units.specs.declared.price.PriceFault.TheVariants.{NotNumber, NotPositive, TooLarge, TooFine}
 
+-- an amount of so many units
 abbrev pub units : ℕ → Units
 units n = record { 0 = n }
 
@@ -19,6 +20,7 @@ price_units t = numerator t * 10 ^ 6 / denominator t
 abbrev pub floor_units : List ℕ → ℕ
 floor_units t = (numerator t * 10 ^ 6 + (denominator t - 1)) / denominator t
 
+-- the price of a text, or the first fault: no number, not positive, above 10^12 units
 abbrev pub price_of : List ℕ → Result Units PriceFault
 price_of t =
     if not (is_number t) then Err NotNumber

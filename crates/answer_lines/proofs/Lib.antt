@@ -4,3 +4,4 @@ pub mod Counts
 pub mod Joined
 pub mod Sold
 pub mod OfNoAsk
+pub mod Apart

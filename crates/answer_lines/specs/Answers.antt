@@ -1,5 +1,6 @@
 -- The line of each answer of a day: JSON (RFC 8259) in its one compact spelling, without a newline. This
 -- project's own.
+-- Example: that of a tick which ended one award is `{"answer":"ticked","ended":1}`.
 use Rattle.std.specs.Prelude.{◌≡◌, ℕ, List, [], ◌++◌, map, length, Option, Some, None, option_and_then, slice_get, slice_index_or, codes, decimal, if◌then◌else◌}
 use Rattle.std.specs.Option.{option_map_or}
 use Rattle.std.specs.List.{flat_map, enumerate_from, range_with_len, join_with_byte}
@@ -41,14 +42,17 @@ awards_text campaigns a = join_with_byte 44 (map (award_text campaigns a) (enume
 abbrev pub reasons_of : List Offer → List ℕ
 reasons_of offers = join_with_byte 44 (map (λ (o : Offer). decimal o.reason) offers)
 
+-- those of an ask
 abbrev pub reasons_text : Ask → List ℕ
 reasons_text a = reasons_of a.offers
 
+-- the line of an ask that has a winner
 abbrev pub awarded_line : List Campaign → Ask → List ℕ
 awarded_line campaigns a =
     codes "{\"answer\":\"awarded\",\"auction\":" ++ text_spelling a.auction ++ codes ",\"awards\":[" ++ awards_text campaigns a
     ++ codes "],\"reasons\":[" ++ reasons_text a ++ codes "]}"
 
+-- the line of an ask without a winner
 abbrev pub nosale_line : Ask → List ℕ
 nosale_line a =
     codes "{\"answer\":\"nosale\",\"auction\":" ++ text_spelling a.auction ++ codes ",\"reasons\":[" ++ reasons_text a ++ codes "]}"
@@ -62,28 +66,34 @@ abbrev pub repeat_line : List Campaign → Option Ask → List ℕ
 repeat_line campaigns None = codes "{\"answer\":\"repeat\"}"
 repeat_line campaigns (Some a) = ask_line campaigns a
 
+-- an id that stands with another digest, by both digests
 abbrev pub reused_line : List ℕ → List ℕ → List ℕ
 reused_line kept given =
     codes "{\"answer\":\"reused\",\"kept\":\"" ++ encode_lower kept ++ codes "\",\"given\":\"" ++ encode_lower given ++ codes "\"}"
 
+-- the word of a limit in an answer line
 abbrev pub which_text : Which → List ℕ
 which_text Which.Auctions = codes "auctions"
 which_text Which.Bids = codes "bids"
 which_text Which.Text = codes "text"
 which_text Which.Changes = codes "changes"
 
+-- the line of an ask or a change that would pass a limit of the day: which limit, and what it would come to
 abbrev pub dayfull_line : Which → ℕ → List ℕ
 dayfull_line which count =
     codes "{\"answer\":\"dayfull\",\"which\":\"" ++ which_text which ++ codes "\",\"count\":" ++ decimal count ++ codes "}"
 
+-- the word of an end in an answer line
 abbrev pub end_text : End → List ℕ
 end_text End.Billed = codes "billed"
 end_text End.Lost = codes "lost"
 end_text End.Expired = codes "expired"
 
+-- the line of a notice that came too late: how its award had ended
 abbrev pub conflict_line : End → List ℕ
 conflict_line kept = codes "{\"answer\":\"conflict\",\"kept\":\"" ++ end_text kept ++ codes "\"}"
 
+-- the line of a tick: how many awards it ended
 abbrev pub ticked_line : ℕ → List ℕ
 ticked_line ended = codes "{\"answer\":\"ticked\",\"ended\":" ++ decimal ended ++ codes "}"
 

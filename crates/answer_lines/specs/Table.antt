@@ -4,7 +4,7 @@ use Rattle.std.specs.Prelude.{ℕ, List, ◌++◌, length, codes, decimal}
 use Rattle.std.specs.List.{flat_map, enumerate_from}
 use Rattle.adx_json.specs.Spelling.{text_spelling}
 use Rattle.campaign_book.specs.Accounts.{Account, account_at, committed}
-use Rattle.discount_table.specs.Discount.{slab_of}
+use Rattle.campaign_book.specs.Discount.{slab_of}
 use Rattle.day_rules.specs.declared.entry.Entry.{Entry}
 use Rattle.day_rules.specs.Books.{awards_of, accounts_in, ask_count}
 use Rattle.day_rules.specs.Terms.{Terms, budgets_after}

@@ -12,10 +12,9 @@ use crate::pieces::push;
 use adx_json::{push_number, push_text};
 use adx_units::{Offer, OutOfMemory};
 use allocator_core::AWARDED;
-use campaign_book::Book;
+use campaign_book::{Book, slab_of};
 use day_rules::{Ask, Entry};
 use deal_floor::Campaign;
-use discount_table::slab_of;
 
 /// Writes a campaign's row of the closing table.
 fn push_campaign(

@@ -19,7 +19,7 @@ use Rattle.bid_record.specs.declared.rows.CampaignRow.{CampaignRow}
 use Rattle.bid_record.specs.declared.rows.Charge.{Charge}
 use Rattle.bid_record.specs.declared.rows.ImpRow.{ImpRow}
 use Rattle.bid_record.specs.Lines.{head_line, day_line, campaign_line, imp_line, end_line, rows_lines, lines, document}
-use Rattle.day_form.specs.Days.{zeroed, is_day}
+use Rattle.formats.specs.Days.{zeroed, is_day}
 use Rattle.bid_record.specs.Records.{IsAmount, IsCharge, IsCampaign, IsImp, Differ, IsSound}
 use Rattle.bid_record.specs.Refusals.{Told, nothing, a_head, rows, all, IsNextCampaign, IsLooseImp, HasPlaces, IsNextEnd, Follows, head_first, day_second, campaign_next, imp_next, end_last, IsWhole, IsOfForm, BreaksOrder, BreaksPlaces, IsRefusal, AreSame, GivesRecord}
 use Rattle.bid_record.specs.Taking.{IsTaken, AreRows, IsOpened, AreRead, IsBehindLast, IsFound}

@@ -20,7 +20,7 @@ use Rattle.bid_record.specs.declared.rows.ImpRow.{ImpRow}
 use Rattle.bid_record.specs.declared.rows.End.{End}
 use Rattle.bid_record.specs.declared.rows.End.TheVariants.{Live, Billed, Lost, Expired}
 use Rattle.bid_record.specs.Lines.{changes_part, name_part, place_text, end_text, offer_part, head_line, day_line, campaign_line, imp_line, end_line}
-use Rattle.day_form.specs.Days.{zeroed, is_day}
+use Rattle.formats.specs.Days.{zeroed, is_day}
 use Rattle.bid_record.specs.Records.{IsCampaign}
 use Rattle.bid_record.specs.Reading.{number_part_at, campaign_at, imp_at, end_line_at}
 use Rattle.bid_record.specs.Refusals.{Told, nothing, a_head, rows, all, HasPlaces, Follows, head_first, day_second, campaign_next, imp_next, end_last, IsWhole, IsOfForm, BreaksOrder, BreaksPlaces}

@@ -27,6 +27,7 @@ abbrev pub place_text : Option ℕ → List ℕ
 place_text None = codes "-"
 place_text (Some place) = decimal place
 
+-- the word of an end, a dash where there is none
 abbrev pub end_text : Option End → List ℕ
 end_text None = codes "-"
 end_text (Some Live) = codes "live"
@@ -38,9 +39,11 @@ end_text (Some Expired) = codes "expired"
 abbrev pub offer_part : Charge → List ℕ
 offer_part o = part (decimal o.campaign ++ 58 ∷ decimal o.charge.0)
 
+-- the first line of a record, with its format
 abbrev pub head_line : ℕ → List ℕ
 head_line format = codes "adx-record" ++ part (decimal format)
 
+-- the line of its day
 abbrev pub day_line : List ℕ → List ℕ
 day_line day = codes "day" ++ part day
 
@@ -54,6 +57,7 @@ abbrev pub imp_line : ℕ × ImpRow → List ℕ
 imp_line (j, row) =
     codes "imp" ++ (part (decimal j) ++ (name_part row.name ++ (part (place_text row.chosen) ++ (part (end_text row.end) ++ flat_map offer_part row.offers))))
 
+-- its last line, with the number of impressions
 abbrev pub end_line : ℕ → List ℕ
 end_line n = codes "end" ++ part (decimal n)
 

@@ -8,7 +8,7 @@ use Rattle.bid_record.specs.declared.record.Record.{Record}
 use Rattle.bid_record.specs.declared.rows.CampaignRow.{CampaignRow}
 use Rattle.bid_record.specs.declared.rows.ImpRow.{ImpRow}
 use Rattle.bid_record.specs.Lines.{head_line, day_line, campaign_line, imp_line, end_line, document}
-use Rattle.day_form.specs.Days.{is_day}
+use Rattle.formats.specs.Days.{is_day}
 use Rattle.bid_record.specs.Records.{IsAmount, IsCampaign, IsImpName, Differ}
 
 -- what the lines so far have told

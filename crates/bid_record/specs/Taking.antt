@@ -16,7 +16,7 @@ use Rattle.bid_record.specs.declared.rows.Charge.{Charge}
 use Rattle.bid_record.specs.declared.rows.ImpName.{ImpName}
 use Rattle.bid_record.specs.declared.rows.ImpRow.{ImpRow}
 use Rattle.bid_record.specs.Lines.{head_line, day_line, end_line, rows_lines, document}
-use Rattle.day_form.specs.Days.{is_day}
+use Rattle.formats.specs.Days.{is_day}
 use Rattle.bid_record.specs.Records.{IsCampaign, IsImp, Differ, IsSound}
 use Rattle.bid_record.specs.Refusals.{rows, all, Follows, IsOfForm, BreaksOrder, BreaksPlaces, IsRefusal}
 use Rattle.bid_record.specs.Reading.{is_listed, has_places, charge_of, offers_at, imp_row_at, imp_at}

@@ -3,8 +3,7 @@ ghost use Rattle.bid_record.specs.Taking.{IsDayOf};
 
 use crate::fault::Misfit;
 use adx_units::Text;
-use day_form::is_day;
-use formats::behind;
+use formats::{behind, is_day};
 use std::alloc::Global;
 use std::str;
 

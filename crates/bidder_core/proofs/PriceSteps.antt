@@ -4,9 +4,9 @@ use Rattle.std.specs.List.{list_any}
 use Rattle.std.proofs.lemmas.List.{map-append, length-map}
 use Rattle.std.proofs.Math.Seq.{append_snoc}
 use Rattle.adx_json.specs.Tree.{Tree}
-use Rattle.tree_view.specs.Checks.{judged}
-use Rattle.tree_view.proofs.Judging.{judged_on, judged_off, judged_value}
-use Rattle.name_sets.specs.Among.{is_among}
+use Rattle.adx_json.specs.Checks.{judged}
+use Rattle.adx_json.proofs.Judging.{judged_on, judged_off, judged_value}
+use Rattle.adx_units.specs.Among.{is_among}
 use Rattle.rtb_request.specs.Distinct.{all_distinct}
 use Rattle.rtb_request.proofs.Distinct.{distinct_more}
 use Rattle.deal_floor.specs.Faults.{lacks_memory}

@@ -14,6 +14,7 @@ use Rattle.bidder_core.specs.declared.answer.TheConstants.{MOST_BIDS}
 use Rattle.bidder_core.specs.declared.price_line.Price.{Price}
 use Rattle.bidder_core.specs.declared.price_line.PriceLine.{PriceLine}
 
+-- the path of a notice's URL, up to the bid's id
 abbrev pub path_of : NoticeKind → List ℕ
 path_of NoticeKind.Win = codes "/n/win?a=${AUCTION_ID}&b="
 path_of NoticeKind.Bill = codes "/n/bill?a=${AUCTION_ID}&b="
@@ -29,11 +30,13 @@ told_price NoticeKind.Loss = []
 abbrev pub notice_url : List ℕ → List ℕ → NoticeKind → List ℕ
 notice_url base id kind = base ++ (path_of kind ++ (id ++ told_price kind))
 
+-- the member of a bid that has the URL of a notice
 abbrev pub name_of : NoticeKind → List ℕ
 name_of NoticeKind.Win = codes "nurl"
 name_of NoticeKind.Bill = codes "burl"
 name_of NoticeKind.Loss = codes "lurl"
 
+-- that member, with the URL
 abbrev pub notice_member : List ℕ → List ℕ → NoticeKind → List ℕ × Tree
 notice_member base id kind = (name_of kind, text (notice_url base id kind))
 

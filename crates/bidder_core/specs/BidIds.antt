@@ -7,9 +7,11 @@ use Rattle.adx_units.specs.Number.{is_whole, digits_value}
 use Rattle.rtb_request.specs.declared.bid_request.TheConstants.{MOST_IMPS}
 
 -- the id of the bid for an impression at a price
+-- Example: `1-0` is the bid for the second impression at the first price
 abbrev pub bid_id : ℕ → ℕ → List ℕ
 bid_id imp price = decimal imp ++ 45 ∷ decimal price
 
+-- the byte `-`, between the two places of a bid's id
 abbrev pub is_dash : ℕ → Bool
 is_dash b = b == 45
 

@@ -13,6 +13,7 @@ use Rattle.bidder_core.specs.BidIds.{is_made, price_in}
 use Rattle.bidder_core.specs.declared.ledger.LedgerRow.{LedgerRow}
 use Rattle.bidder_core.specs.declared.ruling.BidderRuling.{BidderRuling}
 
+-- two kinds of notice are the same
 abbrev pub is_kind : NoticeKind → NoticeKind → Bool
 is_kind NoticeKind.Win NoticeKind.Win = true
 is_kind NoticeKind.Win NoticeKind.Bill = false
@@ -38,6 +39,7 @@ end_of true loss = Some End.Billed
 end_of false true = Some End.Lost
 end_of false false = None
 
+-- a bill ends it, else a loss does
 abbrev pub end_in : List ℕ → List ℕ → List LedgerRow → Option End
 end_in auction bid rows =
     end_of (was_counted NoticeKind.Bill auction bid rows) (was_counted NoticeKind.Loss auction bid rows)
@@ -52,6 +54,7 @@ known_ruling Ruling.Repeat = BidderRuling.Repeat
 known_ruling (Ruling.Conflict e) = BidderRuling.Conflict e
 
 -- what a notice comes to at a bidder with so many prices: unknown where the bidder makes no such id
+-- Example: a bill, the same bill with another price: counted, repeat, and one row with the first price
 abbrev pub bidder_ruling : ℕ → NoticeKind → List ℕ → List ℕ → List LedgerRow → BidderRuling
 bidder_ruling prices kind auction bid rows =
     if is_made prices bid then known_ruling (ruling_in kind auction bid rows) else BidderRuling.Unknown
@@ -75,6 +78,7 @@ is_bill_at price r = is_kind NoticeKind.Bill r.kind && price_in r.bid == price
 abbrev pub billed_in : ℕ → List LedgerRow → ℕ
 billed_in price rows = sum_by (λ (r : LedgerRow). if is_bill_at price r then r.price.0 else 0) rows
 
+-- how many bills there are at a price
 abbrev pub bill_count : ℕ → List LedgerRow → ℕ
 bill_count price rows = count_by (is_bill_at price) rows
 

@@ -6,10 +6,10 @@ use Rattle.adx_units.specs.Money.{price_of}
 use Rattle.adx_units.specs.declared.units.Units.{Units}
 use Rattle.adx_units.specs.declared.price.PriceFault.{PriceFault}
 use Rattle.adx_units.specs.declared.price.PriceFault.TheVariants.{NotNumber}
-use Rattle.tree_view.specs.Values.{text_in, number_in, text_or_empty, items_in}
-use Rattle.tree_view.specs.Checks.{Check, check, judged}
+use Rattle.adx_json.specs.Values.{text_in, number_in, text_or_empty, items_in}
+use Rattle.adx_json.specs.Checks.{Check, check, judged}
 use Rattle.rtb_request.specs.Amounts.{is_id, units_or_zero}
-use Rattle.name_sets.specs.Among.{is_among}
+use Rattle.adx_units.specs.Among.{is_among}
 use Rattle.deal_floor.specs.Forms.{text_or}
 use Rattle.deal_floor.specs.declared.fault.RosterFault.{RosterFault}
 use Rattle.deal_floor.specs.declared.fault.RosterFault.TheVariants.{BadField, Repeated, TooMany}
@@ -17,6 +17,7 @@ use Rattle.deal_floor.specs.declared.fault.Field.TheVariants as fields
 use Rattle.bidder_core.specs.Forms.{is_plain_base}
 use Rattle.bidder_core.specs.declared.price_line.TheConstants.{MOST_PRICES}
 
+-- a base is given, without `?` and `#`
 abbrev pub is_base : Option (List ℕ) → Bool
 is_base None = false
 is_base (Some t) = is_plain_base t
@@ -26,9 +27,11 @@ abbrev pub is_base_if_given : Option Tree → Bool
 is_base_if_given None = true
 is_base_if_given (Some t) = is_base (text_in (Some t))
 
+-- the base where none is given
 abbrev pub usual_base : List ℕ
 usual_base = codes "http://127.0.0.1"
 
+-- the price of a number's text; without one it isn't a number
 abbrev pub price_by : Option (List ℕ) → Result Units PriceFault
 price_by None = Err NotNumber
 price_by (Some n) = price_of n
@@ -37,6 +40,7 @@ price_by (Some n) = price_of n
 abbrev pub price_told : Option Tree → Result Units PriceFault
 price_told v = price_by (number_in v)
 
+-- the campaign of a price, empty if it is absent
 abbrev pub price_cid : Tree → List ℕ
 price_cid t = text_or_empty (member_in (codes "cid") t)
 
@@ -53,6 +57,7 @@ abbrev pub prices_checks : List (List ℕ) → List Tree → List (Check RosterF
 prices_checks before [] = []
 prices_checks before (t ∷ ts) = price_checks before t ++ prices_checks (before ++ price_cid t ∷ []) ts
 
+-- what a price says: for which campaign, and how much
 pub record PriceView : Type 0 where
   pub cid : List ℕ
   pub price : Units
@@ -78,6 +83,7 @@ price_line_checks t =
     ∷ check (is_base_if_given (member_in (codes "base") t)) (BadField fields.Base)
     ∷ price_list_checks (member_in (codes "prices") t)
 
+-- what a line of prices says
 pub record PriceLineView : Type 0 where
   pub seat : List ℕ
   pub base : List ℕ

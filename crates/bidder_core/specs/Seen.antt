@@ -3,17 +3,19 @@
 use Rattle.std.specs.Prelude.{ℕ, List, [], ◌∷◌, ◌++◌, map, Bool, Option, Result}
 use Rattle.std.specs.Str.{bytes_eq}
 use Rattle.adx_json.specs.Tree.{Tree}
-use Rattle.tree_view.specs.Checks.{judged}
-use Rattle.tree_view.specs.Values.{items_in}
+use Rattle.adx_json.specs.Checks.{judged}
+use Rattle.adx_json.specs.Values.{items_in}
 use Rattle.deal_floor.specs.declared.fault.RosterFault.{RosterFault}
 use Rattle.bidder_core.specs.PriceLines.{PriceLineView, PriceView, price_checks, price_list_checks, price_view, prices_checks}
 use Rattle.bidder_core.specs.declared.ledger.LedgerRow.{LedgerRow}
 use Rattle.bidder_core.specs.declared.price_line.Price.{Price}
 use Rattle.bidder_core.specs.declared.price_line.PriceLine.{PriceLine}
 
+-- what a price of the code says
 abbrev pub seen_price : Price → PriceView
 seen_price p = record { cid = p.cid; price = p.price }
 
+-- what a line of prices of the code says
 abbrev pub seen_line : PriceLine → PriceLineView
 seen_line l = record { seat = l.seat; base = l.base; prices = map seen_price l.prices }
 

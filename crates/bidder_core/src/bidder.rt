@@ -1,7 +1,7 @@
 //! A bidder: what it bids with, and the notices that it was told.
 ghost use Rattle.std.specs.Prelude.{◌≡◌, ◌<◌, [], All, IfOk, OnErr, length, option_map, true};
 ghost use Rattle.adx_json.specs.View.{tree_of};
-ghost use Rattle.tree_view.specs.Checks.{Gives};
+ghost use Rattle.adx_json.specs.Checks.{Gives};
 ghost use Rattle.deal_floor.specs.Faults.{lacks_memory};
 ghost use Rattle.bidder_core.specs.Answers.{answer_for, answer_to};
 ghost use Rattle.bidder_core.specs.BidIds.{is_made};

@@ -2,7 +2,9 @@
 //!
 //! The answer is a function of the price line and the request. The ledger is the list of the notices that were counted:
 //! one table rules on a notice, and a repeated one is never added.
-//! Stands on adx_units, adx_json, tree_view, rtb_request, deal_floor, notice_book, notice_macros, formats and indexmap.
+//!
+//! Stands on `adx_units`, `adx_json`, `rtb_request`, `deal_floor`, `notice_book`, `notice_macros`, `formats` and
+//! `indexmap`.
 #![tactic(auto)]
 
 mod answer;

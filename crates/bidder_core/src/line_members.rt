@@ -3,8 +3,7 @@ ghost use Rattle.std.specs.Prelude.{◌≡◌, option_map, codes};
 ghost use Rattle.adx_json.specs.Named.{member_in};
 ghost use Rattle.adx_json.specs.View.{tree_of};
 
-use adx_json::Json;
-use tree_view::{members_in, met};
+use adx_json::{Json, find_members};
 
 /// The members of a price line.
 #[derive(Clone, Copy)]
@@ -19,14 +18,9 @@ pub(crate) fn members_of_line(tree: &Json) -> LineMembers<'_>
     ensures base { option_map (λ t. tree_of t.now) result.base ≡ member_in (codes "base") (tree_of tree.now) }
     ensures prices { option_map (λ t. tree_of t.now) result.prices ≡ member_in (codes "prices") (tree_of tree.now) }
 {
-    let mut seat = None;
-    let mut base = None;
-    let mut prices = None;
-    for member in members_in(tree) {
-        seat = met(seat, "seat", member);
-        base = met(base, "base", member);
-        prices = met(prices, "prices", member);
-    }
+    let mut found = [None; 3];
+    find_members(Some(tree), &["seat", "base", "prices"], &mut found);
+    let [seat, base, prices] = found;
     LineMembers { seat, base, prices }
 }
 
@@ -41,11 +35,8 @@ pub(crate) fn members_of_price(tree: &Json) -> PriceMembers<'_>
     ensures cid { option_map (λ t. tree_of t.now) result.cid ≡ member_in (codes "cid") (tree_of tree.now) }
     ensures price { option_map (λ t. tree_of t.now) result.price ≡ member_in (codes "price") (tree_of tree.now) }
 {
-    let mut cid = None;
-    let mut price = None;
-    for member in members_in(tree) {
-        cid = met(cid, "cid", member);
-        price = met(price, "price", member);
-    }
+    let mut found = [None; 2];
+    find_members(Some(tree), &["cid", "price"], &mut found);
+    let [cid, price] = found;
     PriceMembers { cid, price }
 }

@@ -3,7 +3,7 @@ ghost use Rattle.std.specs.Prelude.{◌≡◌, ◌≤◌, ◌<◌, ◌+◌, ◌+
 ghost use Rattle.std.specs.List.{list_any};
 ghost use Rattle.adx_json.specs.View.{tree_of, trees_of};
 ghost use Rattle.adx_units.specs.declared.price.TheConstants.{PRICE_LIMIT};
-ghost use Rattle.tree_view.specs.Checks.{Gives};
+ghost use Rattle.adx_json.specs.Checks.{Gives};
 ghost use Rattle.rtb_request.specs.Distinct.{all_distinct};
 ghost use Rattle.deal_floor.specs.Faults.{lacks_memory};
 ghost use Rattle.deal_floor.specs.Reading.{given};
@@ -16,11 +16,10 @@ ghost use Rattle.bidder_core.specs.declared.price_line.TheConstants.{MOST_PRICES
 
 use crate::line_members::{members_of_line, members_of_price};
 use crate::price_line::{MOST_PRICES, Price, PriceLine};
-use adx_json::Json;
+use adx_json::{Json, items_in, number_in, text_in};
 use adx_units::{Id, OutOfMemory, Sequence, Text, Units, price_of};
 use deal_floor::{Field, RosterFault, id_in, text_or};
 use std::alloc::Global;
-use tree_view::{items_in, number_in, text_in};
 
 impl PriceLine {
     /// The view of a price line, or its first fault. A member that is null is there and isn't of its form; members that

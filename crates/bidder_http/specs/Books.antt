@@ -19,6 +19,7 @@ book_line rows (place, price) =
 abbrev pub books_text : PriceLine → List LedgerRow → List ℕ
 books_text line rows = flat_map (book_line rows) (enumerate_from 0 line.prices)
 
+-- the word of a kind in a row of the ledger, with its quotes
 abbrev pub kind_text : NoticeKind → List ℕ
 kind_text NoticeKind.Win = codes "\"win\""
 kind_text NoticeKind.Bill = codes "\"bill\""

@@ -27,6 +27,7 @@ abbrev pub AnswersMethod : Bool → Page → BidderState → List ℕ → List �
 AnswersMethod true page b query bytes a body rows = AnswersPage page b query bytes a body rows
 AnswersMethod false page b query bytes a body rows = (a ≡ disallowed (methods_of page)) × (body ≡ refused_body (codes "method")) × (rows ≡ b.rows)
 
+-- how a bidder answers a message of this page and method: status, body and the ledger after it
 abbrev pub AnswersAt : Option Page → Verb → BidderState → List ℕ → List ℕ → Answer → List ℕ → List LedgerRow → Type 0
 AnswersAt None verb b query bytes a body rows = (a ≡ plain 404) × (body ≡ refused_body (codes "path")) × (rows ≡ b.rows)
 AnswersAt (Some page) verb b query bytes a body rows = AnswersMethod (is_served page verb) page b query bytes a body rows

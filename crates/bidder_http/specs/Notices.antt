@@ -20,9 +20,12 @@ abbrev pub auction_by : Option (List ℕ) → Option (List ℕ)
 auction_by None = None
 auction_by (Some text) = if is_id_text (Some text) then Some text else None
 
+-- the auction that a query names, of 1 to 128 bytes
+-- Example: `a=a1&b=0-0&p=2.5` at `/n/bill` tells a bill of 2,500,000 units.
 abbrev pub auction_in : List ℕ → Option (List ℕ)
 auction_in query = auction_by (value_of (codes "a") query)
 
+-- the price, if there is no fault
 abbrev pub priced : Result Units PriceFault → Option Units
 priced (Ok price) = Some price
 priced (Err fault) = None
@@ -34,6 +37,7 @@ price_by None NoticeKind.Win = None
 price_by None NoticeKind.Bill = None
 price_by None NoticeKind.Loss = Some (units 0)
 
+-- the price that a query says, in units; 0 for a loss without one
 abbrev pub price_in : NoticeKind → List ℕ → Option Units
 price_in kind query = price_by (value_of (codes "p") query) kind
 
@@ -70,5 +74,6 @@ TellsNotice None b a body rows = (a ≡ plain 400) × (body ≡ refused_body (co
 TellsNotice (Some row) b a body rows =
     (a ≡ ruled_answer (ruling_on b row)) × (body ≡ ruled_body (ruling_on b row)) × (rows ≡ rows_after (ruling_on b row) row b.rows)
 
+-- what a notice is answered, and the ledger after it
 abbrev pub AnswersNotice : NoticeKind → List ℕ → BidderState → Answer → List ℕ → List LedgerRow → Type 0
 AnswersNotice kind query b a body rows = TellsNotice (notice_in kind query) b a body rows

@@ -17,12 +17,14 @@ page_at path =
     if bytes_eq path (codes "/books") then Some Page.Books else (
     if bytes_eq path (codes "/ledger") then Some Page.Ledger else None)))))
 
+-- the method is POST
 abbrev pub is_post : Verb → Bool
 is_post Verb.Get = false
 is_post Verb.Head = false
 is_post Verb.Post = true
 is_post Verb.Other = false
 
+-- the method is GET
 abbrev pub is_get : Verb → Bool
 is_get Verb.Get = true
 is_get Verb.Head = false
@@ -36,6 +38,7 @@ is_served (Page.Notices kind) verb = is_get verb
 is_served Page.Books verb = is_get verb
 is_served Page.Ledger verb = is_get verb
 
+-- the methods that a page takes
 abbrev pub methods_of : Page → Methods
 methods_of Page.Offers = Methods.Post
 methods_of (Page.Notices kind) = Methods.Get

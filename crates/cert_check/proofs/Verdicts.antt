@@ -8,8 +8,8 @@ use Rattle.cert_check.specs.declared.verdict.Verdict.{Verdict}
 use Rattle.cert_check.specs.declared.verdict.Verdict.TheVariants.{Accepted, Shape, Alpha, Broken, Bound}
 use Rattle.std.proofs.lemmas.List.Elements.{All-get_or}
 use Rattle.std.proofs.Common.{get_or, length, ◌<◌, []}
-use Rattle.hindsight.specs.Assignments.{impressions, no_charge}
-use Rattle.hindsight.specs.Certificates.{IsCertificate, Covers}
+use Rattle.dual_cert.specs.Assignments.{impressions, no_charge}
+use Rattle.dual_cert.specs.Certificates.{IsCertificate, Covers}
 use Rattle.cert_check.specs.Verdicts.{IsVerdict}
 
 pub certificate_accepted : (r : Record) (c : Cert) (v : Verdict) → IsCertificate r c → IsVerdict r c v → v ≡ Accepted c.bound

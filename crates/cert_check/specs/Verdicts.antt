@@ -3,17 +3,17 @@ use Rattle.std.specs.Prelude.{◌≡◌, ◌≢◌, ℕ, ◌≤◌, ◌<◌, Lis
 use Rattle.bid_record.specs.declared.record.Record.{Record}
 use Rattle.bid_record.specs.declared.rows.Charge.{Charge}
 use Rattle.dual_cert.specs.declared.cert.Cert.{Cert}
-use Rattle.dual_cert.specs.declared.cert.TheConstants.{WHOLE}
+use Rattle.dual_cert.specs.Whole.{whole}
 use Rattle.cert_check.specs.declared.verdict.Verdict.{Verdict}
 use Rattle.cert_check.specs.declared.verdict.Verdict.TheVariants.{Accepted, Shape, Alpha, Broken, Bound}
-use Rattle.hindsight.specs.Assignments.{Impression, impressions, Assignment, earned, no_charge}
-use Rattle.hindsight.specs.Certificates.{Fit, HasShape, Covers, AreCovered, bound_of, IsCertificate}
+use Rattle.dual_cert.specs.Assignments.{Impression, impressions, Assignment, earned, no_charge}
+use Rattle.dual_cert.specs.Certificates.{Fit, HasShape, Covers, AreCovered, bound_of, IsCertificate}
 
 -- the first alpha that is more than the whole stands here
 pub record IsAboveAt (alphas : List ℕ) (campaign : ℕ) : Type 0 where
   pub listed : campaign < length alphas
   pub before : Fit alphas campaign
-  pub above : WHOLE < slice_index alphas campaign
+  pub above : whole < slice_index alphas campaign
 
 -- an impression's first offer that isn't covered stands here
 pub record IsUncoveredAt (alphas : List ℕ) (beta : ℕ) (offers : List Charge) (offer : ℕ) : Type 0 where
@@ -33,6 +33,7 @@ pub record HasAlphaAbove (r : Record) (c : Cert) (campaign : ℕ) : Type 0 where
   pub first : IsAboveAt c.alphas campaign
 
 -- the shape is right, every alpha fits, and this offer is the first that isn't covered
+-- Example: with beta 98 in place of 99 it is offer 1 of impression 0.
 pub record HasBroken (r : Record) (c : Cert) (imp offer : ℕ) : Type 0 where
   pub shape : HasShape r c
   pub fit : Fit c.alphas (length r.campaigns)

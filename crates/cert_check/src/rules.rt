@@ -1,14 +1,13 @@
 //! The rules, tested in order.
 ghost use Rattle.std.specs.Prelude.{◌≡◌, ℕ, ◌^◌, ◌≤◌, ◌<◌, length, All, MatchOption};
 ghost use Rattle.bid_record.specs.Records.{IsCharge};
-ghost use Rattle.hindsight.specs.Assignments.{impressions_of};
-ghost use Rattle.hindsight.specs.Certificates.{Fit, Covers, AreCovered, IsCertificate};
+ghost use Rattle.dual_cert.specs.Assignments.{impressions_of};
+ghost use Rattle.dual_cert.specs.Certificates.{Fit, Covers, AreCovered, IsCertificate};
 ghost use Rattle.cert_check.specs.Verdicts.{IsAboveAt, IsUncoveredAt, IsBrokenAt, IsVerdict, IsBound};
 
 use crate::verdict::Verdict;
 use bid_record::{CampaignRow, Charge, ImpRow, Record};
-use dual_cert::{Cert, WHOLE};
-use hindsight::bound_by;
+use dual_cert::{Cert, WHOLE, bound_by};
 
 /// Whether the certificate is one of this record, or else the first rule that fails.
 #[tactic(auto, using(crate::proofs::Verdicts::certificate_accepted))]

@@ -1,6 +1,6 @@
 -- The count of a keeper's faults by what it answered.
 use Rattle.std.proofs.Common.{ℕ, Result, Ok, Err}
-use Rattle.archive_lines.specs.Courses.{Counts, ending}
+use Rattle.command_archive.specs.Courses.{Counts, ending}
 use Rattle.day_archive.specs.Answers.{HasKeeperCause}
 use Rattle.day_archive.specs.declared.refusal.KeeperRefusal.{KeeperRefusal}
 

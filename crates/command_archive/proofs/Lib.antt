@@ -4,3 +4,6 @@ mod Kept
 mod Listed
 pub mod Statuses
 pub mod Unbegun
+mod Campaigns
+mod Courses
+mod DayRows

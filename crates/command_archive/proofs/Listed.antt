@@ -1,8 +1,8 @@
 -- What a run leaves that asked its keeper for a campaign's days.
 use Rattle.std.proofs.Common.{◌≡◌, ◌∙◌, ℕ, List, [], ◌++◌, Option, Result, ap, subst}
 use Rattle.adx_io.specs.declared.stop.Stop.{Stop}
-use Rattle.archive_lines.specs.Courses.{Counts, ListsDays, list_text}
-use Rattle.archive_lines.specs.declared.filing.Filing.{Filing}
+use Rattle.command_archive.specs.Courses.{Counts, ListsDays, list_text}
+use Rattle.command_archive.specs.declared.filing.Filing.{Filing}
 use Rattle.command_archive.specs.Endings.{outcome_of}
 use Rattle.command_archive.specs.Lists.{LeavesListed, Listing, PutsListed, listed}
 use Rattle.command_archive.specs.declared.list.Query.{Query}

@@ -2,8 +2,8 @@
 use Rattle.std.proofs.Common.{◌≡◌, ◌∙◌, inl, ℕ, List, [], ◌++◌, Option, Some, None, Err, refl, ap, subst}
 use Rattle.adx_io.specs.Streams.{WhereTold}
 use Rattle.adx_io.specs.declared.stop.Stop.{Stop}
-use Rattle.archive_lines.specs.Courses.{Counts, Files, IsAtMostUpgraded}
-use Rattle.archive_lines.specs.declared.filing.Filing.{Filing}
+use Rattle.command_archive.specs.Courses.{Counts, Files, IsAtMostUpgraded}
+use Rattle.command_archive.specs.declared.filing.Filing.{Filing}
 use Rattle.bid_record.specs.declared.record.Record.{Record}
 use Rattle.command_archive.specs.Endings.{LeavesUnanswered, outcome_of}
 use Rattle.command_archive.specs.Puts.{PutsRows}
@@ -11,7 +11,7 @@ use Rattle.command_runs.specs.declared.outcome.Outcome.{Outcome}
 use Rattle.day_archive.specs.Kept.{Archive}
 use Rattle.day_archive.specs.declared.keeper.Keeper as keeper
 use Rattle.day_archive.specs.declared.row.DayRow.{DayRow}
-use Rattle.record_rows.specs.Rows.{rows_of}
+use Rattle.command_archive.specs.Rows.{rows_of}
 use Rattle.command_archive.proofs.Causes.{cause_by}
 
 -- nothing was done

@@ -7,7 +7,7 @@ use Rattle.command_archive.specs.Keeps.{KeepsAs, keeps, unasked}
 use Rattle.command_archive.specs.Lists.{ListsAs, unlisted}
 use Rattle.command_archive.specs.declared.list.Query.{Query}
 use Rattle.command_runs.specs.Documents.{document}
-use Rattle.command_runs.specs.declared.limits.TheConstants.{DOCUMENT_LIMIT}
+use Rattle.command_runs.specs.Limits.{document_limit}
 use Rattle.command_runs.proofs.Ran.{unbegun_counted, unbegun_wrote}
 use Rattle.day_archive.specs.declared.keeper.Keeper as keeper
 use Rattle.command_archive.proofs.Put.{untouched}
@@ -20,7 +20,7 @@ unkept s k p from to archive = record {
   told = refl;
   left = (refl, tt);
   runs = record {
-    wrote = unbegun_wrote (document DOCUMENT_LIMIT (keeps unasked)) (s.tape from) (k.held to) (λ left. (refl, inr (refl, zero-le)));
+    wrote = unbegun_wrote (document document_limit (keeps unasked)) (s.tape from) (k.held to) (λ left. (refl, inr (refl, zero-le)));
     causes = unbegun_counted (s.faults from) (k.faults to);
     source_same = refl;
     sink_same = refl;

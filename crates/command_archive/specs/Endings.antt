@@ -2,8 +2,8 @@
 use Rattle.std.specs.Prelude.{◌≡◌, Result, Err}
 use Rattle.adx_io.specs.Streams.{WhereTold}
 use Rattle.adx_io.specs.declared.stop.Stop.{Stop}
-use Rattle.archive_lines.specs.Courses.{IsAtMostUpgraded, ending}
-use Rattle.archive_lines.specs.declared.filing.Filing.{Filing}
+use Rattle.command_archive.specs.Courses.{IsAtMostUpgraded, ending}
+use Rattle.command_archive.specs.declared.filing.Filing.{Filing}
 use Rattle.command_runs.specs.declared.outcome.Outcome.{Outcome}
 use Rattle.day_archive.specs.declared.keeper.Keeper as keeper
 use Rattle.day_archive.specs.declared.refusal.KeeperRefusal.{KeeperRefusal}

@@ -5,7 +5,7 @@ use Rattle.adx_io.specs.declared.rest.Rest.{Rest}
 use Rattle.adx_io.specs.declared.sink.Sink as sink
 use Rattle.adx_io.specs.declared.source.Source as source
 use Rattle.adx_io.specs.declared.stop.Stop.{Stop}
-use Rattle.archive_lines.specs.Courses.{PutsUpgraded, put_text}
+use Rattle.command_archive.specs.Courses.{PutsUpgraded, put_text}
 use Rattle.bid_record.specs.declared.record.Record.{Record}
 use Rattle.cert_check.specs.Verdicts.{IsBound, IsVerdict}
 use Rattle.cert_check.specs.declared.verdict.Verdict.{Verdict}
@@ -15,13 +15,13 @@ use Rattle.command_check.specs.Documents.{IsDocument}
 use Rattle.command_runs.specs.Documents.{Judging, document}
 use Rattle.command_runs.specs.Meanings.{MayPut}
 use Rattle.command_runs.specs.Runs.{RunsAs}
-use Rattle.command_runs.specs.declared.limits.TheConstants.{DOCUMENT_LIMIT}
+use Rattle.command_runs.specs.Limits.{document_limit}
 use Rattle.command_runs.specs.declared.outcome.Outcome.{Outcome}
 use Rattle.day_archive.specs.Answers.{HasKeeperCause, TellsPut}
 use Rattle.day_archive.specs.declared.keeper.Keeper as keeper
 use Rattle.day_archive.specs.declared.refusal.KeeperRefusal.{KeeperRefusal}
 use Rattle.dual_cert.specs.declared.cert.Cert.{Cert}
-use Rattle.record_rows.specs.Rows.{rows_of}
+use Rattle.command_archive.specs.Rows.{rows_of}
 
 -- What came beside a document. The keeper wasn't asked; or memory was refused, so that it gave no answer; or the rows of
 -- this record were put, behind which this certificate stands, which is accepted with this bound, and the keeper answered so.
@@ -32,6 +32,7 @@ pub data Keeping : Type 0 where
 
 -- What is said of a document. Where the keeper isn't asked, what the check says, and the certificate isn't accepted. Else
 -- the document is this record with this certificate, and what the keeper answered is said.
+-- Example: a document whose certificate isn't accepted leaves the keeper as it was.
 abbrev pub keeps : Keeping → Judging
 keeps unasked rest bytes outcome out = checks rest bytes outcome out × (outcome ≢ Outcome.Done)
 keeps unanswered rest bytes outcome out = ⊥
@@ -65,4 +66,4 @@ LeavesKept k old new (answered rec cert bound answer) ended = LeavesAnswered k o
 
 -- The command ran so over a source, a sink and a keeper, and its exit status tells how it ended.
 abbrev pub KeepsAs : {S K P : Type 0} → source.Ghosts S → sink.Ghosts K → keeper.Ghosts P → S → S → K → K → P → P → ℕ → Type 0
-KeepsAs s k p = RunsAs s k (LeavesKept p) (λ c. document DOCUMENT_LIMIT (keeps c))
+KeepsAs s k p = RunsAs s k (LeavesKept p) (λ c. document document_limit (keeps c))

@@ -2,7 +2,7 @@
 use Rattle.std.specs.Prelude.{◌≡◌, ℕ, List, Option, Result}
 use Rattle.adx_io.specs.Streams.{WhereTold}
 use Rattle.adx_io.specs.declared.stop.Stop.{Stop}
-use Rattle.archive_lines.specs.Courses.{ListsUpgraded, list_text}
+use Rattle.command_archive.specs.Courses.{ListsUpgraded, list_text}
 use Rattle.command_archive.specs.Endings.{LeavesUnanswered, outcome_by}
 use Rattle.command_archive.specs.declared.list.Query.{Query}
 use Rattle.command_runs.specs.Meanings.{MayPut, PutsEnd}

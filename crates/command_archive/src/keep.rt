@@ -6,15 +6,15 @@ ghost use Rattle.command_archive.specs.Endings.{LeavesUnanswered};
 ghost use Rattle.command_archive.specs.Keeps.{KeepsAs};
 ghost use Rattle.command_archive.specs.Puts.{PutsRows};
 
+use crate::file::file_day;
 use crate::outcome::outcome_of;
+use crate::rows::rows_of;
 use adx_io::{Rest, Sink, Source, Stop};
 use adx_units::OutOfMemory;
-use archive_lines::file_day;
 use bid_record::Record;
 use command_check::{Checked, check_document};
 use command_runs::{Judge, Outcome, run_document, status_of};
 use day_archive::Keeper;
-use record_rows::rows_of;
 use std::alloc::Global;
 
 /// The command that checks a document, and keeps its rows where the certificate is accepted. It writes one line: that the

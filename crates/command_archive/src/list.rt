@@ -5,10 +5,11 @@ ghost use Rattle.adx_io.specs.declared.stop.Stop.TheVariants.{WriteFault};
 ghost use Rattle.command_archive.specs.Lists.{LeavesListed, Listing, ListsAs, PutsListed};
 ghost use Rattle.command_runs.specs.Meanings.{MayPut, PutsEnd};
 
+use crate::filing::Filing;
+use crate::listing::list_days;
 use crate::outcome::outcome_of;
 use adx_io::{Sink, Stop, put_all};
 use adx_units::Text;
-use archive_lines::{Filing, list_days};
 use command_runs::{Outcome, status_of};
 use day_archive::Keeper;
 use std::alloc::Global;

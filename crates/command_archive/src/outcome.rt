@@ -2,7 +2,7 @@
 ghost use Rattle.std.specs.Prelude.{◌≡◌};
 ghost use Rattle.command_archive.specs.Endings.{outcome_of as outcome_by};
 
-use archive_lines::Filing;
+use crate::filing::Filing;
 use command_runs::Outcome;
 
 /// How a run ends whose call of the keeper ended so.

@@ -7,7 +7,7 @@ use Rattle.bidder_core.specs.Seen.{BidderState}
 use Rattle.command_runs.specs.Firsts.{LeavesFirst}
 use Rattle.command_runs.specs.Runs.{Runs}
 use Rattle.command_runs.specs.declared.outcome.Outcome.{Outcome}
-use Rattle.connection_runs.specs.Connections.{EndsServing, result_by}
+use Rattle.http_service.specs.ConnectionRuns.{EndsServing, result_by}
 use Rattle.http_connection.specs.declared.conn.ConnEnd.{ConnEnd}
 use Rattle.command_bidder.specs.Bidders.{BidderRuns, MayEnd, bidder_command}
 

@@ -1,1 +1,4 @@
 pub mod Bidders
+mod FirstLines
+mod Returned
+mod Served

@@ -10,12 +10,12 @@ use Rattle.command_runs.specs.Firsts.{EndsHeadless, Heads, by_first}
 use Rattle.command_runs.specs.Meanings.{Meaning}
 use Rattle.command_runs.specs.Runs.{Runs}
 use Rattle.command_runs.specs.declared.first.NoLine.{NoLine}
-use Rattle.command_runs.specs.declared.limits.TheConstants.{INPUT_LIMIT}
+use Rattle.command_runs.specs.Limits.{input_limit}
 use Rattle.command_runs.specs.declared.outcome.Outcome.{Outcome}
-use Rattle.connection_runs.specs.Connections.{EndsServing, connection, most_beyond}
+use Rattle.http_service.specs.ConnectionRuns.{EndsServing, connection, most_beyond}
 use Rattle.http_service.specs.declared.limits.TheConstants.{REQUEST_LIMIT}
-use Rattle.price_lines.specs.PriceLines.{IsPriceLine, RefusesPriceLine}
-use Rattle.refusal_lines.specs.Refusals.{roster_refused_line}
+use Rattle.command_bidder.specs.PriceLines.{IsPriceLine, RefusesPriceLine}
+use Rattle.script_lines.specs.Refusals.{roster_refused_line}
 use Rattle.script_lines.specs.declared.refusal.RosterRefusal.{RosterRefusal}
 
 -- what is written where there is no price line
@@ -32,12 +32,13 @@ price_heads = record {
 }
 
 -- what a bidder means to a connection that begins with it so, and leaves it so
+-- Example: a price line and a bill of it give one reply, 204, and a ledger with that bill.
 abbrev pub serves : BidderState → BidderState → Meaning
 serves bidder now = connection BidderAnswers BidderGivesUp REQUEST_LIMIT most_beyond bidder now
 
 -- what the command means, by the bidder of the first line, if there is one, and what the connection leaves of it
 abbrev pub bidder_command : Option (BidderState × BidderState) → Meaning
-bidder_command = by_first price_heads INPUT_LIMIT (λ bidder allowed now. serves bidder now)
+bidder_command = by_first price_heads input_limit (λ bidder allowed now. serves bidder now)
 
 -- how a run may end, by whether a price line came
 abbrev pub MayEnd : Option (BidderState × BidderState) → Result Outcome Stop → Type 0

@@ -1,15 +1,15 @@
 //! The price line, which is first in an input.
 ghost use Rattle.std.specs.Prelude.{◌≡◌, ◌++◌, IfOk, OnOk, string_bytes};
 ghost use Rattle.command_runs.specs.Firsts.{FindsHead};
-ghost use Rattle.command_runs.specs.declared.limits.TheConstants.{INPUT_LIMIT as input_limit};
+ghost use Rattle.command_runs.specs.Limits.{input_limit};
 ghost use Rattle.command_bidder.specs.Bidders.{lack_line, price_heads};
 
+use crate::fault::PricesFault;
+use crate::line::read_prices;
 use adx_units::OutOfMemory;
 use bidder_core::Bidder;
 use command_runs::NoLine;
-use price_lines::{PricesFault, read_prices};
-use refusal_lines::push_roster_refused;
-use script_lines::RosterRefusal;
+use script_lines::{RosterRefusal, push_roster_refused};
 use std::alloc::Global;
 
 /// The bidder of a whole line, with no notice yet. None where it is refused, and then the answer that says why is written.

@@ -5,7 +5,7 @@ ghost use Rattle.adx_io.specs.Talk.{HasCauses};
 ghost use Rattle.adx_io.specs.TalkState.{place_of, state_of};
 ghost use Rattle.adx_io.specs.declared.line_buffer.TheConstants.{CHUNK};
 ghost use Rattle.command_runs.specs.Talks.{TalkWrote};
-ghost use Rattle.connection_runs.specs.Connections.{EndsServing};
+ghost use Rattle.http_service.specs.ConnectionRuns.{EndsServing};
 ghost use Rattle.http_connection.specs.declared.conn.ConnEnd.TheVariants.{ReadFault as ConnReadFault};
 ghost use Rattle.http_service.specs.Connections.{HasCauses as ConnCauses};
 ghost use Rattle.command_bidder.specs.Bidders.{BidderRuns, serves};
@@ -17,8 +17,8 @@ use adx_units::OutOfMemory;
 use bidder_core::Bidder;
 use bidder_http::serve_bidder;
 use command_runs::{Led, NoLine, Outcome, run_led};
-use connection_runs::result_of;
 use http_connection::ConnEnd;
+use http_service::result_of;
 use std::alloc::Global;
 use std::snapshot::Snapshot;
 
@@ -68,7 +68,7 @@ struct Bidding;
 impl Led for Bidding {
     ghost use Rattle.std.specs.Prelude.{◌≡◌};
     ghost use Rattle.bidder_core.specs.Seen.{BidderState};
-    ghost use Rattle.connection_runs.specs.Connections.{EndsServing};
+    ghost use Rattle.http_service.specs.ConnectionRuns.{EndsServing};
     ghost use Rattle.command_bidder.specs.Bidders.{price_heads, serves};
 
     type Head = Bidder;

@@ -11,12 +11,12 @@ use Rattle.command_runs.specs.Documents.{IsJudged, document}
 use Rattle.command_runs.proofs.Documents.{stopped}
 use Rattle.command_runs.specs.Meanings.{Wrote}
 use Rattle.command_runs.specs.Statuses.{status_by}
-use Rattle.command_runs.specs.declared.limits.TheConstants.{DOCUMENT_LIMIT}
+use Rattle.command_runs.specs.Limits.{document_limit}
 use Rattle.command_runs.specs.declared.outcome.Outcome.{Outcome}
 use Rattle.command_runs.proofs.Told.{told_map, told_start}
 use Rattle.dual_cert.specs.declared.cert.Cert.{Cert}
-use Rattle.hindsight.specs.Assignments.{earned}
-use Rattle.command_check.specs.Answers.{verdict_line}
+use Rattle.dual_cert.specs.Assignments.{earned}
+use Rattle.command_check.specs.Answers.{accepted_line, verdict_line}
 use Rattle.command_check.specs.Checks.{checks, outcome_of}
 use Rattle.command_check.specs.Documents.{IsDocument}
 use Rattle.command_check.specs.Runs.{AcceptsInput, ChecksInput, HasJudged, IsAccepted}
@@ -113,11 +113,10 @@ accepted_by : (verdict : Verdict) (rec : Record) (cert : Cert) (input left out :
 accepted_by (Verdict.Accepted bound) rec cert input left out held held_now ends rules small written is all took = record {
   rec = rec;
   cert = cert;
-  document = is;
+  spelled = is.0;
   all_read = all;
-  certificate = rules.0;
   bound = λ picks. subst (λ (b : ℕ). earned picks rec ≤ b) rules.1 (small picks);
-  took = subst (Took held held_now) (written ∙ ap (λ (b : ℕ). verdict_line (Verdict.Accepted b)) rules.1) took;
+  took = subst (Took held held_now) (written ∙ ap accepted_line rules.1) took;
 }
 accepted_by Verdict.Shape rec cert input left out held held_now ends rules small written is all took = absurd (cc ends)
 accepted_by (Verdict.Alpha campaign) rec cert input left out held held_now ends rules small written is all took = absurd (cc ends)
@@ -139,8 +138,8 @@ accepted_where limit input left held held_now (taken, out, cut, ends, took) = ac
 pub accepted_input : (tape tape_now : Option Tape) (held held_now : Option (List ℕ)) (status : ℕ) → ChecksInput tape tape_now held held_now status → status ≡ 0 → AcceptsInput tape tape_now held held_now
 accepted_input tape tape_now held held_now status checked is =
     let done : checked.ended ≡ Ok Outcome.Done = is_done checked.ended (sym checked.told ∙ is) in
-    told_map tape tape_now (λ before now. Wrote (document DOCUMENT_LIMIT checks) before.left now.left held held_now checked.ended) (λ before now. IsAccepted before.left now.left held held_now) checked.wrote
-    (λ before now wrote. accepted_where DOCUMENT_LIMIT before.left now.left held held_now (subst (Wrote (document DOCUMENT_LIMIT checks) before.left now.left held held_now) done wrote))
+    told_map tape tape_now (λ before now. Wrote (document document_limit checks) before.left now.left held held_now checked.ended) (λ before now. IsAccepted before.left now.left held held_now) checked.wrote
+    (λ before now wrote. accepted_where document_limit before.left now.left held held_now (subst (Wrote (document document_limit checks) before.left now.left held held_now) done wrote))
 
 -- memory was refused before anything was read
 pub unbegun : (tape : Option Tape) (held : Option (List ℕ)) → ChecksInput tape tape held held 12
@@ -148,6 +147,6 @@ unbegun tape held = record {
   ended = Err Stop.OutOfMemory;
   told = refl;
   judged = tt;
-  wrote = told_start tape (λ before now. Wrote (document DOCUMENT_LIMIT checks) before.left now.left held held (Err Stop.OutOfMemory))
-      (λ t. stopped DOCUMENT_LIMIT checks held held Stop.OutOfMemory t.left [] t.left refl (omega arith) refl);
+  wrote = told_start tape (λ before now. Wrote (document document_limit checks) before.left now.left held held (Err Stop.OutOfMemory))
+      (λ t. stopped document_limit checks held held Stop.OutOfMemory t.left [] t.left refl (omega arith) refl);
 }

@@ -10,8 +10,8 @@ use Rattle.cert_check.specs.Verdicts.{IsAboveAt, IsBrokenAt, IsUncoveredAt, IsVe
 use Rattle.cert_check.specs.declared.verdict.Verdict.{Verdict}
 use Rattle.cert_check.proofs.Verdicts.{certificate_accepted}
 use Rattle.dual_cert.specs.declared.cert.Cert.{Cert}
-use Rattle.hindsight.specs.Assignments.{Impression, impressions, no_charge}
-use Rattle.hindsight.specs.Certificates.{AreCovered, Covers}
+use Rattle.dual_cert.specs.Assignments.{Impression, impressions, no_charge}
+use Rattle.dual_cert.specs.Certificates.{AreCovered, Covers}
 
 one_above : (alphas : List ℕ) (i j : ℕ) → IsAboveAt alphas i → IsAboveAt alphas j → i ≡ j
 one_above alphas i j a b = elim (cases_lt i j) [

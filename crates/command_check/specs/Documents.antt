@@ -27,6 +27,7 @@ abbrev pub CertFailsAt : ℕ → Record → List ℕ → Type 0
 CertFailsAt n rec rest = (m : ℕ) × RefusesCert rest (CertFault.Line m) × (n ≡ line_count rec + m)
 
 -- the bytes are no document, and this is their first fault; that they are too many is none of theirs
+-- Example: a record of seven lines whose certificate fails in its second fails in line 9.
 abbrev pub IsFault : List ℕ → DocumentFault → Type 0
 IsFault bytes DocumentFault.Cut = RefusesRecord bytes RecordFault.Cut ⊎ BehindRecord (λ rec rest. RefusesCert rest CertFault.Cut) bytes
 IsFault bytes DocumentFault.Long = ⊥

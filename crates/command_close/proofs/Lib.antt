@@ -1,3 +1,4 @@
 pub mod Steps
 pub mod OneDocument
 pub mod OneGuarantee
+pub mod Checked

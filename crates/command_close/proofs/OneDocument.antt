@@ -11,8 +11,8 @@ use Rattle.day_close.proofs.OneClosing.{same_certs}
 use Rattle.dual_cert.specs.Lines.{document as cert_document}
 use Rattle.dual_cert.specs.declared.cert.Cert.{Cert}
 use Rattle.formats.specs.Parts.{ended}
-use Rattle.hindsight.specs.Assignments.{impressions_of}
-use Rattle.hindsight.specs.Certificates.{bound_by}
+use Rattle.dual_cert.specs.Assignments.{impressions_of}
+use Rattle.dual_cert.specs.Certificates.{bound_by}
 use Rattle.served_record.proofs.OneRecord.{same_records}
 use Rattle.command_close.specs.ClosedDays.{HasOneDocument}
 

@@ -1,5 +1,5 @@
 -- A history has one line of its guarantee: its record is one, and so are the numbers.
-use Rattle.std.proofs.Common.{◌≡◌, ◌∙◌, ◌≤◌, ℕ, ◌&&◌, Bool, IfOk, IsTrue, List, Result, Ok, Err, length, sym, ap, ap₂}
+use Rattle.std.proofs.Common.{◌≡◌, ◌∙◌, ◌≤◌, ℕ, ◌&&◌, Bool, IfOk, IsTrue, List, Result, Ok, Err, length, sym, ap, ap₂, subst}
 use Rattle.adx_units.specs.declared.memory.OutOfMemory.{OutOfMemory}
 use Rattle.std.specs.List.{enumerate_from, list_all, sum_by}
 use Rattle.bid_record.specs.Refusals.{AreSame}
@@ -15,8 +15,11 @@ use Rattle.ratio_law.specs.SmallDays.{IsBoundOf, committed_of, greatest_in, grea
 use Rattle.ratio_law.specs.declared.sides.Ratio.{Ratio}
 use Rattle.deal_floor.specs.declared.roster.Roster.{Roster}
 use Rattle.day_rules.specs.declared.entry.Entry.{Entry}
+use Rattle.dual_cert.specs.Assignments.{Assignment}
 use Rattle.ratio_law.proofs.Guarantee.{undisturbed_of}
-use Rattle.served_record.specs.Served.{IsRecordOf}
+use Rattle.ratio_law.proofs.Hindsight.{bounded as record_bounded, earns_within}
+use Rattle.served_record.specs.Served.{IsRecordOf, earned_in}
+use Rattle.served_record.proofs.Whole.{earned_same}
 use Rattle.served_record.proofs.OneRecord.{same_records}
 use Rattle.command_close.specs.Guarantees.{HasNumbers, HasOneGuarantee}
 use Rattle.command_close.proofs.OneDocument.{same_closing}
@@ -46,6 +49,10 @@ same_bound : (d e : Record) (m n : ℕ) → AreSame d e → IsBoundOf d m → Is
 same_bound d e m n same a b =
     a.is_its ∙ ap (λ (c : Cert). c.bound) (same_certs d a.cert b.cert a.closing (same_closing d e b.cert same b.closing)) ∙ sym b.is_its
 
+-- no assignment of the history's impressions earns more than the bound
+bounded : (r : Roster) (history : List Entry) (day : Record) (bound : ℕ) → IsRecordOf r.day r.campaigns history day → IsBoundOf day bound → (picks : Assignment) → earned_in picks r.campaigns history ≤ bound
+bounded r history day bound served b picks = subst (λ (n : ℕ). n ≤ bound) (sym (earned_same r.day r.campaigns history day picks served)) (record_bounded day bound b picks)
+
 -- the numbers that were found of a history's record are the history's
 pub numbers_by : (r : Roster) (history : List Entry) (day : Record) → IsRecordOf r.day r.campaigns history day → (IsTrue (is_undisturbed day) → IsChosenByRule day)
     → (result : Result Ratio OutOfMemory) → IfOk result (λ x. x.small ≡ is_small day) → IfOk result (λ x. x.committed ≡ committed_of day) → IfOk result (λ x. x.greatest ≡ greatest_of day)
@@ -62,6 +69,10 @@ numbers_by r history day served chosen (Ok x) small committed greatest imps boun
   left = left;
   right = right;
   holds = λ is. guarantee (chosen (undisturbed_of day x.small small is)) is;
+  hindsight = bounded r history day x.bound served bound;
+  guarantee = λ is picks.
+      subst (λ (n : ℕ). left_of n ≤ x.right) (sym (earned_same r.day r.campaigns history day picks served))
+      (earns_within day x.bound x.left x.right bound left (guarantee (chosen (undisturbed_of day x.small small is)) is) picks);
 }
 numbers_by r history day served chosen (Err refused) small committed greatest imps bound left right guarantee = tt
 

@@ -12,18 +12,18 @@ use Rattle.command_runs.specs.Meanings.{Wrote}
 use Rattle.command_runs.specs.declared.outcome.Outcome.{Outcome}
 use Rattle.deal_floor.specs.declared.roster.Roster.{Roster}
 use Rattle.desk_calls.specs.Steps.{AreSteps, Step, alone}
-use Rattle.desk_runs.specs.Meanings.{Told}
-use Rattle.desk_runs.specs.OnDisk.{history_after}
-use Rattle.desk_runs.specs.Records.{RaisesAmong, RunsOn}
-use Rattle.desk_runs.specs.Told.{told_of}
-use Rattle.desk_runs.proofs.RunsCalls.{runs_books}
-use Rattle.exchange_floor.specs.Floors.{IsMomentOf, works}
+use Rattle.desk_calls.specs.Meanings.{Told}
+use Rattle.desk_calls.specs.OnDisk.{history_after}
+use Rattle.desk_calls.specs.Records.{RaisesAmong, RunsOn}
+use Rattle.desk_calls.specs.Told.{told_of}
+use Rattle.desk_calls.proofs.RunsCalls.{runs_books}
+use Rattle.exchange_messages.specs.Floors.{IsMomentOf, works}
 use Rattle.exchange_http.specs.Serving.{ServesConnection, Talked}
 use Rattle.exchange_messages.specs.Courses.{Course}
 use Rattle.fan_out.specs.declared.lane.Lane.{Lane}
 use Rattle.http_connection.specs.declared.conn.ConnEnd.{ConnEnd}
-use Rattle.roster_links.specs.RosterLinks.{AreRosterLanes}
-use Rattle.roster_links.specs.declared.link.RosterLink.{RosterLink}
+use Rattle.command_conn.specs.RosterLinks.{AreRosterLanes}
+use Rattle.command_conn.specs.declared.link.RosterLink.{RosterLink}
 use Rattle.command_conn.specs.Exchanges.{EndsServed, Served, serving}
 use Rattle.command_conn.specs.Steps.{EndsConn, ServesDesk}
 use Rattle.command_conn.proofs.Disks.{serves_lent}

@@ -7,9 +7,9 @@ use Rattle.command_day.proofs.DiskCounts.{disk_later as course_later, disk_rises
 use Rattle.command_runs.specs.Firsts.{EndsHeadless, LeavesFirst}
 use Rattle.command_runs.specs.declared.outcome.Outcome.{Outcome}
 use Rattle.deal_floor.specs.declared.roster.Roster.{Roster}
-use Rattle.desk_runs.specs.Courses.{given_up}
-use Rattle.desk_runs.specs.Meanings.{Told}
-use Rattle.desk_runs.specs.Told.{told_of}
+use Rattle.desk_calls.specs.Courses.{given_up}
+use Rattle.desk_calls.specs.Meanings.{Told}
+use Rattle.desk_calls.specs.Told.{told_of}
 use Rattle.command_conn.specs.Exchanges.{Day, EndsServed, LeavesDay, was_given_up, was_served, was_unbegun}
 use Rattle.command_conn.proofs.Disks.{counts_later}
 

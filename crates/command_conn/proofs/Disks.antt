@@ -14,12 +14,12 @@ use Rattle.day_journal.proofs.Moments.{joined}
 use Rattle.day_rules.specs.declared.entry.Entry.{Entry}
 use Rattle.day_rules.specs.Runs.{AreTurns}
 use Rattle.day_rules.specs.Terms.{Terms}
-use Rattle.desk_runs.proofs.RunsCounts.{among_later}
-use Rattle.desk_runs.specs.Records.{CountsAmong, MayBeLeftBy, IsLeftInDoubt, RaisesAmong, RunsOn, StandsInRunFrom, count_after, raised}
-use Rattle.desk_runs.specs.Calls.{HasBooks}
-use Rattle.desk_runs.specs.Courses.{HasNoDiskFault}
-use Rattle.desk_runs.specs.Meanings.{Told, turns_of}
-use Rattle.desk_runs.specs.OnDisk.{FullEach, history_after}
+use Rattle.desk_calls.proofs.RunsCounts.{among_later}
+use Rattle.desk_calls.specs.Records.{CountsAmong, MayBeLeftBy, IsLeftInDoubt, RaisesAmong, RunsOn, StandsInRunFrom, count_after, raised}
+use Rattle.day_rules.specs.RunBooks.{HasBooks}
+use Rattle.desk_calls.specs.Courses.{HasNoDiskFault}
+use Rattle.desk_calls.specs.Meanings.{Told, turns_of}
+use Rattle.desk_calls.specs.OnDisk.{FullEach, history_after}
 use Rattle.command_conn.specs.OnDisk.{KeepsHistory, ServesTogether, StandsAmong}
 
 -- no record is in doubt behind a run, or one of the run, where none was before it

@@ -10,13 +10,13 @@ use Rattle.adx_desk.specs.declared.fault.DeskFault.{DeskFault}
 use Rattle.command_runs.specs.Meanings.{Wrote}
 use Rattle.command_runs.specs.declared.outcome.Outcome.{Outcome}
 use Rattle.command_runs.proofs.Told.{told_ahead, told_source}
-use Rattle.connection_runs.specs.Connections.{BreaksTogether, IsOwnEnd, most_beyond}
-use Rattle.connection_runs.proofs.Ended.{come, own_wrote, refused_wrote, refusing_wrote, unread_wrote}
+use Rattle.http_service.specs.ConnectionRuns.{BreaksTogether, IsOwnEnd, most_beyond}
+use Rattle.http_service.proofs.Ended.{come, own_wrote, refused_wrote, refusing_wrote, unread_wrote}
 use Rattle.deal_floor.specs.declared.roster.Roster.{Roster}
-use Rattle.desk_runs.specs.Meanings.{Told}
-use Rattle.desk_runs.specs.Records.{RaisesAmong}
-use Rattle.desk_runs.specs.Told.{told_of}
-use Rattle.exchange_floor.specs.Floors.{IsMomentOf}
+use Rattle.desk_calls.specs.Meanings.{Told}
+use Rattle.desk_calls.specs.Records.{RaisesAmong}
+use Rattle.desk_calls.specs.Told.{told_of}
+use Rattle.exchange_messages.specs.Floors.{IsMomentOf}
 use Rattle.exchange_http.specs.Serving.{EndsWith, FailsWaiting}
 use Rattle.exchange_messages.specs.Courses.{AnswersOn, Course, GivesUpOn, begun}
 use Rattle.fan_out.specs.Lanes.{Outcome as LaneOutcome}
@@ -26,7 +26,7 @@ use Rattle.http_connection.specs.State.{room_of}
 use Rattle.http_connection.specs.declared.conn.ConnEnd.{ConnEnd}
 use Rattle.http_service.specs.Connections.{Answering, GivingUp, HasCauses as ConnCauses, EndsWith as EndsService}
 use Rattle.http_service.specs.declared.limits.TheConstants.{REQUEST_LIMIT}
-use Rattle.notice_batches.specs.declared.batch.TheConstants.{BATCH_LIMIT}
+use Rattle.day_machine.specs.declared.batch.TheConstants.{BATCH_LIMIT}
 use Rattle.command_conn.specs.Exchanges.{EndsBy, EndsServed, serving}
 use Rattle.command_conn.specs.Steps.{EndsConn, EndsReadOut}
 use Rattle.command_conn.proofs.Disks.{none_among}

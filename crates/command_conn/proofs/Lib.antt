@@ -4,3 +4,4 @@ pub mod Connected
 pub mod Runs
 pub mod DiskCounts
 pub mod OneOutput
+pub mod LanesTo

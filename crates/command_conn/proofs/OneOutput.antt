@@ -2,18 +2,18 @@
 use Rattle.std.proofs.Common.{◌≡◌, ◌<◌, ℕ, List, ◌++◌, Option, Some, None, refl, sym, ap, ◌∙◌, subst, arith}
 use Rattle.command_day.specs.Days.{IsWhole}
 use Rattle.command_day.proofs.OneHead.{Refused, Told as HeadTold, refused_as, refused_same, told_as, told_same}
-use Rattle.command_runs.specs.declared.limits.TheConstants.{INPUT_LIMIT, LINE_LIMIT}
+use Rattle.command_runs.specs.Limits.{input_limit, line_limit}
 use Rattle.command_runs.specs.declared.outcome.Outcome.{Outcome}
-use Rattle.connection_runs.specs.Connections.{most_beyond}
-use Rattle.connection_runs.proofs.OneConnection.{one_output}
+use Rattle.http_service.specs.ConnectionRuns.{most_beyond}
+use Rattle.http_service.proofs.OneConnection.{one_output}
 use Rattle.deal_floor.specs.declared.roster.Roster.{Roster}
-use Rattle.exchange_floor.specs.Floors.{IsMomentOf}
+use Rattle.exchange_messages.specs.Floors.{IsMomentOf}
 use Rattle.exchange_http.proofs.OneReply.{one_reply}
 use Rattle.exchange_messages.specs.Courses.{AnswersOn, GivesUpOn, begun}
 use Rattle.history_runs.specs.Rosters.{roster_heads}
 use Rattle.http_service.specs.declared.limits.TheConstants.{REQUEST_LIMIT}
-use Rattle.roster_links.specs.RosterLinks.{WorksByTexts}
-use Rattle.script_day.specs.Output.{roster_refused_line, unopened_line}
+use Rattle.command_conn.specs.RosterLinks.{WorksByTexts}
+use Rattle.history_runs.specs.Output.{roster_refused_line, unopened_line}
 use Rattle.script_lines.specs.Rosters.{IsRosterLine}
 use Rattle.script_lines.proofs.OneMeaning.{one_refusal, one_roster, roster_not_refused}
 use Rattle.command_conn.specs.Exchanges.{Day, conn_command, means, was_given_up, was_served, was_unbegun}
@@ -26,14 +26,14 @@ one_refusal_line line out whole (why, refuses, said) (why', refuses', said') = s
 not_both : (line : List ℕ) (r : Roster) (out : List ℕ) → IsRosterLine line r → roster_heads.refuses line out → ⊥
 not_both line r out tells (why, refuses, said) = roster_not_refused line r why tells refuses
 
-longer : LINE_LIMIT < INPUT_LIMIT
+longer : line_limit < input_limit
 longer = omega arith
 
 abbrev FirstRefused : List ℕ → List ℕ → Type 0
-FirstRefused = Refused roster_heads INPUT_LIMIT longer one_roster one_refusal_line not_both
+FirstRefused = Refused roster_heads input_limit longer one_roster one_refusal_line not_both
 
 abbrev FirstTold : List ℕ → Roster → List ℕ → List ℕ → Type 0
-FirstTold = HeadTold roster_heads INPUT_LIMIT longer one_roster one_refusal_line not_both
+FirstTold = HeadTold roster_heads input_limit longer one_roster one_refusal_line not_both
 
 -- the run ended of its own on the rest of the input, which this was taken of
 abbrev Ended : Roster → Day → List ℕ → List ℕ → Type 0
@@ -46,9 +46,9 @@ Whole (Some (r, day)) input out = (line rest : List ℕ) × FirstTold input r li
 
 whole_of : (course : Option (Roster × Day)) (input out : List ℕ) → IsWhole (conn_command course) input out → Whole course input out
 whole_of None input out (outcome, taken, left, is, (ends, e)) =
-    subst (λ i. FirstRefused i out) (sym is) (refused_as roster_heads INPUT_LIMIT longer one_roster one_refusal_line not_both taken left out e)
+    subst (λ i. FirstRefused i out) (sym is) (refused_as roster_heads input_limit longer one_roster one_refusal_line not_both taken left out e)
 whole_of (Some (r, day)) input out (outcome, taken, left, is, e) =
-    let t = told_as roster_heads INPUT_LIMIT longer one_roster one_refusal_line not_both r (λ allowed more. (means r day).ends outcome more left out) taken left e in
+    let t = told_as roster_heads input_limit longer one_roster one_refusal_line not_both r (λ allowed more. (means r day).ends outcome more left out) taken left e in
     (t.0, t.1 ++ left, subst (λ i. FirstTold i r t.0 (t.1 ++ left)) (sym is) t.2, (outcome, t.1, left, refl, t.3))
 
 -- behind one roster's line
@@ -71,11 +71,11 @@ one_behind r (was_served start lanes course) (was_served start' lanes' course') 
 -- the rest of one first line is that of the other
 moved : (input whole : List ℕ) (r s : Roster) (line line' rest rest' : List ℕ) (day : Day) → FirstTold input r line rest → FirstTold input s line' rest' → Ended s day rest' whole → Ended r day rest whole
 moved input whole r s line line' rest rest' day a b e =
-    let same = told_same roster_heads INPUT_LIMIT longer one_roster one_refusal_line not_both input r s line line' rest rest' a b in
+    let same = told_same roster_heads input_limit longer one_roster one_refusal_line not_both input r s line line' rest rest' a b in
     subst (λ (t : Roster). Ended t day rest whole) (sym same.0) (subst (λ (i : List ℕ). Ended s day i whole) (sym same.2) e)
 
 one_whole : (course other : Option (Roster × Day)) (input out whole : List ℕ) → AreAlike course other → Whole course input out → Whole other input whole → out ≡ whole
-one_whole None None input out whole alike a b = refused_same roster_heads INPUT_LIMIT longer one_roster one_refusal_line not_both input out whole a b
+one_whole None None input out whole alike a b = refused_same roster_heads input_limit longer one_roster one_refusal_line not_both input out whole a b
 one_whole None (Some other) input out whole alike a b = absurd alike
 one_whole (Some course) None input out whole alike a b = absurd alike
 one_whole (Some (r, day)) (Some (s, other)) input out whole alike (line, rest, first, e) (line', rest', also, e') =

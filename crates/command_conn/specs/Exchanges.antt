@@ -8,26 +8,26 @@ use Rattle.adx_io.specs.declared.disk.Disk as disk
 use Rattle.adx_io.specs.declared.stop.Stop.{Stop}
 use Rattle.command_runs.specs.Firsts.{by_first}
 use Rattle.command_runs.specs.Meanings.{Meaning}
-use Rattle.command_runs.specs.declared.limits.TheConstants.{INPUT_LIMIT}
+use Rattle.command_runs.specs.Limits.{input_limit}
 use Rattle.command_runs.specs.declared.outcome.Outcome.{Outcome}
-use Rattle.connection_runs.specs.Connections.{BreaksTogether, connection_by, most_beyond}
+use Rattle.http_service.specs.ConnectionRuns.{BreaksTogether, connection_by, most_beyond}
 use Rattle.day_rules.specs.declared.entry.Entry.{Entry}
 use Rattle.deal_floor.specs.declared.roster.Roster.{Roster}
 use Rattle.desk_calls.specs.Steps.{AreSteps, alone}
-use Rattle.desk_runs.specs.Courses.{HasNoDiskFault, given_up}
-use Rattle.desk_runs.specs.Meanings.{Told}
-use Rattle.desk_runs.specs.OnDisk.{CourseOn, history_after}
-use Rattle.desk_runs.specs.Told.{told_of}
-use Rattle.exchange_floor.specs.Floors.{IsMomentOf}
+use Rattle.desk_calls.specs.Courses.{HasNoDiskFault, given_up}
+use Rattle.desk_calls.specs.Meanings.{Told}
+use Rattle.desk_calls.specs.OnDisk.{CourseOn, history_after}
+use Rattle.desk_calls.specs.Told.{told_of}
+use Rattle.exchange_messages.specs.Floors.{IsMomentOf}
 use Rattle.exchange_messages.specs.Courses.{AnswersOn, Course, GivesUpOn, begun}
 use Rattle.fan_out.specs.Lanes.{Outcome as LaneOutcome}
 use Rattle.fan_out.specs.declared.lane.Lane.{Lane}
 use Rattle.history_runs.specs.Rosters.{roster_heads}
 use Rattle.history_runs.specs.Unopened.{GivesUpBy, not_opened}
 use Rattle.http_service.specs.declared.limits.TheConstants.{REQUEST_LIMIT}
-use Rattle.notice_batches.specs.declared.batch.TheConstants.{BATCH_LIMIT}
-use Rattle.roster_links.specs.RosterLinks.{AreRosterLanes, WorksByTexts}
-use Rattle.roster_links.specs.declared.link.RosterLink.{RosterLink}
+use Rattle.day_machine.specs.declared.batch.TheConstants.{BATCH_LIMIT}
+use Rattle.command_conn.specs.RosterLinks.{AreRosterLanes, WorksByTexts}
+use Rattle.command_conn.specs.declared.link.RosterLink.{RosterLink}
 use Rattle.command_conn.specs.OnDisk.{ServesTogether}
 
 -- What came of a roster's day: memory was refused before it was opened; opening it gave up for a cause; or it was served from
@@ -47,6 +47,8 @@ EndsBy told other = ⊥
 -- What the connection of a roster's day means, over lanes that work so. The roster's moment is that of every message. Where
 -- the sink failed within the replies, it took all of them but those to the last messages, which wait together: one record of
 -- the journal, of up to 32 notices, or fewer messages.
+-- Example: a head that is refused behind 1,000 notices: the sink took the replies to all 1,000 before it fails
+-- within the refusal's.
 abbrev pub serving : {L : Type 0} → (List ℕ → List ℕ → Lane L → Lane L → LaneOutcome → Type 0) → Roster → List (Lane L) → Course L → Meaning
 serving Works r lanes course =
     connection_by (AnswersOn Works (IsMomentOf (Some r.now)) r) (GivesUpOn Works (IsMomentOf (Some r.now)) r) REQUEST_LIMIT most_beyond
@@ -62,10 +64,11 @@ means r (was_served start lanes course) = serving WorksByTexts r lanes course
 
 -- what the command means, by the roster of the first line, if there is one, and what came of its day
 abbrev pub conn_command : Option (Roster × Day) → Meaning
-conn_command = by_first roster_heads INPUT_LIMIT (λ r allowed day. means r day)
+conn_command = by_first roster_heads input_limit (λ r allowed day. means r day)
 
 -- How a run ends whose day was served, by its calls and the disk's count: done, where the disk's fault gave up no call and
 -- the count stayed; by the disk, where the count rose; or stopped.
+-- Example: a bill that the disk's fault gave up and a connection that closed give the status 6.
 abbrev pub EndsServed : List Told → ℕ → ℕ → Result Outcome Stop → Type 0
 EndsServed told before now (Ok Outcome.Done) = HasNoDiskFault told × (now ≡ before)
 EndsServed told before now (Ok Outcome.DiskFault) = Rises before now

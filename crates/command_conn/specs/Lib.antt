@@ -3,3 +3,4 @@ pub mod Exchanges
 pub mod Runs
 pub mod Laws
 pub mod Steps
+pub mod RosterLinks

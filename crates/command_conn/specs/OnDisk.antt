@@ -5,10 +5,10 @@ use Rattle.adx_desk.specs.Histories.{DeskTerms, IsHistoryOf, WithOrWithout}
 use Rattle.adx_desk.specs.Openings.{StandsAsRead}
 use Rattle.day_rules.specs.declared.entry.Entry.{Entry}
 use Rattle.day_rules.specs.Runs.{AreTurns}
-use Rattle.desk_runs.specs.Records.{CountsAmong, IsLeftInDoubt, StandsInRunFrom}
-use Rattle.desk_runs.specs.Calls.{HasBooks}
-use Rattle.desk_runs.specs.Meanings.{Told, turns_of}
-use Rattle.desk_runs.specs.OnDisk.{FullEach, history_after}
+use Rattle.desk_calls.specs.Records.{CountsAmong, IsLeftInDoubt, StandsInRunFrom}
+use Rattle.day_rules.specs.RunBooks.{HasBooks}
+use Rattle.desk_calls.specs.Meanings.{Told, turns_of}
+use Rattle.desk_calls.specs.OnDisk.{FullEach, history_after}
 
 -- Behind these calls the disk keeps their history: each image stands for it, or for it and one record in doubt, of
 -- entries whose calls a fault of the disk gave up.

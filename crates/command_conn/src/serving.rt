@@ -10,23 +10,23 @@ ghost use Rattle.command_conn.specs.Runs.{ConnRuns};
 ghost use Rattle.command_conn.specs.Steps.{EndsConn, ServesDesk};
 ghost use Rattle.command_runs.specs.Talks.{TalkWrote};
 ghost use Rattle.command_runs.specs.declared.outcome.Outcome.TheVariants.{Done, DiskFault as FaultOfDisk};
-ghost use Rattle.exchange_floor.specs.Floors.{AreLanes, IsMomentOf};
+ghost use Rattle.exchange_messages.specs.Floors.{AreLanes, IsMomentOf};
 ghost use Rattle.exchange_http.specs.Serving.{ServesConnection, talked};
 ghost use Rattle.http_connection.specs.declared.conn.ConnEnd.TheVariants.{ReadFault as ConnReadFault};
 ghost use Rattle.http_service.specs.Connections.{HasCauses as ConnCauses};
 
+use crate::lanes::roster_lanes;
 use adx_desk::Desk;
 use adx_io::{Disk, LineBuffer, Lines, Sink, Source, Stop, Talk};
 use adx_links::Link;
 use adx_units::OutOfMemory;
 use command_runs::{Led, NoLine, Outcome, run_led};
 use deal_floor::Roster;
-use exchange_floor::FixedClock;
 use exchange_http::serve_connection;
+use exchange_messages::FixedClock;
 use fan_out::Lane;
 use history_runs::{push_roster_lack, roster_of, tell_unopened};
 use http_connection::ConnEnd;
-use roster_links::roster_lanes;
 use std::alloc::Global;
 use std::snapshot::Snapshot;
 

@@ -1,10 +1,10 @@
 -- The refusal of a last piece: none without bytes, a cut one, and a long one.
 use Rattle.std.proofs.Common.{◌≡◌, ◌<◌, ◌≤◌, ℕ, List, ◌++◌, length}
-use Rattle.refusal_lines.specs.Refusals.{refusal_line}
-use Rattle.script_day.specs.Script.{cut_line}
-use Rattle.script_day.specs.declared.limits.TheConstants.{LINE_LIMIT}
+use Rattle.script_lines.specs.Refusals.{refusal_line}
+use Rattle.history_runs.specs.Script.{cut_line}
+use Rattle.history_runs.specs.declared.limits.TheConstants.{LINE_LIMIT}
 use Rattle.script_lines.specs.declared.refusal.Refusal.{Refusal}
-use Rattle.script_day.proofs.AnswerLaws.{cut_long as long_cut, cut_none as none_cut, cut_short as short_cut, dropped_line as dropped, kept_line as kept_so, kept_short as short_kept, line_short as short_line}
+use Rattle.history_runs.proofs.AnswerLaws.{cut_long as long_cut, cut_none as none_cut, cut_short as short_cut, dropped_line as dropped, kept_line as kept_so, kept_short as short_kept, line_short as short_line}
 use Rattle.adx_io.specs.Lines.{Keeps}
 use Rattle.std.proofs.Common.{Bool, true, false}
 

@@ -11,20 +11,20 @@ use Rattle.adx_io.specs.declared.stop.Stop.{Stop}
 use Rattle.adx_io.specs.declared.talk.Next.{Next}
 use Rattle.command_runs.specs.Meanings.{PutsEnd}
 use Rattle.command_runs.specs.Scripts.{PutsClosing}
-use Rattle.command_runs.specs.declared.limits.TheConstants.{LINE_LIMIT}
+use Rattle.command_runs.specs.Limits.{line_limit}
 use Rattle.command_runs.specs.declared.outcome.Outcome.{Outcome}
 use Rattle.command_runs.proofs.Answered.{RunsLines, lines_begin, lines_closed, lines_cut, lines_go_on, lines_past, lines_stopped}
 use Rattle.day_rules.specs.declared.entry.Entry.{Entry}
 use Rattle.deal_floor.specs.declared.roster.Roster.{Roster}
-use Rattle.desk_runs.specs.Answering.{DeskRuns, ServesLine}
-use Rattle.desk_runs.specs.Courses.{HasDiskFault, HasNoDiskFault, one_more}
-use Rattle.desk_runs.specs.Meanings.{IsLine, Told}
-use Rattle.desk_runs.specs.OnDisk.{history_after}
-use Rattle.desk_runs.proofs.DeskRuns.{desk_goes_on, run_ends, run_ends_at}
-use Rattle.refusal_lines.specs.Refusals.{toolong_line}
-use Rattle.script_day.specs.Clauses.{LineAnswered}
-use Rattle.script_day.specs.Output.{writing}
-use Rattle.script_day.specs.Script.{Means, closing, terms_by}
+use Rattle.desk_calls.specs.Answering.{DeskRuns, ServesLine}
+use Rattle.desk_calls.specs.Courses.{HasDiskFault, HasNoDiskFault, one_more}
+use Rattle.desk_calls.specs.Meanings.{IsLine, Told}
+use Rattle.desk_calls.specs.OnDisk.{history_after}
+use Rattle.desk_calls.proofs.DeskRuns.{desk_goes_on, run_ends, run_ends_at}
+use Rattle.script_lines.specs.Refusals.{toolong_line}
+use Rattle.history_runs.specs.Clauses.{LineAnswered}
+use Rattle.history_runs.specs.Output.{writing}
+use Rattle.history_runs.specs.Script.{Means, closing, terms_by}
 use Rattle.script_lines.specs.Meanings.{calls}
 use Rattle.command_day.specs.Days.{EndsBy, EndsServed, MayBeCall, answering}
 use Rattle.command_day.specs.Steps.{IsEndOf, LinesRan, PutsLine, PutsClosing as DayCloses}
@@ -93,21 +93,21 @@ module _ {D : Type 0} (d : disks.Ghosts D) (r : Roster) (start : List Entry) (di
 
   module _ (before mid : TalkState) (number : ℕ) (desk : OnDisk D) (run : Running before mid number desk) where
     -- one more line was answered, and its answer put
-    pub goes_on : (read last : TalkState) (next : OnDisk D) → WhereTold mid.tape read.tape (ReadsNext LINE_LIMIT mid read (Ok Next.Line)) → read.held ≡ mid.held → last.tape ≡ read.tape → last.allowed ≡ read.allowed
-        → PutsLine d r desk next number (Keeps LINE_LIMIT read.overlong read.line) read.held last.held (Ok tt) → Running before last (number + 1) next
+    pub goes_on : (read last : TalkState) (next : OnDisk D) → WhereTold mid.tape read.tape (ReadsNext line_limit mid read (Ok Next.Line)) → read.held ≡ mid.held → last.tape ≡ read.tape → last.allowed ≡ read.allowed
+        → PutsLine d r desk next number (Keeps line_limit read.overlong read.line) read.held last.held (Ok tt) → Running before last (number + 1) next
     goes_on read last next reads same tape allowed (out, a, took) = record {
       told = run.told ++ a.told;
       on_disk = desk_goes_on d.faults d.reads d.may_leave d.moment d.left_since (desk_terms r) disk start run.told a.told desk next run.on_disk a.serves;
       on_talk = lines_go_on (answering r start) ([], None) 2 before mid (run.told, None) number run.on_talk read last (run.told ++ a.told, None) reads same tape allowed
-          (out, (λ line known. line_answered run.told desk next number (Keeps LINE_LIMIT read.overlong read.line) out line a run.on_disk known), took);
+          (out, (λ line known. line_answered run.told desk next number (Keeps line_limit read.overlong read.line) out line a run.on_disk known), took);
     }
 
     module _ (read : TalkState) (pending : List ℕ) (tape : Option Tape) (held_now : Option (List ℕ)) (few : length pending ≤ CHUNK) (same : read.held ≡ mid.held) where
       abbrev Known : List ℕ → Type 0
-      Known = Keeps LINE_LIMIT read.overlong read.line
+      Known = Keeps line_limit read.overlong read.line
 
       -- the run was cut short while a line's answer was put, or written
-      pub cut_at : (next : OnDisk D) (stop : Stop) → WhereTold mid.tape (tape_behind pending tape) (ReadsNext LINE_LIMIT mid read (Ok Next.Line)) → PutsLine d r desk next number Known read.held held_now (Err stop)
+      pub cut_at : (next : OnDisk D) (stop : Stop) → WhereTold mid.tape (tape_behind pending tape) (ReadsNext line_limit mid read (Ok Next.Line)) → PutsLine d r desk next number Known read.held held_now (Err stop)
           → LinesRan d r start before tape held_now disk next.disk (Err stop)
       cut_at next Stop.ReadFault reads puts = absurd puts
       cut_at next Stop.WriteFault reads (out, a, front) = record {
@@ -144,7 +144,7 @@ module _ {D : Type 0} (d : disks.Ghosts D) (r : Roster) (start : List Entry) (di
           served_put run.told read.held held_now out outcome result (served_by run.told outcome (end_by run.told desk.desk.faults outcome is run.on_disk.none run.on_disk.some)) puts
       served_closed result (inr (is, unput)) = subst (EndsServed run.told None) (sym is) tt
 
-      pub closed_at : (result : Result Outcome Stop) → pending ≡ [] → WhereTold mid.tape (tape_behind pending tape) (ReadsNext LINE_LIMIT mid read (Ok Next.End)) → DayCloses r desk.desk number Known read.held held_now result
+      pub closed_at : (result : Result Outcome Stop) → pending ≡ [] → WhereTold mid.tape (tape_behind pending tape) (ReadsNext line_limit mid read (Ok Next.End)) → DayCloses r desk.desk number Known read.held held_now result
           → LinesRan d r start before tape held_now disk desk.disk result
       closed_at result looked reads puts = record {
         told = run.told;
@@ -154,7 +154,7 @@ module _ {D : Type 0} (d : disks.Ghosts D) (r : Roster) (start : List Entry) (di
         wrote = lines_closed (answering r start) ([], None) 2 before mid (run.told, None) number run.on_talk read pending tape held_now few same result looked reads (closed_so result puts);
       }
 
-      pub past_at : (result : Result Outcome Stop) → pending ≡ [] → WhereTold mid.tape (tape_behind pending tape) (ReadsNext LINE_LIMIT mid read (Ok Next.PastLimit)) → PutsEnd Outcome.Refused read.held held_now (toolong_line number) result
+      pub past_at : (result : Result Outcome Stop) → pending ≡ [] → WhereTold mid.tape (tape_behind pending tape) (ReadsNext line_limit mid read (Ok Next.PastLimit)) → PutsEnd Outcome.Refused read.held held_now (toolong_line number) result
           → LinesRan d r start before tape held_now disk desk.disk result
       past_at result looked reads puts = record {
         told = run.told;
@@ -164,7 +164,7 @@ module _ {D : Type 0} (d : disks.Ghosts D) (r : Roster) (start : List Entry) (di
         wrote = lines_past (answering r start) ([], None) 2 before mid (run.told, None) number run.on_talk read pending tape held_now few same result looked reads puts;
       }
 
-      pub stopped_at : (stop : Stop) → (stop ≢ Stop.OutOfMemory → pending ≡ []) → WhereTold mid.tape (tape_behind pending tape) (ReadsNext LINE_LIMIT mid read (Err stop)) → held_now ≡ read.held
+      pub stopped_at : (stop : Stop) → (stop ≢ Stop.OutOfMemory → pending ≡ []) → WhereTold mid.tape (tape_behind pending tape) (ReadsNext line_limit mid read (Err stop)) → held_now ≡ read.held
           → LinesRan d r start before tape held_now disk desk.disk (Err stop)
       stopped_at stop looked reads unput = record {
         told = run.told;

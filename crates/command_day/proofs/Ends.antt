@@ -6,10 +6,10 @@ use Rattle.adx_io.specs.declared.source.Source as sources
 use Rattle.adx_io.specs.declared.stop.Stop.{Stop}
 use Rattle.command_runs.specs.Firsts.{LeavesFirst, by_first}
 use Rattle.command_runs.specs.Runs.{Runs}
-use Rattle.command_runs.specs.declared.limits.TheConstants.{INPUT_LIMIT}
+use Rattle.command_runs.specs.Limits.{input_limit}
 use Rattle.command_runs.specs.declared.outcome.Outcome.{Outcome}
 use Rattle.deal_floor.specs.declared.roster.Roster.{Roster}
-use Rattle.desk_runs.specs.OnDisk.{CourseOn}
+use Rattle.desk_calls.specs.OnDisk.{CourseOn}
 use Rattle.history_runs.specs.Rosters.{roster_heads}
 use Rattle.command_day.specs.Days.{EndsAs, day_command}
 use Rattle.command_day.specs.Runs.{DayRuns}
@@ -27,13 +27,13 @@ module _ {S K D L : Type 0} (s : sources.Ghosts S) (k : sinks.Ghosts K) (d : dis
   left_so (Some (r, was_given_up why)) before now result left = left.0
   left_so (Some (r, was_served start told unwritten)) before now result left = left.0
 
-  means_so : (c : Option (Roster × Day)) (old new : S) (sink_old sink_new : K) (result : Result Outcome Stop) → Runs s k (by_first roster_heads INPUT_LIMIT day_after c) old new sink_old sink_new result → Runs s k (day_command (course_by c)) old new sink_old sink_new result
+  means_so : (c : Option (Roster × Day)) (old new : S) (sink_old sink_new : K) (result : Result Outcome Stop) → Runs s k (by_first roster_heads input_limit day_after c) old new sink_old sink_new result → Runs s k (day_command (course_by c)) old new sink_old sink_new result
   means_so None old new sink_old sink_new result runs = runs
   means_so (Some (r, was_given_up why)) old new sink_old sink_new result runs = runs
   means_so (Some (r, was_served start told unwritten)) old new sink_old sink_new result runs = runs
 
   pub day_runs : (before now : L) (old new : S) (sink_old sink_new : K) (disk_old disk_new : D) (result : Result Outcome Stop) → disk_of before ≡ disk_old → disk_of now ≡ disk_new
-      → (c : Option (Roster × Day)) → LeavesFirst Leaves before now c result → Runs s k (by_first roster_heads INPUT_LIMIT day_after c) old new sink_old sink_new result
+      → (c : Option (Roster × Day)) → LeavesFirst Leaves before now c result → Runs s k (by_first roster_heads input_limit day_after c) old new sink_old sink_new result
       → DayRuns s k d old new sink_old sink_new disk_old disk_new result
   day_runs before now old new sink_old sink_new disk_old disk_new result first last c left runs =
       let left = left_so c before now result left in

@@ -4,23 +4,23 @@ use Rattle.adx_io.specs.Lines.{HasNoNewline}
 use Rattle.adx_io.specs.Talk.{ended}
 use Rattle.command_runs.specs.Firsts.{AfterHead, Heads, IsRefused}
 use Rattle.command_runs.specs.declared.first.NoLine.{NoLine}
-use Rattle.command_runs.specs.declared.limits.TheConstants.{LINE_LIMIT}
-use Rattle.script_day.proofs.FirstLines.{first_longer, first_same, no_first, rest_same}
+use Rattle.command_runs.specs.Limits.{line_limit}
+use Rattle.history_runs.proofs.FirstLines.{first_longer, first_same, no_first, rest_same}
 
-module _ {H : Type 0} (heads : Heads H) (limit : ℕ) (longer : LINE_LIMIT < limit)
+module _ {H : Type 0} (heads : Heads H) (limit : ℕ) (longer : line_limit < limit)
     (one_head : (line : List ℕ) (h other : H) → heads.tells line h → heads.tells line other → h ≡ other)
     (one_refusal : (line out whole : List ℕ) → heads.refuses line out → heads.refuses line whole → out ≡ whole)
     (not_both : (line : List ℕ) (h : H) (out : List ℕ) → heads.tells line h → heads.refuses line out → ⊥) where
   -- the input begins with a line of a head
   abbrev pub Told : List ℕ → H → List ℕ → List ℕ → Type 0
-  Told input h line rest = HasNoNewline line × (length line ≤ LINE_LIMIT) × heads.tells line h × (input ≡ line ++ 10 ∷ rest)
+  Told input h line rest = HasNoNewline line × (length line ≤ line_limit) × heads.tells line h × (input ≡ line ++ 10 ∷ rest)
 
   -- the input's first line is refused: as it is, as a cut one, or as a long one
   abbrev pub Refused : List ℕ → List ℕ → Type 0
   Refused input out =
-      ((line rest : List ℕ) × HasNoNewline line × (length line ≤ LINE_LIMIT) × heads.refuses line out × (input ≡ line ++ 10 ∷ rest))
-      ⊎ ((HasNoNewline input × (length input ≤ LINE_LIMIT) × (out ≡ heads.lacks NoLine.Cut))
-      ⊎ ((front rest : List ℕ) × HasNoNewline front × (LINE_LIMIT < length front) × (input ≡ front ++ rest) × (out ≡ heads.lacks NoLine.Long)))
+      ((line rest : List ℕ) × HasNoNewline line × (length line ≤ line_limit) × heads.refuses line out × (input ≡ line ++ 10 ∷ rest))
+      ⊎ ((HasNoNewline input × (length input ≤ line_limit) × (out ≡ heads.lacks NoLine.Cut))
+      ⊎ ((front rest : List ℕ) × HasNoNewline front × (line_limit < length front) × (input ≡ front ++ rest) × (out ≡ heads.lacks NoLine.Long)))
 
   newline : (line more : List ℕ) → ended line ++ more ≡ line ++ 10 ∷ more
   newline line more = append_assoc line (10 ∷ []) more
@@ -30,7 +30,7 @@ module _ {H : Type 0} (heads : Heads H) (limit : ℕ) (longer : LINE_LIMIT < lim
       inl (line, ahead ++ left, none, short, refuses, ap (λ t. t ++ left) is ∙ append_assoc (ended line) ahead left ∙ newline line (ahead ++ left))
   refused_as taken left out (inr (NoLine.Cut, (none, short, within, nothing), said)) =
       let same : taken ++ left ≡ taken = ap (λ l. taken ++ l) nothing ∙ append-nil taken in
-      inr (inl (subst HasNoNewline (sym same) none, subst (λ l. length l ≤ LINE_LIMIT) (sym same) short, said))
+      inr (inl (subst HasNoNewline (sym same) none, subst (λ l. length l ≤ line_limit) (sym same) short, said))
   refused_as taken left out (inr (NoLine.Long, inl (line, none, long, (ahead, few, is)), said)) =
       inr (inr (line, 10 ∷ (ahead ++ left), none, long, ap (λ t. t ++ left) is ∙ append_assoc (ended line) ahead left ∙ newline line (ahead ++ left), said))
   refused_as taken left out (inr (NoLine.Long, inr (inl (none, long, within, nothing)), said)) = inr (inr (taken, left, none, long, refl, said))

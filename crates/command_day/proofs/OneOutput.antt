@@ -10,20 +10,20 @@ use Rattle.adx_io.specs.declared.stop.Stop.{Stop}
 use Rattle.answer_lines.specs.declared.faults.Fault.{Fault}
 use Rattle.command_runs.specs.Meanings.{TookPrefix, Wrote}
 use Rattle.command_runs.specs.Scripts.{Answered, CutShort}
-use Rattle.command_runs.specs.declared.limits.TheConstants.{INPUT_LIMIT, LINE_LIMIT}
+use Rattle.command_runs.specs.Limits.{input_limit, line_limit}
 use Rattle.command_runs.specs.declared.outcome.Outcome.{Outcome}
 use Rattle.command_runs.proofs.Told.{told_map}
 use Rattle.day_rules.specs.Terms.{Terms}
 use Rattle.day_rules.specs.declared.entry.Entry.{Entry}
 use Rattle.deal_floor.specs.declared.roster.Roster.{Roster}
-use Rattle.desk_runs.specs.Courses.{AreAlike, Course, GoesOn, GoesOnFrom, given_up, served, unopened}
-use Rattle.desk_runs.specs.Meanings.{AnswersLine, Told, Writing, call_answer}
-use Rattle.desk_runs.specs.OnDisk.{history_after}
+use Rattle.desk_calls.specs.Courses.{AreAlike, Course, GoesOn, GoesOnFrom, given_up, served, unopened}
+use Rattle.desk_calls.specs.Meanings.{AnswersLine, Told, Writing, call_answer}
+use Rattle.desk_calls.specs.OnDisk.{history_after}
 use Rattle.history_runs.specs.Rosters.{roster_heads}
 use Rattle.history_runs.specs.Unopened.{not_opened}
-use Rattle.script_day.specs.Output.{roster_refused_line, unopened_line, writing}
-use Rattle.script_day.specs.Script.{closing, terms_by}
-use Rattle.script_day.proofs.OneMeaning.{one_meaning}
+use Rattle.history_runs.specs.Output.{roster_refused_line, unopened_line, writing}
+use Rattle.history_runs.specs.Script.{closing, terms_by}
+use Rattle.history_runs.proofs.OneMeaning.{one_meaning}
 use Rattle.script_lines.specs.Meanings.{Meaning as LineMeaning, calls, refused}
 use Rattle.script_lines.specs.Rosters.{IsRosterLine}
 use Rattle.script_lines.proofs.OneMeaning.{one_refusal, one_roster, roster_not_refused}
@@ -125,14 +125,14 @@ one_refusal_line line out whole (why, refuses, said) (why', refuses', said') = s
 not_both : (line : List ℕ) (r : Roster) (out : List ℕ) → IsRosterLine line r → roster_heads.refuses line out → ⊥
 not_both line r out tells (why, refuses, said) = roster_not_refused line r why tells refuses
 
-longer : LINE_LIMIT < INPUT_LIMIT
+longer : line_limit < input_limit
 longer = omega arith
 
 abbrev FirstRefused : List ℕ → List ℕ → Type 0
-FirstRefused = Refused roster_heads INPUT_LIMIT longer one_roster one_refusal_line not_both
+FirstRefused = Refused roster_heads input_limit longer one_roster one_refusal_line not_both
 
 abbrev FirstTold : List ℕ → Roster → List ℕ → List ℕ → Type 0
-FirstTold = HeadTold roster_heads INPUT_LIMIT longer one_roster one_refusal_line not_both
+FirstTold = HeadTold roster_heads input_limit longer one_roster one_refusal_line not_both
 
 -- what a whole output of a day is: the refusal of the first line; the line that says why the day wasn't opened; or that of
 -- its script
@@ -140,17 +140,17 @@ abbrev DayWhole : Course → List ℕ → List ℕ → Type 0
 DayWhole unopened input out = FirstRefused input out
 DayWhole (given_up r why) input out = (line rest : List ℕ) × FirstTold input r line rest × (out ≡ unopened_line why)
 DayWhole (served r start told unwritten) input out =
-    (line rest : List ℕ) × FirstTold input r line rest × WholeScript r start (INPUT_LIMIT - length (ended line)) rest out (told, unwritten)
+    (line rest : List ℕ) × FirstTold input r line rest × WholeScript r start (input_limit - length (ended line)) rest out (told, unwritten)
 
 -- the end of a run, with the input
 ended_whole : (course : Course) (input taken left out : List ℕ) (outcome : Outcome) → input ≡ taken ++ left → (day_command course).ends outcome taken left out → DayWhole course input out
 ended_whole unopened input taken left out outcome is (ends, e) =
-    subst (λ i. FirstRefused i out) (sym is) (refused_as roster_heads INPUT_LIMIT longer one_roster one_refusal_line not_both taken left out e)
+    subst (λ i. FirstRefused i out) (sym is) (refused_as roster_heads input_limit longer one_roster one_refusal_line not_both taken left out e)
 ended_whole (given_up r why) input taken left out outcome is e =
-    let t = told_as roster_heads INPUT_LIMIT longer one_roster one_refusal_line not_both r (λ allowed more. (not_opened why).ends outcome more left out) taken left e in
+    let t = told_as roster_heads input_limit longer one_roster one_refusal_line not_both r (λ allowed more. (not_opened why).ends outcome more left out) taken left e in
     (t.0, t.1 ++ left, subst (λ i. FirstTold i r t.0 (t.1 ++ left)) (sym is) t.2, t.3.2)
 ended_whole (served r start told unwritten) input taken left out outcome is e =
-    let t = told_as roster_heads INPUT_LIMIT longer one_roster one_refusal_line not_both r (λ allowed more. (lines r start told unwritten allowed).ends outcome more left out) taken left e in
+    let t = told_as roster_heads input_limit longer one_roster one_refusal_line not_both r (λ allowed more. (lines r start told unwritten allowed).ends outcome more left out) taken left e in
     let w = t.3 in (
       t.0,
       t.1 ++ left,
@@ -160,26 +160,26 @@ ended_whole (served r start told unwritten) input taken left out outcome is e =
 
 -- a day whose output is this has no other
 first_refused : (more : Course) (input out whole : List ℕ) → FirstRefused input out → DayWhole more input whole → out ≡ whole
-first_refused unopened input out whole a b = refused_same roster_heads INPUT_LIMIT longer one_roster one_refusal_line not_both input out whole a b
+first_refused unopened input out whole a b = refused_same roster_heads input_limit longer one_roster one_refusal_line not_both input out whole a b
 first_refused (given_up r why) input out whole a (line, rest, told, said) =
-    absurd (told_not_refused roster_heads INPUT_LIMIT longer one_roster one_refusal_line not_both input r line rest out told a)
+    absurd (told_not_refused roster_heads input_limit longer one_roster one_refusal_line not_both input r line rest out told a)
 first_refused (served r start told u) input out whole a (line, rest, head, script) =
-    absurd (told_not_refused roster_heads INPUT_LIMIT longer one_roster one_refusal_line not_both input r line rest out head a)
+    absurd (told_not_refused roster_heads input_limit longer one_roster one_refusal_line not_both input r line rest out head a)
 
 abbrev ScriptOf : List Entry → Calls → List ℕ → Roster × (List ℕ × List ℕ) → Type 0
-ScriptOf start now whole x = WholeScript x.0 start (INPUT_LIMIT - length (ended x.1.0)) x.1.1 whole now
+ScriptOf start now whole x = WholeScript x.0 start (input_limit - length (ended x.1.0)) x.1.1 whole now
 
 -- the script of one first line is that of the other
 moved : (input whole : List ℕ) (r s : Roster) (line line' rest rest' : List ℕ) (start : List Entry) (now : Calls) → FirstTold input r line rest → FirstTold input s line' rest'
-    → WholeScript s start (INPUT_LIMIT - length (ended line')) rest' whole now → WholeScript r start (INPUT_LIMIT - length (ended line)) rest whole now
+    → WholeScript s start (input_limit - length (ended line')) rest' whole now → WholeScript r start (input_limit - length (ended line)) rest whole now
 moved input whole r s line line' rest rest' start now a b w =
-    let same = told_same roster_heads INPUT_LIMIT longer one_roster one_refusal_line not_both input r s line line' rest rest' a b in
+    let same = told_same roster_heads input_limit longer one_roster one_refusal_line not_both input r s line line' rest rest' a b in
     subst (ScriptOf start now whole) (λ i. (sym same.0 i, (sym same.1 i, sym same.2 i))) w
 
 served_same : (r s : Roster) (start : List Entry) (told told' : List Told) (u v : Option Told) (input out whole : List ℕ) → Agree (told, u) (told', v)
     → DayWhole (served r start told u) input out → DayWhole (served s start told' v) input whole → out ≡ whole
 served_same r s start told told' u v input out whole agree (line, rest, a, x) (line', rest', b, y) =
-    script_same r start (INPUT_LIMIT - length (ended line)) rest out whole (told, u) (told', v) agree x (moved input whole r s line line' rest rest' start (told', v) a b y)
+    script_same r start (input_limit - length (ended line)) rest out whole (told, u) (told', v) agree x (moved input whole r s line line' rest rest' start (told', v) a b y)
 
 whole_alike : (course other : Course) (input out whole : List ℕ) → AreAlike course other → DayWhole course input out → DayWhole other input whole → out ≡ whole
 whole_alike unopened unopened input out whole alike a b = first_refused unopened input out whole a b
@@ -267,27 +267,27 @@ awaits_front : (course more : Course) (input taken left out whole : List ℕ) �
 awaits_front unopened more input taken left out whole goes is (none, within, nothing) b = none_front out whole nothing
 awaits_front (given_up r why) more input taken left out whole goes is (line, rest, none, short, tells, at, never) b = absurd never
 awaits_front (served r start told u) more input taken left out whole (later, goes) is a b =
-    let t = told_as roster_heads INPUT_LIMIT longer one_roster one_refusal_line not_both r (λ allowed more. (lines r start told u allowed).awaits more out) taken left a in
+    let t = told_as roster_heads input_limit longer one_roster one_refusal_line not_both r (λ allowed more. (lines r start told u allowed).awaits more out) taken left a in
     let head = subst (λ i. FirstTold i r t.0 (t.1 ++ left)) (sym is) t.2 in
     let w = subst (λ (c : Course). DayWhole c input whole) goes b in
     let script = moved input whole r r t.0 w.0 (t.1 ++ left) w.1 start (told ++ later, None) head w.2 w.3 in
     let e = t.3 in
-    put_so r start told later u (INPUT_LIMIT - length (ended t.0)) (t.1 ++ left) whole script e.0 (e.1 ++ left) out (told, u) e.2 e.3
+    put_so r start told later u (input_limit - length (ended t.0)) (t.1 ++ left) whole script e.0 (e.1 ++ left) out (told, u) e.2 e.3
     (ap (λ l. l ++ left) e.5 ∙ append_assoc e.0 e.1 left) (omega (arith, e.6, ap length e.5, length-append e.0 e.1)) (goes_here (told, u))
 
 breaks_front : (course more : Course) (input taken left put last whole : List ℕ) → GoesOn course more → input ≡ taken ++ left → (day_command course).breaks taken left put last → DayWhole more input whole → IsFront (put ++ last) whole
 breaks_front unopened more input taken left put last whole goes is (unput, inl refuses) b =
-    all_front (put ++ last) whole (ap (λ p. p ++ last) unput ∙ first_refused more input last whole (subst (λ i. FirstRefused i last) (sym is) (refused_as roster_heads INPUT_LIMIT longer one_roster one_refusal_line not_both taken left last refuses)) b)
+    all_front (put ++ last) whole (ap (λ p. p ++ last) unput ∙ first_refused more input last whole (subst (λ i. FirstRefused i last) (sym is) (refused_as roster_heads input_limit longer one_roster one_refusal_line not_both taken left last refuses)) b)
 breaks_front unopened more input taken left put last whole goes is (unput, inr (unanswered, nothing)) b = none_front (put ++ last) whole (ap (λ p. p ++ last) unput ∙ nothing)
 breaks_front (given_up r why) more input taken left put last whole goes is a b =
-    given_breaks r why more input put last whole goes (told_as roster_heads INPUT_LIMIT longer one_roster one_refusal_line not_both r (λ allowed rest. (not_opened why).breaks rest left put last) taken left a).3 b
+    given_breaks r why more input put last whole goes (told_as roster_heads input_limit longer one_roster one_refusal_line not_both r (λ allowed rest. (not_opened why).breaks rest left put last) taken left a).3 b
 breaks_front (served r start told u) more input taken left put last whole (later, goes) is a b =
-    let t = told_as roster_heads INPUT_LIMIT longer one_roster one_refusal_line not_both r (λ allowed more. (lines r start told u allowed).breaks more left put last) taken left a in
+    let t = told_as roster_heads input_limit longer one_roster one_refusal_line not_both r (λ allowed more. (lines r start told u allowed).breaks more left put last) taken left a in
     let head = subst (λ i. FirstTold i r t.0 (t.1 ++ left)) (sym is) t.2 in
     let w = subst (λ (c : Course). DayWhole c input whole) goes b in
     let script = moved input whole r r t.0 w.0 (t.1 ++ left) w.1 start (told ++ later, None) head w.2 w.3 in
     let e = t.3 in
-    cut_front r start told later u (INPUT_LIMIT - length (ended t.0)) (t.1 ++ left) whole script e.0 t.1 left put last e.1 e.2 refl e.3 e.4
+    cut_front r start told later u (input_limit - length (ended t.0)) (t.1 ++ left) whole script e.0 t.1 left put last e.1 e.2 refl e.3 e.4
 
 -- the sink took a prefix of it
 took_front : (held held_now : Option (List ℕ)) (put last front back whole : List ℕ) → IsFront (put ++ last) whole → last ≡ front ++ back → Took held held_now (put ++ front) → TookPrefix held held_now whole

@@ -8,7 +8,7 @@ use Rattle.adx_io.specs.Lines.{HasNoNewline}
 use Rattle.adx_io.specs.Talk.{ended}
 use Rattle.command_runs.specs.Scripts.{Answered, Answering, Answers, Closes}
 use Rattle.command_runs.specs.declared.outcome.Outcome.{Outcome}
-use Rattle.script_day.proofs.FirstLines.{first_same, no_first, rest_same}
+use Rattle.history_runs.proofs.FirstLines.{first_same, no_first, rest_same}
 
 -- lists
 -- the shorter of two fronts is a front of the longer

@@ -8,16 +8,16 @@ use Rattle.adx_io.specs.Talk.{ended}
 use Rattle.answer_lines.specs.declared.faults.Fault.{Fault}
 use Rattle.command_runs.specs.Scripts.{Answered, Answers}
 use Rattle.command_runs.specs.declared.first.NoLine.{NoLine}
-use Rattle.command_runs.specs.declared.limits.TheConstants.{INPUT_LIMIT, LINE_LIMIT}
+use Rattle.command_runs.specs.Limits.{input_limit, line_limit}
 use Rattle.command_runs.specs.declared.outcome.Outcome.{Outcome}
 use Rattle.day_rules.specs.declared.entry.Entry.{Entry}
 use Rattle.deal_floor.specs.declared.roster.Roster.{Roster}
-use Rattle.desk_runs.specs.Courses.{Course, HasNoDiskFault, IsSound, served, unopened}
-use Rattle.desk_runs.specs.Meanings.{AreDone, Told, call_answer}
-use Rattle.desk_runs.specs.OnDisk.{history_after}
+use Rattle.desk_calls.specs.Courses.{Course, HasNoDiskFault, IsSound, served, unopened}
+use Rattle.desk_calls.specs.Meanings.{AreDone, Told, call_answer}
+use Rattle.desk_calls.specs.OnDisk.{history_after}
 use Rattle.history_runs.specs.Rosters.{roster_heads}
-use Rattle.script_day.specs.Output.{refusal_line, roster_refused_line, toolong_line, writing}
-use Rattle.script_day.specs.Script.{Means, closing, terms_by}
+use Rattle.history_runs.specs.Output.{refusal_line, roster_refused_line, toolong_line, writing}
+use Rattle.history_runs.specs.Script.{Means, closing, terms_by}
 use Rattle.script_lines.specs.Meanings.{Meaning, calls, refused}
 use Rattle.script_lines.specs.Rosters.{IsRosterLine}
 use Rattle.script_lines.specs.declared.refusal.Refusal.TheVariants.{Long}
@@ -67,9 +67,9 @@ cut_all (b ∷ bs) = by (b == 10) refl (cut_all bs)
     by false is c = cut_byte b bs (eqb-false b 10 is) c.lines c.last c.bytes c.whole c.piece
 
 -- there is no line without a meaning
-meaning_by : (roster : Roster) (line : List ℕ) (long : Bool) → nat_lt LINE_LIMIT (length line) ≡ long → ((m : Meaning) → Means roster line m → ⊥) → ⊥
-meaning_by roster line true e none = none (refused Long) (inl (ltb-true LINE_LIMIT (length line) e, refl))
-meaning_by roster line false e none = some_meaning roster line (λ m means. none m (inr (ltb-false LINE_LIMIT (length line) e, means)))
+meaning_by : (roster : Roster) (line : List ℕ) (long : Bool) → nat_lt line_limit (length line) ≡ long → ((m : Meaning) → Means roster line m → ⊥) → ⊥
+meaning_by roster line true e none = none (refused Long) (inl (ltb-true line_limit (length line) e, refl))
+meaning_by roster line false e none = some_meaning roster line (λ m means. none m (inr (ltb-false line_limit (length line) e, means)))
 
 -- what a line is answered where nothing fails
 abbrev IsDone : Told → Type 0
@@ -102,7 +102,7 @@ module _ (r : Roster) (start : List Entry) where
       → ((now : List Told) (out : List ℕ) → Answers (answering r start) (told, None) n lines out (now, None) → AreDone now → ⊥) → ⊥
   answers_exist told n [] all none = none told [] (refl, refl) all
   answers_exist told n (line ∷ lines) all none =
-      meaning_by r line (nat_lt LINE_LIMIT (length line)) refl (λ m is.
+      meaning_by r line (nat_lt line_limit (length line)) refl (λ m is.
       let one = line_exists told n line m is all in
       answers_exist one.0 (suc n) lines one.3 (λ now rest more done. none now (one.1 ++ rest) ((one.0, None), one.1, rest, one.2, more, refl) done))
 
@@ -130,7 +130,7 @@ answered_so : (r : Roster) (start : List Entry) (input : List ℕ) (c : Cut inpu
 answered_so r start input c now out answers = record { lines = c.lines; split = refl; whole = c.whole; answered = answers; numbered = refl }
 
 -- a roster's line begins a run
-roster_short : (start : List Entry) (line rest : List ℕ) (r : Roster) → HasNoNewline line → length line ≤ LINE_LIMIT → IsRosterLine line r → length rest ≤ INPUT_LIMIT - length (ended line) → Outless start (ended line ++ rest) → ⊥
+roster_short : (start : List Entry) (line rest : List ℕ) (r : Roster) → HasNoNewline line → length line ≤ line_limit → IsRosterLine line r → length rest ≤ input_limit - length (ended line) → Outless start (ended line ++ rest) → ⊥
 roster_short start line rest r piece few tells short none =
     let c = cut_all rest in
     answers_exist r start [] 2 c.lines (All-nil IsDone) (λ told out answers all.
@@ -144,9 +144,9 @@ roster_short start line rest r piece few tells short none =
     ))
 
 -- also where the input passes its limit
-roster_long : (start : List Entry) (line rest : List ℕ) (r : Roster) → HasNoNewline line → length line ≤ LINE_LIMIT → IsRosterLine line r → INPUT_LIMIT - length (ended line) < length rest → Outless start (ended line ++ rest) → ⊥
+roster_long : (start : List Entry) (line rest : List ℕ) (r : Roster) → HasNoNewline line → length line ≤ line_limit → IsRosterLine line r → input_limit - length (ended line) < length rest → Outless start (ended line ++ rest) → ⊥
 roster_long start line rest r piece few tells long none =
-    let past = split_at (INPUT_LIMIT - length (ended line)) rest long in
+    let past = split_at (input_limit - length (ended line)) rest long in
     let c = cut_all past.0 in
     answers_exist r start [] 2 c.lines (All-nil IsDone) (λ told out answers all.
     none (served r start told None) (out ++ toolong_line (2 + length c.lines)) (refl, all, refl) (
@@ -175,21 +175,21 @@ roster_long start line rest r piece few tells long none =
       ),
     ))
 
-with_roster : (start : List Entry) (line rest : List ℕ) (r : Roster) (short : Bool) → nat_le (length rest) (INPUT_LIMIT - length (ended line)) ≡ short → HasNoNewline line → length line ≤ LINE_LIMIT → IsRosterLine line r → Outless start (ended line ++ rest) → ⊥
-with_roster start line rest r true e piece few tells none = roster_short start line rest r piece few tells (leb-true (length rest) (INPUT_LIMIT - length (ended line)) e) none
-with_roster start line rest r false e piece few tells none = roster_long start line rest r piece few tells (leb-false (length rest) (INPUT_LIMIT - length (ended line)) e) none
+with_roster : (start : List Entry) (line rest : List ℕ) (r : Roster) (short : Bool) → nat_le (length rest) (input_limit - length (ended line)) ≡ short → HasNoNewline line → length line ≤ line_limit → IsRosterLine line r → Outless start (ended line ++ rest) → ⊥
+with_roster start line rest r true e piece few tells none = roster_short start line rest r piece few tells (leb-true (length rest) (input_limit - length (ended line)) e) none
+with_roster start line rest r false e piece few tells none = roster_long start line rest r piece few tells (leb-false (length rest) (input_limit - length (ended line)) e) none
 
-with_line : (start : List Entry) (line rest : List ℕ) (long : Bool) → nat_lt LINE_LIMIT (length line) ≡ long → HasNoNewline line → Outless start (ended line ++ rest) → ⊥
+with_line : (start : List Entry) (line rest : List ℕ) (long : Bool) → nat_lt line_limit (length line) ≡ long → HasNoNewline line → Outless start (ended line ++ rest) → ⊥
 with_line start line rest true e piece none =
-    none unopened (roster_heads.lacks NoLine.Long) tt (Outcome.Refused, ended line, rest, refl, (refl, inr (NoLine.Long, inl (line, piece, ltb-true LINE_LIMIT (length line) e, ([], zero-le, sym (append-nil (ended line)))), refl)))
+    none unopened (roster_heads.lacks NoLine.Long) tt (Outcome.Refused, ended line, rest, refl, (refl, inr (NoLine.Long, inl (line, piece, ltb-true line_limit (length line) e, ([], zero-le, sym (append-nil (ended line)))), refl)))
 with_line start line rest false e piece none =
-    let few = ltb-false LINE_LIMIT (length line) e in
+    let few = ltb-false line_limit (length line) e in
     some_first line
-    (λ r tells. with_roster start line rest r (nat_le (length rest) (INPUT_LIMIT - length (ended line))) refl piece few tells none)
+    (λ r tells. with_roster start line rest r (nat_le (length rest) (input_limit - length (ended line))) refl piece few tells none)
     (λ why refuses. none unopened (roster_refused_line why) tt (Outcome.Refused, ended line, rest, refl, (refl, inl (line, piece, few, (why, refuses, refl), ([], zero-le, sym (append-nil (ended line)))))))
 
 -- no newline comes
-piece_short : (start : List Entry) (line : List ℕ) → HasNoNewline line → length line ≤ LINE_LIMIT → Outless start line → ⊥
+piece_short : (start : List Entry) (line : List ℕ) → HasNoNewline line → length line ≤ line_limit → Outless start line → ⊥
 piece_short start line piece few none =
     none unopened (roster_heads.lacks NoLine.Cut) tt (Outcome.Refused, line, [], sym (append-nil line), (refl, inr (NoLine.Cut, (piece, few, omega (arith, few), refl), refl)))
 
@@ -197,11 +197,11 @@ all_front : (xs ys : List ℕ) → HasNoNewline (xs ++ ys) → HasNoNewline xs
 all_front [] ys all = All-nil (λ b. b ≢ 10)
 all_front (x ∷ xs) ys all = All-cons (λ b. b ≢ 10) x xs (All-head (λ b. b ≢ 10) x (xs ++ ys) all) (all_front xs ys (All-tail (λ b. b ≢ 10) x (xs ++ ys) all))
 
-piece_long : (start : List Entry) (line : List ℕ) (short : Bool) → nat_le (length line) INPUT_LIMIT ≡ short → HasNoNewline line → LINE_LIMIT < length line → Outless start line → ⊥
+piece_long : (start : List Entry) (line : List ℕ) (short : Bool) → nat_le (length line) input_limit ≡ short → HasNoNewline line → line_limit < length line → Outless start line → ⊥
 piece_long start line true e piece long none =
-    none unopened (roster_heads.lacks NoLine.Long) tt (Outcome.Refused, line, [], sym (append-nil line), (refl, inr (NoLine.Long, inr (inl (piece, long, leb-true (length line) INPUT_LIMIT e, refl)), refl)))
+    none unopened (roster_heads.lacks NoLine.Long) tt (Outcome.Refused, line, [], sym (append-nil line), (refl, inr (NoLine.Long, inr (inl (piece, long, leb-true (length line) input_limit e, refl)), refl)))
 piece_long start line false e piece long none =
-    let past = split_at INPUT_LIMIT line (leb-false (length line) INPUT_LIMIT e) in
+    let past = split_at input_limit line (leb-false (length line) input_limit e) in
     none unopened (roster_heads.lacks NoLine.Long) tt (
       Outcome.Refused,
       past.0 ++ past.1 ∷ [],
@@ -210,13 +210,13 @@ piece_long start line false e piece long none =
       (refl, inr (NoLine.Long, inr (inr (past.0, past.1, all_front past.0 (past.1 ∷ past.2) (subst HasNoNewline past.3 piece), past.4, refl)), refl)),
     )
 
-with_piece : (start : List Entry) (line : List ℕ) (long : Bool) → nat_lt LINE_LIMIT (length line) ≡ long → HasNoNewline line → Outless start line → ⊥
-with_piece start line true e piece none = piece_long start line (nat_le (length line) INPUT_LIMIT) refl piece (ltb-true LINE_LIMIT (length line) e) none
-with_piece start line false e piece none = piece_short start line piece (ltb-false LINE_LIMIT (length line) e) none
+with_piece : (start : List Entry) (line : List ℕ) (long : Bool) → nat_lt line_limit (length line) ≡ long → HasNoNewline line → Outless start line → ⊥
+with_piece start line true e piece none = piece_long start line (nat_le (length line) input_limit) refl piece (ltb-true line_limit (length line) e) none
+with_piece start line false e piece none = piece_short start line piece (ltb-false line_limit (length line) e) none
 
 pub has_outputs : HasOutputs
 has_outputs start input none =
     elim (cut_first input) [
-      | inl found ↦ with_line start found.0 found.1 (nat_lt LINE_LIMIT (length found.0)) refl found.3 (subst (Outless start) found.2 none)
-      | inr open_line ↦ with_piece start input (nat_lt LINE_LIMIT (length input)) refl open_line none
+      | inl found ↦ with_line start found.0 found.1 (nat_lt line_limit (length found.0)) refl found.3 (subst (Outless start) found.2 none)
+      | inr open_line ↦ with_piece start input (nat_lt line_limit (length input)) refl open_line none
     ]

@@ -1,21 +1,24 @@
 -- What a day of script lines means, by what came of it beside its input: the history that its journal stood for, and its
 -- calls, each done or given up. This project's own.
+-- Example: a roster's line and a line of one tick, on an empty journal, write the tick's line and then the closing
+-- table, and the run ends `Done`; where the disk failed in the tick, its line says `diskfault`, the table is the
+-- same, and the run ends `DiskFault`.
 use Rattle.std.specs.Prelude.{◌≡◌, ℕ, List, [], ◌++◌, Option, Some, None, Result, Ok, Err}
 use Rattle.adx_io.specs.declared.stop.Stop.{Stop}
 use Rattle.command_runs.specs.Firsts.{EndsHeadless, headless, led}
 use Rattle.command_runs.specs.Meanings.{Meaning, TookPrefix}
 use Rattle.command_runs.specs.Scripts.{Answering, script}
-use Rattle.command_runs.specs.declared.limits.TheConstants.{INPUT_LIMIT}
+use Rattle.command_runs.specs.Limits.{input_limit}
 use Rattle.command_runs.specs.declared.outcome.Outcome.{Outcome}
 use Rattle.day_rules.specs.declared.entry.Entry.{Entry}
 use Rattle.deal_floor.specs.declared.roster.Roster.{Roster}
-use Rattle.desk_runs.specs.Courses.{AreAlike, Course, HasDiskFault, HasNoDiskFault, IsSound, given_up, served, unopened}
-use Rattle.desk_runs.specs.Meanings.{IsLine, Told}
-use Rattle.desk_runs.specs.OnDisk.{history_after}
+use Rattle.desk_calls.specs.Courses.{AreAlike, Course, HasDiskFault, HasNoDiskFault, IsSound, given_up, served, unopened}
+use Rattle.desk_calls.specs.Meanings.{IsLine, Told}
+use Rattle.desk_calls.specs.OnDisk.{history_after}
 use Rattle.history_runs.specs.Rosters.{roster_heads}
 use Rattle.history_runs.specs.Unopened.{GivesUpBy, not_opened}
-use Rattle.script_day.specs.Output.{toolong_line, writing}
-use Rattle.script_day.specs.Script.{Means, closing, terms_by}
+use Rattle.history_runs.specs.Output.{toolong_line, writing}
+use Rattle.history_runs.specs.Script.{Means, closing, terms_by}
 use Rattle.script_lines.specs.Meanings.{calls}
 
 -- how a day ends whose script was read to its end, by its calls
@@ -55,9 +58,9 @@ lines r start told unwritten allowed = script (answering r start) ([], None) 2 a
 
 -- what the command `day` means, by how the day went
 abbrev pub day_command : Course → Meaning
-day_command unopened = headless roster_heads INPUT_LIMIT
-day_command (given_up r why) = led roster_heads INPUT_LIMIT r (λ allowed. not_opened why)
-day_command (served r start told unwritten) = led roster_heads INPUT_LIMIT r (lines r start told unwritten)
+day_command unopened = headless roster_heads input_limit
+day_command (given_up r why) = led roster_heads input_limit r (λ allowed. not_opened why)
+day_command (served r start told unwritten) = led roster_heads input_limit r (lines r start told unwritten)
 
 -- how the run of a day ends that was served: at the end of its input by the disk's faults, or before that refused or
 -- stopped; an answer isn't written for want of memory alone

@@ -8,9 +8,9 @@ ghost use Rattle.day_rules.specs.Runs.{IsCall};
 ghost use Rattle.script_lines.specs.Changes.{change_told};
 ghost use Rattle.script_lines.specs.Found.{call_of};
 ghost use Rattle.adx_desk.specs.Lines.{told_as};
-ghost use Rattle.script_day.specs.Clauses.{CallAnswered, CallLeft, IsKept, IsShort, LineAnswered, LineLeft, notice_of};
-ghost use Rattle.desk_runs.specs.Answering.{IsOfCall};
-ghost use Rattle.script_day.specs.Script.{terms_by};
+ghost use Rattle.history_runs.specs.Clauses.{CallAnswered, CallLeft, IsKept, IsShort, LineAnswered, LineLeft, notice_of};
+ghost use Rattle.desk_calls.specs.Answering.{IsOfCall};
+ghost use Rattle.history_runs.specs.Script.{terms_by};
 
 use adx_desk::{Desk, DeskFault};
 use adx_io::{Disk, LineBuffer};
@@ -18,8 +18,7 @@ use adx_units::OutOfMemory;
 use answer_lines::{Fault, push_answer, push_fault};
 use day_rules::{Answer, Ask};
 use deal_floor::{Campaign, Roster};
-use refusal_lines::push_refused;
-use script_lines::{Change, LineFault, Notice, Refusal, ScriptLine, read_line};
+use script_lines::{Change, LineFault, Notice, Refusal, ScriptLine, push_refused, read_line};
 use std::alloc::Global;
 
 /// Writes a newline.

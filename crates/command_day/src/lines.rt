@@ -6,9 +6,9 @@ ghost use Rattle.adx_io.specs.TalkState.{place_of, state_of};
 ghost use Rattle.command_day.specs.Steps.{IsEndOf, PutsClosing, PutsLine, ScriptRan};
 ghost use Rattle.command_runs.specs.Meanings.{PutsEnd};
 ghost use Rattle.command_runs.specs.declared.outcome.Outcome.TheVariants.{Refused};
-ghost use Rattle.refusal_lines.specs.Refusals.{toolong_line};
-ghost use Rattle.script_day.specs.Clauses.{IsKept, OfLine};
-ghost use Rattle.script_day.specs.Script.{closing, cut_line, terms_by};
+ghost use Rattle.script_lines.specs.Refusals.{toolong_line};
+ghost use Rattle.history_runs.specs.Clauses.{IsKept, OfLine};
+ghost use Rattle.history_runs.specs.Script.{closing, cut_line, terms_by};
 
 use crate::answering::answer_line;
 use adx_desk::Desk;
@@ -16,9 +16,8 @@ use adx_io::{Disk, LineBuffer, Next, Sink, Source, Stop, Talk};
 use adx_units::OutOfMemory;
 use command_runs::{LINE_LIMIT, Outcome, put_end};
 use deal_floor::Roster;
-use desk_runs::push_books;
-use refusal_lines::{push_refusal, push_refused};
-use script_lines::Refusal;
+use desk_calls::push_books;
+use script_lines::{Refusal, push_refusal, push_refused};
 use std::alloc::Global;
 
 /// Writes the refusal of a last piece without a newline, unless it is empty.

@@ -22,7 +22,7 @@ use Rattle.deal_floor.specs.declared.fault.RosterFault.{RosterFault}
 use Rattle.deal_floor.specs.declared.roster.Roster.{Roster}
 use Rattle.script_lines.specs.Rosters.{IsRosterLine, RefusesRosterLine}
 use Rattle.script_lines.specs.declared.refusal.RosterRefusal.{RosterRefusal}
-use Rattle.tree_view.specs.Checks.{first_fault, judged_by}
+use Rattle.adx_json.specs.Checks.{first_fault, judged_by}
 use Rattle.command_gen.specs.Generated.{generated_line}
 
 -- a campaign of the line, by its cid and its budget

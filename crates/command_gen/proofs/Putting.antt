@@ -8,8 +8,8 @@ use Rattle.command_runs.specs.declared.outcome.Outcome.{Outcome}
 use Rattle.day_rules.specs.declared.entry.Entry.{Entry}
 use Rattle.deal_floor.specs.declared.roster.Roster.{Roster}
 use Rattle.history_runs.specs.Unopened.{unopened_end}
-use Rattle.script_day.specs.Output.{unopened_line}
-use Rattle.script_day.specs.Script.{terms_by}
+use Rattle.history_runs.specs.Output.{unopened_line}
+use Rattle.history_runs.specs.Script.{terms_by}
 use Rattle.command_gen.specs.GeneratedEnds.{EndsUntaken}
 use Rattle.command_gen.specs.Taking.{PutsOutput, PutsTable}
 

@@ -2,9 +2,9 @@
 use Rattle.std.proofs.Common.{◌≡◌, ◌≢◌, ℕ, suc, ◌+◌, ◌*◌, ◌<◌, ◌≤◌, ◌^◌, List, [], ◌∷◌, ◌++◌, length, Bool, true, false, ◌==◌, nat_lt, max, All, Option, Some, None, IfSome, slice_get, if◌then◌else◌, refl, sym, ap, ◌∙◌, subst, arith, length-append, append_assoc}
 use Rattle.std.specs.List.{flat_map, sum_by}
 use Rattle.std.proofs.lemmas.List.Elements.{All-nil, All-cons, All-head, All-tail}
-use Rattle.notice_batches.specs.Held.{longest_held, longest_record}
+use Rattle.day_machine.specs.Held.{longest_held, longest_record}
 use Rattle.adx_desk.specs.Histories.{DeskTerms, longest_size}
-use Rattle.notice_batches.proofs.Holding.{held_ask, held_falls}
+use Rattle.day_machine.proofs.Holding.{held_ask, held_falls}
 use Rattle.answer_lines.specs.declared.faults.Fault.{Fault}
 use Rattle.day_journal.specs.Places.{head, open_place}
 use Rattle.day_journal.specs.declared.start.TheConstants.{NEW_FORMAT}
@@ -31,9 +31,9 @@ use Rattle.day_rules.specs.Terms.{AreTerms, Terms}
 use Rattle.day_rules.proofs.Following.{call_follows}
 use Rattle.day_rules.proofs.Histories.{legal_none}
 use Rattle.day_rules.proofs.Running.{run_legal}
-use Rattle.desk_runs.specs.Courses.{HasNoDiskFault}
-use Rattle.desk_runs.specs.Meanings.{AreDone, Told, outcome_by, turn_of, turns_of}
-use Rattle.desk_runs.specs.OnDisk.{FullEach, FullOnly, history_after}
+use Rattle.desk_calls.specs.Courses.{HasNoDiskFault}
+use Rattle.desk_calls.specs.Meanings.{AreDone, Told, outcome_by, turn_of, turns_of}
+use Rattle.desk_calls.specs.OnDisk.{FullEach, FullOnly, history_after}
 use Rattle.command_gen.specs.Generated.{ask_by}
 use Rattle.command_gen.specs.declared.generator.TheConstants.{MOST_ASKS}
 use Rattle.command_gen.proofs.Weight.{ask_adds, weight, weight_more}

@@ -11,16 +11,16 @@ use Rattle.day_rules.specs.Terms.{Terms}
 use Rattle.deal_floor.specs.declared.roster.Roster.{Roster}
 use Rattle.notice_book.specs.declared.kind.NoticeKind.{NoticeKind}
 use Rattle.script_lines.specs.Rosters.{IsRosterLine}
-use Rattle.desk_runs.specs.Answering.{DeskRuns}
-use Rattle.desk_runs.specs.Courses.{HasNoDiskFault}
-use Rattle.desk_runs.specs.Meanings.{Told, turns_of}
-use Rattle.desk_runs.specs.OnDisk.{FullEach, history_after}
-use Rattle.script_day.specs.Script.{terms_by}
+use Rattle.desk_calls.specs.Answering.{DeskRuns}
+use Rattle.desk_calls.specs.Courses.{HasNoDiskFault}
+use Rattle.desk_calls.specs.Meanings.{Told, turns_of}
+use Rattle.desk_calls.specs.OnDisk.{FullEach, history_after}
+use Rattle.history_runs.specs.Script.{terms_by}
 use Rattle.command_gen.specs.Generated.{AreFrom, AreOfAsk, AreOfDay, generated_history, generated_line, notices_behind, notices_by, ticks_behind, word_at}
 use Rattle.command_gen.specs.Taking.{calls_of}
 use Rattle.command_gen.specs.declared.generator.TheConstants.{MOST_ASKS}
 use Rattle.command_gen.proofs.DayCalls.{all_done}
-use Rattle.script_day.proofs.Rosters.{roster_terms}
+use Rattle.history_runs.proofs.Rosters.{roster_terms}
 use Rattle.command_gen.proofs.Line.{digest_long}
 use Rattle.command_gen.proofs.Room.{IsOfDay, all_are_done}
 

@@ -11,7 +11,7 @@ use Rattle.allocator_core.proofs.Settled.{length-settled}
 use Rattle.allocator_core.specs.Choice.{Standing, decided, reason_at, settled_offers}
 use Rattle.allocator_core.specs.declared.reason.TheConstants.{AWARDED}
 use Rattle.formats.proofs.Lengths.{few_long, groups_most}
-use Rattle.notice_batches.specs.Held.{longest_held, longest_record}
+use Rattle.day_machine.specs.Held.{longest_held, longest_record}
 use Rattle.day_entries.specs.Entries.{all_kept, ask, entry, imps, kept, name, offer, offers, text}
 use Rattle.day_entries.specs.Numbers.{long, numbers_of, short, small, wide}
 use Rattle.day_rules.specs.declared.ask.Ask.{Ask}

@@ -10,12 +10,12 @@ use Rattle.command_runs.specs.Meanings.{TookPrefix}
 use Rattle.command_runs.specs.declared.outcome.Outcome.{Outcome}
 use Rattle.day_rules.specs.declared.entry.Entry.{Entry}
 use Rattle.deal_floor.specs.declared.roster.Roster.{Roster}
-use Rattle.desk_runs.specs.Courses.{Course, HasNoDiskFault, given_up, served, unopened}
-use Rattle.desk_runs.specs.Meanings.{Told}
-use Rattle.desk_runs.specs.OnDisk.{CourseOn, history_after}
+use Rattle.desk_calls.specs.Courses.{Course, HasNoDiskFault, given_up, served, unopened}
+use Rattle.desk_calls.specs.Meanings.{Told}
+use Rattle.desk_calls.specs.OnDisk.{CourseOn, history_after}
 use Rattle.history_runs.specs.Unopened.{unopened_end}
-use Rattle.script_day.specs.Output.{unopened_line}
-use Rattle.script_day.specs.Script.{terms_by}
+use Rattle.history_runs.specs.Output.{unopened_line}
+use Rattle.history_runs.specs.Script.{terms_by}
 use Rattle.script_lines.specs.Rosters.{IsRosterLine}
 use Rattle.command_gen.specs.Generated.{AreOfDay, BeginDay, generated_history, generated_line}
 

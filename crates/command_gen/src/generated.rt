@@ -19,9 +19,8 @@ use adx_desk::{Desk, DeskFault};
 use adx_io::{Disk, Sink, Stop, put_all};
 use command_runs::Outcome;
 use deal_floor::Roster;
-use desk_runs::push_books;
-use history_runs::unopened_outcome;
-use script_day::push_unopened;
+use desk_calls::push_books;
+use history_runs::{push_unopened, unopened_outcome};
 use std::alloc::Global;
 
 /// Puts the output into the sink.

@@ -1,9 +1,10 @@
 //! The command that generates a day.
 //!
-//! `run_generated` takes the calls of a generated day on a desk over a disk, and puts its closing table into a sink. The
-//! calls are a list over the words of a seed, that no loop defines. How it ends stands in `specs/GeneratedEnds`.
-//! Stands on `command_runs` for how a run ends, on `adx_desk` for the day, on `desk_runs` for its calls, on `script_lines`
-//! for the roster's line, and on the kit's `rand_xoshiro`. It reads nothing, and knows no words of a command.
+//! `run_generated` takes the calls of a generated day on a desk over a disk, and puts its closing table into a sink.
+//! The calls are a list over the words of a seed, that no loop defines. How it ends stands in `specs/GeneratedEnds`. It
+//! reads nothing, and knows no words of a command.
+//!
+//! Stands on `history_runs` for the day, and on `rand_xoshiro` for the numbers.
 #![tactic(auto)]
 
 mod asks;

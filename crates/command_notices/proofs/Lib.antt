@@ -1,2 +1,4 @@
 pub mod MoreLines
 pub mod Posted
+mod Tried
+mod Ended

@@ -1,1 +1,4 @@
 pub mod PostLines
+pub mod Rosters
+pub mod Statuses
+pub mod Posting

@@ -9,6 +9,7 @@ use Rattle.outbox.specs.declared.post.Post.{Post}
 use Rattle.outbox.specs.declared.post.PostKind.{PostKind}
 
 -- the word of a kind: the member of a bid whose URL the post is (OpenRTB 2.6, Bid)
+-- Example: a day whose one award was billed prints `burl http://n.example/bill`.
 abbrev pub kind_word : PostKind → List ℕ
 kind_word PostKind.Nurl = codes "nurl"
 kind_word PostKind.Burl = codes "burl"

@@ -9,7 +9,7 @@ use Rattle.command_reconcile.specs.Reconciling.{LeavesDisk, reconciling}
 use Rattle.command_reconcile.specs.Runs.{RunsReconciliation, reconcile_command}
 use Rattle.command_runs.specs.Firsts.{LeavesFirst, by_first}
 use Rattle.command_runs.specs.Runs.{Runs}
-use Rattle.command_runs.specs.declared.limits.TheConstants.{INPUT_LIMIT}
+use Rattle.command_runs.specs.Limits.{input_limit}
 use Rattle.command_runs.specs.declared.outcome.Outcome.{Outcome}
 use Rattle.day_rules.specs.declared.entry.Entry.{Entry}
 use Rattle.deal_floor.specs.declared.roster.Roster.{Roster}
@@ -26,7 +26,7 @@ module _ {S K D L : Type 0} (s : source.Ghosts S) (k : sink.Ghosts K) (d : disk.
   pub ran_so : (c : Option Named) (name : List ℕ) (before now : L) (disk_old disk_new : D) (old new : S) (sink_old sink_new : K) (result : Result Outcome Stop)
       → name_of before ≡ name → disk_of before ≡ disk_old → disk_of now ≡ disk_new
       → LeavesFirst leaves before now c result
-      → Runs s k (by_first roster_heads INPUT_LIMIT (λ r allowed (p : List ℕ × Result (List Entry) DeskFault). reconciling p.0 r allowed p.1) c) old new sink_old sink_new result
+      → Runs s k (by_first roster_heads input_limit (λ r allowed (p : List ℕ × Result (List Entry) DeskFault). reconciling p.0 r allowed p.1) c) old new sink_old sink_new result
       → RunsReconciliation s k d name old new sink_old sink_new disk_old disk_new result
   ran_so None name before now disk_old disk_new old new sink_old sink_new result is first last left runs = record {
     course = None;

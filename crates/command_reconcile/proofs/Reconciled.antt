@@ -6,8 +6,8 @@ use Rattle.adx_io.specs.Streams.{Tape, WhereTold}
 use Rattle.adx_io.specs.declared.line_buffer.TheConstants.{CHUNK}
 use Rattle.adx_io.specs.declared.stop.Stop.{Stop}
 use Rattle.adx_desk.specs.declared.fault.DeskFault.{DeskFault}
-use Rattle.bill_differences.specs.Differences.{IsReconciliation}
-use Rattle.bill_differences.specs.declared.bill.Bill.{Bill}
+use Rattle.command_reconcile.specs.Differences.{IsReconciliation}
+use Rattle.command_reconcile.specs.declared.bill.Bill.{Bill}
 use Rattle.command_reconcile.specs.Reading.{PutsReconciliation, ReadsLedger}
 use Rattle.command_reconcile.specs.Reconciling.{EndsLedger, Ending, EndsDay, EndsOpened, EndsRead, at_end, no_bidder_line, no_row_line}
 use Rattle.command_reconcile.specs.DayBills.{day_bills}
@@ -18,7 +18,7 @@ use Rattle.day_rules.specs.declared.entry.Entry.{Entry}
 use Rattle.deal_floor.specs.declared.roster.Roster.{Roster}
 use Rattle.history_runs.specs.Unopened.{PutsUnopened, unopened_end}
 use Rattle.history_runs.proofs.Unopened.{unopened_by}
-use Rattle.script_day.specs.Output.{unopened_line}
+use Rattle.history_runs.specs.Output.{unopened_line}
 
 module _ (allowed : ℕ) (ends : Ending) (held held_now : Option (List ℕ)) where
   -- what is written at the end was put, or a prefix of it

@@ -25,7 +25,7 @@ use Rattle.command_reconcile.specs.Rows.{HasTexts, TellsTree, kind_at, kind_name
 use Rattle.command_reconcile.proofs.RowLines.{row_ended, row_json}
 use Rattle.formats.proofs.Decimals.{decimal_is_whole, decimal_value}
 use Rattle.notice_book.specs.declared.kind.NoticeKind.{NoticeKind}
-use Rattle.tree_view.specs.Walks.{members_by}
+use Rattle.adx_json.specs.Walks.{members_by}
 
 -- the members of a tree as a list
 abbrev listed : Members → List (List ℕ × Tree)

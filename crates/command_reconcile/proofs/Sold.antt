@@ -8,7 +8,7 @@ use Rattle.std.proofs.lemmas.List.Concat.{flat_map-append}
 use Rattle.std.proofs.lemmas.List.Elements.{filter_map-append}
 use Rattle.std.proofs.lemmas.Option.{slice_get-map}
 use Rattle.adx_units.specs.declared.offer.Offer.{Offer}
-use Rattle.bill_differences.specs.declared.bill.Bill.{Bill}
+use Rattle.command_reconcile.specs.declared.bill.Bill.{Bill}
 use Rattle.command_reconcile.specs.DayBills.{billed_award, day_bills, entry_bill, owed_bill}
 use Rattle.command_reconcile.specs.Sales.{is_sold, owed_sale, sale_bill, sale_by, sale_of, sold, sold_at, sold_by, sold_for, sold_of}
 use Rattle.command_reconcile.specs.declared.day_bills.Sale.{Sale}

@@ -9,13 +9,14 @@ use Rattle.adx_units.specs.declared.price.TheConstants.{PRICE_LIMIT}
 use Rattle.bidder_core.specs.Ledger.{is_kind}
 use Rattle.bidder_core.specs.declared.ledger.LedgerRow.{LedgerRow}
 use Rattle.bidder_http.specs.Books.{ledger_line, ledger_text}
-use Rattle.bill_differences.specs.declared.bill.Bill.{Bill}
+use Rattle.command_reconcile.specs.declared.bill.Bill.{Bill}
 use Rattle.command_runs.specs.Firsts.{IsAhead}
-use Rattle.command_runs.specs.declared.limits.TheConstants.{INPUT_LIMIT}
+use Rattle.command_runs.specs.Limits.{input_limit}
 use Rattle.notice_book.specs.declared.kind.NoticeKind.{NoticeKind}
 
 -- A row that a line may tell: its auction is a name of 1 to 128 bytes, its texts are UTF-8, and its price is at most the
 -- greatest price.
+-- Example: `{"auction":"a1","bid":"0-0","kind":"win","price":5}` is a row without a bill.
 pub record IsRow (row : LedgerRow) : Type 0 where
   pub sized : IsSized row.auction
   pub auction_utf8 : IsUtf8 row.auction
@@ -50,7 +51,7 @@ pub record IsLedger (allowed : ℕ) (taken left : List ℕ) (rows : List LedgerR
 -- and one byte more was taken.
 abbrev pub HasNoRow : ℕ → List ℕ → List ℕ → Type 0
 HasNoRow room behind left =
-    ((line : List ℕ) × HasNoNewline line × (TellsNoRow line ⊎ (INPUT_LIMIT < length line)) × IsAhead (ended line) behind)
+    ((line : List ℕ) × HasNoNewline line × (TellsNoRow line ⊎ (input_limit < length line)) × IsAhead (ended line) behind)
     ⊎ ((HasNoNewline behind × (behind ≢ []) × (length behind ≤ room) × (left ≡ []))
     ⊎ ((line : List ℕ) × (more : ℕ) × HasNoNewline line × (length line ≡ room) × (behind ≡ line ++ more ∷ [])))
 

@@ -5,3 +5,6 @@ pub mod Runs
 pub mod Sales
 pub mod Rows
 pub mod Reading
+pub mod Agreements
+pub mod Differences
+pub mod Walks

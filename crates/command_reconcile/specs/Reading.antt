@@ -7,21 +7,21 @@ use Rattle.adx_io.specs.Talk.{Reads, TalkState}
 use Rattle.adx_io.specs.declared.stop.Stop.{Stop}
 use Rattle.bidder_core.specs.declared.ledger.LedgerRow.{LedgerRow}
 use Rattle.bidder_http.specs.Books.{ledger_text}
-use Rattle.bill_differences.specs.Differences.{IsReconciliation}
-use Rattle.bill_differences.specs.declared.bill.Bill.{Bill}
+use Rattle.command_reconcile.specs.Differences.{IsReconciliation}
+use Rattle.command_reconcile.specs.declared.bill.Bill.{Bill}
 use Rattle.command_reconcile.specs.Ledgers.{FailsAt, IsLedger, IsRow, IsRowLine, TellsNoRow, ledger_bills, row_bill}
 use Rattle.command_runs.specs.Meanings.{PutsEnd}
 use Rattle.command_runs.specs.declared.outcome.Outcome.{Outcome}
-use Rattle.command_runs.specs.declared.limits.TheConstants.{INPUT_LIMIT}
+use Rattle.command_runs.specs.Limits.{input_limit}
 
 -- a line tells a row, whose bill was added; or it tells none, or is longer than an input may be
 abbrev pub TakesRow : List Bill → List Bill → Bool → List ℕ → Type 0
 TakesRow old new true line = (row : LedgerRow) × IsRowLine line row × (new ≡ old ++ cons_option (row_bill row) [])
-TakesRow old new false line = (TellsNoRow line ⊎ (INPUT_LIMIT < length line)) × (new ≡ old)
+TakesRow old new false line = (TellsNoRow line ⊎ (input_limit < length line)) × (new ≡ old)
 
 -- so it is of the line that a buffer keeps
 abbrev pub OfKept : Bool → List ℕ → (List ℕ → Type 0) → Type 0
-OfKept overlong kept P = (line : List ℕ) → Keeps INPUT_LIMIT overlong kept line → P line
+OfKept overlong kept P = (line : List ℕ) → Keeps input_limit overlong kept line → P line
 
 -- whether a last piece is there, by the number of its line
 abbrev pub IsLastPiece : ℕ → Option ℕ → List ℕ → Type 0

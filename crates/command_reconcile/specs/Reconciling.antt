@@ -9,8 +9,8 @@ use Rattle.adx_io.specs.declared.disk.Disk as disk
 use Rattle.adx_io.specs.declared.line_buffer.TheConstants.{CHUNK}
 use Rattle.adx_io.specs.declared.stop.Stop.{Stop}
 use Rattle.bidder_core.specs.declared.ledger.LedgerRow.{LedgerRow}
-use Rattle.bill_differences.specs.Differences.{IsReconciliation}
-use Rattle.bill_differences.specs.declared.bill.Bill.{Bill}
+use Rattle.command_reconcile.specs.Differences.{IsReconciliation}
+use Rattle.command_reconcile.specs.declared.bill.Bill.{Bill}
 use Rattle.command_reconcile.specs.DayBills.{day_bills, place_named}
 use Rattle.command_reconcile.specs.Ledgers.{FailsAt, IsLedger, ledger_bills}
 use Rattle.command_runs.specs.Meanings.{Meaning}
@@ -19,12 +19,13 @@ use Rattle.day_rules.specs.declared.entry.Entry.{Entry}
 use Rattle.deal_floor.specs.declared.roster.Roster.{Roster}
 use Rattle.history_runs.specs.Histories.{KeepsHistory}
 use Rattle.history_runs.specs.Unopened.{GivesUpBy, unopened_end}
-use Rattle.script_day.specs.Output.{unopened_line}
+use Rattle.history_runs.specs.Output.{unopened_line}
 
 -- the lines of what is refused
 abbrev pub no_bidder_line : List ℕ
 no_bidder_line = codes "{\"answer\":\"bidder\"}\n"
 
+-- the line that says that line n isn't one of a ledger
 abbrev pub no_row_line : ℕ → List ℕ
 no_row_line n = codes "{\"answer\":\"ledger\",\"line\":" ++ decimal n ++ codes "}\n"
 

@@ -12,7 +12,7 @@ use Rattle.bidder_core.specs.declared.ledger.LedgerRow.{LedgerRow}
 use Rattle.bidder_http.specs.Books.{kind_text}
 use Rattle.command_reconcile.specs.Ledgers.{IsRow}
 use Rattle.notice_book.specs.declared.kind.NoticeKind.{NoticeKind}
-use Rattle.tree_view.specs.Values.{number_in, text_in}
+use Rattle.adx_json.specs.Values.{number_in, text_in}
 
 -- the two texts of a row, and what is told behind them
 abbrev pub row_head : List ℕ → List ℕ → List ℕ

@@ -9,7 +9,7 @@ use Rattle.command_reconcile.specs.Reconciling.{LeavesDisk, reconciling}
 use Rattle.command_runs.specs.Firsts.{LeavesFirst, by_first}
 use Rattle.command_runs.specs.Meanings.{Meaning}
 use Rattle.command_runs.specs.Runs.{Runs}
-use Rattle.command_runs.specs.declared.limits.TheConstants.{INPUT_LIMIT}
+use Rattle.command_runs.specs.Limits.{input_limit}
 use Rattle.command_runs.specs.declared.outcome.Outcome.{Outcome}
 use Rattle.day_rules.specs.declared.entry.Entry.{Entry}
 use Rattle.deal_floor.specs.declared.roster.Roster.{Roster}
@@ -21,7 +21,7 @@ Course = Option (Roster × Result (List Entry) DeskFault)
 
 -- what the command means for the bidder with that name
 abbrev pub reconcile_command : List ℕ → Course → Meaning
-reconcile_command name = by_first roster_heads INPUT_LIMIT (reconciling name)
+reconcile_command name = by_first roster_heads input_limit (reconciling name)
 
 -- the command ran so
 pub record RunsReconciliation {S K D : Type 0} (s : source.Ghosts S) (k : sink.Ghosts K) (d : disk.Ghosts D)

@@ -4,7 +4,7 @@ use Rattle.std.specs.List.{enumerate_from, flat_map, range_with_len}
 use Rattle.std.specs.Option.{option_map_or}
 use Rattle.adx_units.specs.declared.offer.Offer.{Offer}
 use Rattle.allocator_core.specs.declared.reason.TheConstants.{AWARDED}
-use Rattle.bill_differences.specs.declared.bill.Bill.{Bill}
+use Rattle.command_reconcile.specs.declared.bill.Bill.{Bill}
 use Rattle.command_reconcile.specs.DayBills.{billed_award, is_of_bidder}
 use Rattle.command_reconcile.specs.declared.day_bills.Sale.{Sale}
 use Rattle.day_rules.specs.Books.{ask_at}

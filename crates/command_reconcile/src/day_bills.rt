@@ -4,9 +4,9 @@ ghost use Rattle.std.specs.List.{cons_option};
 ghost use Rattle.command_reconcile.specs.DayBills.{day_bills as day_bills_of, is_of_bidder as is_of_bidder_by, place_named as place_named_by};
 ghost use Rattle.command_reconcile.specs.Sales.{is_sold as is_sold_by, owed_sale, sale_bill, sale_by, sold, sold_at, sold_by, sold_for, sold_of};
 
+use crate::bill::Bill;
 use adx_units::{Offer, OutOfMemory, Units};
 use allocator_core::AWARDED;
-use bill_differences::Bill;
 use day_rules::{Ask, Entry};
 use deal_floor::{Campaign, Place};
 use std::alloc::Global;

@@ -9,11 +9,11 @@ ghost use Rattle.adx_io.specs.declared.line_buffer.TheConstants.{CHUNK};
 ghost use Rattle.command_reconcile.specs.Ledgers.{row_bill};
 ghost use Rattle.command_reconcile.specs.Reading.{IsLastPiece, OfKept, ReadsLedger, TakesRow};
 
+use crate::bill::Bill;
 use crate::row::row_of;
 use adx_io::{LineBuffer, Next, Sink, Source, Stop, Talk};
 use adx_units::OutOfMemory;
 use bidder_core::LedgerRow;
-use bill_differences::Bill;
 use command_runs::INPUT_LIMIT;
 use notice_book::NoticeKind;
 use std::alloc::Global;

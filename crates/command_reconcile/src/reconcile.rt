@@ -12,13 +12,14 @@ ghost use Rattle.command_runs.specs.Talks.{TalkWrote};
 ghost use Rattle.command_runs.specs.declared.outcome.Outcome.TheVariants.{Refused};
 ghost use Rattle.day_rules.specs.declared.entry.Entry.{Entry as EntryValue};
 
+use crate::bill::Bill;
 use crate::day_bills::{day_bills, place_named};
 use crate::ledger::read_ledger;
+use crate::walk::push_reconciliation;
 use adx_desk::Desk;
 use adx_io::{Disk, Sink, Source, Stop, Talk};
 use adx_json::push_number;
 use adx_units::OutOfMemory;
-use bill_differences::{Bill, push_reconciliation};
 use command_runs::{Led, NoLine, Outcome, put_end, run_led};
 use day_rules::Entry;
 use deal_floor::Roster;

@@ -12,7 +12,7 @@ use Rattle.adx_io.specs.declared.talk.Next.{Next}
 use Rattle.adx_io.proofs.Moved.{took_both, took_none}
 use Rattle.command_runs.specs.Meanings.{PutsEnd, Wrote}
 use Rattle.command_runs.specs.Scripts.{Answered, Answering, Answers, Closes, PutsAnswer, PutsClosing, script}
-use Rattle.command_runs.specs.declared.limits.TheConstants.{LINE_LIMIT}
+use Rattle.command_runs.specs.Limits.{line_limit}
 use Rattle.command_runs.specs.declared.outcome.Outcome.{Outcome}
 use Rattle.command_runs.proofs.Told.{told_behind, told_start, told_then}
 
@@ -75,10 +75,10 @@ module _ {A : Type 0} (a : Answering A) where
       Runs = RunsLines s first before mid state number
 
       -- one more line was answered and its answer put
-      pub lines_go_on : (read last : TalkState) (now : A) → WhereTold mid.tape read.tape (ReadsNext LINE_LIMIT mid read (Ok Next.Line)) → read.held ≡ mid.held → last.tape ≡ read.tape → last.allowed ≡ read.allowed
-          → PutsAnswer a state now number (Keeps LINE_LIMIT read.overlong read.line) read.held last.held (Ok tt) → WhereTold before.tape last.tape (RunsLines s first before last now (number + 1))
+      pub lines_go_on : (read last : TalkState) (now : A) → WhereTold mid.tape read.tape (ReadsNext line_limit mid read (Ok Next.Line)) → read.held ≡ mid.held → last.tape ≡ read.tape → last.allowed ≡ read.allowed
+          → PutsAnswer a state now number (Keeps line_limit read.overlong read.line) read.held last.held (Ok tt) → WhereTold before.tape last.tape (RunsLines s first before last now (number + 1))
       lines_go_on read last now next same tape allowed (out, answers, took) = subst (λ t. WhereTold before.tape t (RunsLines s first before last now (number + 1))) (sym tape)
-          (told_then before.tape mid.tape read.tape Runs (ReadsNext LINE_LIMIT mid read (Ok Next.Line)) (RunsLines s first before last now (number + 1)) running next (λ x y z r n. record {
+          (told_then before.tape mid.tape read.tape Runs (ReadsNext line_limit mid read (Ok Next.Line)) (RunsLines s first before last now (number + 1)) running next (λ x y z r n. record {
             bytes = r.bytes ++ ended n.0;
             put = r.put ++ out;
             answered = answered_more s first r.bytes r.put state number n.0 out now r.answered n.1.no_newline (answers n.0 n.1.keeps);
@@ -98,9 +98,9 @@ module _ {A : Type 0} (a : Answering A) where
         none put first_took unput = subst (λ h. Took before.held h put) (sym (unput ∙ same)) first_took
 
         -- the run was cut short while a line's answer was put, or written
-        pub lines_cut : (now : A) (stop : Stop) → WhereTold mid.tape (tape_behind pending told) (ReadsNext LINE_LIMIT mid read (Ok Next.Line)) → PutsAnswer a state now number (Keeps LINE_LIMIT read.overlong read.line) read.held held_now (Err stop) → Ends now (Err stop)
+        pub lines_cut : (now : A) (stop : Stop) → WhereTold mid.tape (tape_behind pending told) (ReadsNext line_limit mid read (Ok Next.Line)) → PutsAnswer a state now number (Keeps line_limit read.overlong read.line) read.held held_now (Err stop) → Ends now (Err stop)
         lines_cut now Stop.ReadFault next puts = absurd puts
-        lines_cut now Stop.WriteFault next (out, answers, front) = told_behind before.tape mid.tape pending told Runs (ReadsNext LINE_LIMIT mid read (Ok Next.Line)) _ running next (λ x y z r n. (
+        lines_cut now Stop.WriteFault next (out, answers, front) = told_behind before.tape mid.tape pending told Runs (ReadsNext line_limit mid read (Ok Next.Line)) _ running next (λ x y z r n. (
           (r.bytes ++ ended n.0) ++ pending,
           r.put,
           out,
@@ -111,7 +111,7 @@ module _ {A : Type 0} (a : Answering A) where
           front.2,
           all r.put front.0 r.took front.3,
         ))
-        lines_cut now Stop.OutOfMemory next (gives_up, unput) = told_behind before.tape mid.tape pending told Runs (ReadsNext LINE_LIMIT mid read (Ok Next.Line)) _ running next (λ x y z r n. (
+        lines_cut now Stop.OutOfMemory next (gives_up, unput) = told_behind before.tape mid.tape pending told Runs (ReadsNext line_limit mid read (Ok Next.Line)) _ running next (λ x y z r n. (
           (r.bytes ++ ended n.0) ++ pending,
           r.put,
           [],
@@ -151,30 +151,30 @@ module _ {A : Type 0} (a : Answering A) where
           subst (Took before.held held_now) (sym (append-nil put)) (none put took unput),
         )
 
-        pub lines_closed : (result : Result Outcome Stop) → pending ≡ [] → WhereTold mid.tape (tape_behind pending told) (ReadsNext LINE_LIMIT mid read (Ok Next.End)) → PutsClosing a state number (Keeps LINE_LIMIT read.overlong read.line) read.held held_now result → Ends state result
-        lines_closed result looked next (inl (outcome, out, closes, puts)) = told_behind before.tape mid.tape pending told Runs (ReadsNext LINE_LIMIT mid read (Ok Next.End)) _ running next (λ x y z r n.
+        pub lines_closed : (result : Result Outcome Stop) → pending ≡ [] → WhereTold mid.tape (tape_behind pending told) (ReadsNext line_limit mid read (Ok Next.End)) → PutsClosing a state number (Keeps line_limit read.overlong read.line) read.held held_now result → Ends state result
+        lines_closed result looked next (inl (outcome, out, closes, puts)) = told_behind before.tape mid.tape pending told Runs (ReadsNext line_limit mid read (Ok Next.End)) _ running next (λ x y z r n.
             let ends : z.left ≡ [] = ap (λ (p : List ℕ). p ++ z.left) (sym looked) ∙ n.3 in
             ended_so result x.left r.bytes n.0 r.put (r.bytes ++ n.0) z.left out outcome r.answered n.1.no_newline
             (behind x y r.bytes n.0 z.left r.reads.next (n.2.next ∙ ap (λ (p : List ℕ). n.0 ++ (p ++ z.left)) looked))
             (inl (ends, refl, omega (arith, r.reads.counted, n.2.counted, length-append r.bytes n.0), closes n.0 n.1.keeps)) r.took puts)
-        lines_closed result looked next (inr (is, unput)) = subst (Ends state) (sym is) (told_behind before.tape mid.tape pending told Runs (ReadsNext LINE_LIMIT mid read (Ok Next.End)) _ running next (λ x y z r n.
+        lines_closed result looked next (inr (is, unput)) = subst (Ends state) (sym is) (told_behind before.tape mid.tape pending told Runs (ReadsNext line_limit mid read (Ok Next.End)) _ running next (λ x y z r n.
             cut_so x.left r.bytes n.0 r.put z.left r.answered n.1.no_newline (omega (arith, r.reads.counted, n.2.counted, length-append r.bytes n.0)) (behind x y r.bytes n.0 (pending ++ z.left) r.reads.next n.2.next) r.took unput))
 
-        pub lines_past : (result : Result Outcome Stop) → pending ≡ [] → WhereTold mid.tape (tape_behind pending told) (ReadsNext LINE_LIMIT mid read (Ok Next.PastLimit)) → PutsEnd Outcome.Refused read.held held_now (a.passes number) result → Ends state result
-        lines_past result looked next puts = told_behind before.tape mid.tape pending told Runs (ReadsNext LINE_LIMIT mid read (Ok Next.PastLimit)) _ running next (λ x y z r n.
+        pub lines_past : (result : Result Outcome Stop) → pending ≡ [] → WhereTold mid.tape (tape_behind pending told) (ReadsNext line_limit mid read (Ok Next.PastLimit)) → PutsEnd Outcome.Refused read.held held_now (a.passes number) result → Ends state result
+        lines_past result looked next puts = told_behind before.tape mid.tape pending told Runs (ReadsNext line_limit mid read (Ok Next.PastLimit)) _ running next (λ x y z r n.
             ended_so result x.left r.bytes n.0 r.put ((r.bytes ++ n.0) ++ n.1 ∷ []) z.left (a.passes number) Outcome.Refused r.answered n.2
             (behind x y r.bytes n.0 (n.1 ∷ z.left) r.reads.next (n.3 ∙ ap (λ (p : List ℕ). n.0 ++ n.1 ∷ (p ++ z.left)) looked) ∙ sym (append_assoc (r.bytes ++ n.0) (n.1 ∷ []) z.left))
             (inr (n.1, refl, omega (arith, r.reads.counted, n.4, length-append r.bytes n.0), refl, refl)) r.took puts)
 
-        pub lines_stopped : (stop : Stop) → (stop ≢ Stop.OutOfMemory → pending ≡ []) → WhereTold mid.tape (tape_behind pending told) (ReadsNext LINE_LIMIT mid read (Err stop)) → held_now ≡ read.held → Ends state (Err stop)
-        lines_stopped Stop.ReadFault looked next unput = told_behind before.tape mid.tape pending told Runs (ReadsNext LINE_LIMIT mid read (Err Stop.ReadFault)) _ running next (λ x y z r n. (
+        pub lines_stopped : (stop : Stop) → (stop ≢ Stop.OutOfMemory → pending ≡ []) → WhereTold mid.tape (tape_behind pending told) (ReadsNext line_limit mid read (Err stop)) → held_now ≡ read.held → Ends state (Err stop)
+        lines_stopped Stop.ReadFault looked next unput = told_behind before.tape mid.tape pending told Runs (ReadsNext line_limit mid read (Err Stop.ReadFault)) _ running next (λ x y z r n. (
           r.bytes ++ n.0,
           r.put,
           behind x y r.bytes n.0 z.left r.reads.next (n.2.next ∙ ap (λ (p : List ℕ). n.0 ++ (p ++ z.left)) (looked (λ e. cc e))),
           (r.bytes, n.0, number, r.answered, n.1, refl, omega (arith, r.reads.counted, n.2.counted, length-append r.bytes n.0)),
           none r.put r.took unput,
         ))
-        lines_stopped Stop.WriteFault looked next unput = told_behind before.tape mid.tape pending told Runs (ReadsNext LINE_LIMIT mid read (Err Stop.WriteFault)) _ running next (λ x y z r n.
+        lines_stopped Stop.WriteFault looked next unput = told_behind before.tape mid.tape pending told Runs (ReadsNext line_limit mid read (Err Stop.WriteFault)) _ running next (λ x y z r n.
             cut_so x.left r.bytes n.0 r.put z.left r.answered n.1 (omega (arith, r.reads.counted, n.2.counted, length-append r.bytes n.0)) (behind x y r.bytes n.0 (pending ++ z.left) r.reads.next n.2.next) r.took unput)
-        lines_stopped Stop.OutOfMemory looked next unput = told_behind before.tape mid.tape pending told Runs (ReadsNext LINE_LIMIT mid read (Err Stop.OutOfMemory)) _ running next (λ x y z r n.
+        lines_stopped Stop.OutOfMemory looked next unput = told_behind before.tape mid.tape pending told Runs (ReadsNext line_limit mid read (Err Stop.OutOfMemory)) _ running next (λ x y z r n.
             cut_so x.left r.bytes n.0 r.put z.left r.answered n.1 (omega (arith, r.reads.counted, n.2.counted, length-append r.bytes n.0)) (behind x y r.bytes n.0 (pending ++ z.left) r.reads.next n.2.next) r.took unput)

@@ -11,7 +11,7 @@ use Rattle.adx_io.proofs.Moved.{took_none}
 use Rattle.command_runs.specs.Firsts.{EndsHeadless, FindsFirst, HasNoLine, Heads, IsLackIn, IsRefused, IsUnanswered, headless, led}
 use Rattle.command_runs.specs.Meanings.{Meaning, PutsEnd, Wrote}
 use Rattle.command_runs.specs.declared.first.NoLine.{NoLine}
-use Rattle.command_runs.specs.declared.limits.TheConstants.{LINE_LIMIT}
+use Rattle.command_runs.specs.Limits.{line_limit}
 use Rattle.command_runs.specs.declared.outcome.Outcome.{Outcome}
 use Rattle.command_runs.proofs.Told.{told_source, told_then}
 
@@ -54,13 +54,13 @@ lacks_end limit NoLine.Long line left none few ends long = inr (inl (none, long,
 
 module _ {H : Type 0} (heads : Heads H) (limit : ℕ) where
   -- a line that was found to tell a head
-  pub found_led : (line before now : List ℕ) (h : H) → FindsFirst heads limit line before now (Some h) → (length line ≤ LINE_LIMIT) × heads.tells line h
+  pub found_led : (line before now : List ℕ) (h : H) → FindsFirst heads limit line before now (Some h) → (length line ≤ line_limit) × heads.tells line h
   found_led line before now h (inl found) = (found.0, found.1.0)
   found_led line before now h (inr found) = absurd (cc found.1)
 
   -- what was written behind a line that told a head
   module _ (h : H) (rest : ℕ → Meaning) (line : List ℕ) (allowed : ℕ) (input mid left : List ℕ) (held held_now : Option (List ℕ))
-      (none : HasNoNewline line) (short : length line ≤ LINE_LIMIT) (tells : heads.tells line h) (is : input ≡ ended line ++ mid) (counted : limit ≡ length (ended line) + allowed) where
+      (none : HasNoNewline line) (short : length line ≤ line_limit) (tells : heads.tells line h) (is : input ≡ ended line ++ mid) (counted : limit ≡ length (ended line) + allowed) where
     more : (taken : List ℕ) → mid ≡ taken ++ left → input ≡ (ended line ++ taken) ++ left
     more taken cut = is ∙ ap (λ m. ended line ++ m) cut ∙ sym (append_assoc (ended line) taken left)
 
@@ -101,17 +101,17 @@ module _ {H : Type 0} (heads : Heads H) (limit : ℕ) where
   module _ (before mid : TalkState) (whole : before.allowed ≡ limit) where
     -- a line, which told a head
     pub told_led : (h : H) (rest : ℕ → Meaning) (tape_now : Option Tape) (held_now : Option (List ℕ)) (result : Result Outcome Stop)
-        → WhereTold before.tape mid.tape (ReadsNext LINE_LIMIT before mid (Ok Next.Line)) → ((line : List ℕ) → Keeps LINE_LIMIT mid.overlong mid.line line → (length line ≤ LINE_LIMIT) × heads.tells line h)
+        → WhereTold before.tape mid.tape (ReadsNext line_limit before mid (Ok Next.Line)) → ((line : List ℕ) → Keeps line_limit mid.overlong mid.line line → (length line ≤ line_limit) × heads.tells line h)
         → WhereTold mid.tape tape_now (λ x y. Wrote (rest mid.allowed) x.left y.left before.held held_now result) → WhereTold before.tape tape_now (λ x y. Wrote (led heads limit h rest) x.left y.left before.held held_now result)
-    told_led h rest tape_now held_now result reads finds ran = told_then before.tape mid.tape tape_now (ReadsNext LINE_LIMIT before mid (Ok Next.Line)) _ _ reads ran (λ x y z r wrote.
+    told_led h rest tape_now held_now result reads finds ran = told_then before.tape mid.tape tape_now (ReadsNext line_limit before mid (Ok Next.Line)) _ _ reads ran (λ x y z r wrote.
         let found = finds r.0 r.1.keeps in
         led_wrote h rest r.0 mid.allowed x.left y.left z.left before.held held_now r.1.no_newline found.0 found.1 r.2.next (sym whole ∙ r.2.counted) result wrote)
 
     module _ (pending : List ℕ) (told : Option Tape) (held_now : Option (List ℕ)) (few : length pending ≤ CHUNK) where
       -- a line, which was refused
-      pub told_refused : (out : List ℕ) (result : Result Outcome Stop) → WhereTold before.tape (tape_behind pending told) (ReadsNext LINE_LIMIT before mid (Ok Next.Line)) → ((line : List ℕ) → Keeps LINE_LIMIT mid.overlong mid.line line → FindsFirst heads limit line [] out None)
+      pub told_refused : (out : List ℕ) (result : Result Outcome Stop) → WhereTold before.tape (tape_behind pending told) (ReadsNext line_limit before mid (Ok Next.Line)) → ((line : List ℕ) → Keeps line_limit mid.overlong mid.line line → FindsFirst heads limit line [] out None)
           → PutsEnd Outcome.Refused before.held held_now out result → WhereTold before.tape told (λ x y. Wrote (headless heads limit) x.left y.left before.held held_now result)
-      told_refused out result reads finds puts = told_source before.tape pending told (ReadsNext LINE_LIMIT before mid (Ok Next.Line)) _ reads (λ x z r.
+      told_refused out result reads finds puts = told_source before.tape pending told (ReadsNext line_limit before mid (Ok Next.Line)) _ reads (λ x z r.
           refused_wrote x.left (ended r.0 ++ pending) z.left out before.held held_now result (r.2.next ∙ sym (append_assoc (ended r.0) pending z.left))
           (found r.0 z.left r.1.no_newline (finds r.0 r.1.keeps)) puts)
         where
@@ -120,26 +120,26 @@ module _ {H : Type 0} (heads : Heads H) (limit : ℕ) where
           found line left none (inr f) = inr (NoLine.Long, inl (line, none, f.0, (pending, few, refl)), f.2)
 
       -- a line, and memory was refused
-      pub told_unanswered : length pending ≤ mid.allowed → WhereTold before.tape (tape_behind pending told) (ReadsNext LINE_LIMIT before mid (Ok Next.Line)) → held_now ≡ before.held → WhereTold before.tape told (λ x y. Wrote (headless heads limit) x.left y.left before.held held_now (Err Stop.OutOfMemory))
-      told_unanswered within reads same = told_source before.tape pending told (ReadsNext LINE_LIMIT before mid (Ok Next.Line)) _ reads (λ x z r.
+      pub told_unanswered : length pending ≤ mid.allowed → WhereTold before.tape (tape_behind pending told) (ReadsNext line_limit before mid (Ok Next.Line)) → held_now ≡ before.held → WhereTold before.tape told (λ x y. Wrote (headless heads limit) x.left y.left before.held held_now (Err Stop.OutOfMemory))
+      told_unanswered within reads same = told_source before.tape pending told (ReadsNext line_limit before mid (Ok Next.Line)) _ reads (λ x z r.
           unanswered_wrote x.left (ended r.0 ++ pending) z.left before.held held_now (r.2.next ∙ sym (append_assoc (ended r.0) pending z.left)) (r.0, r.1.no_newline, omega (arith, whole, r.2.counted, within, length-append (ended r.0) pending), inr (pending, few, refl)) same)
 
       -- no line
-      pub told_cut : (why : NoLine) (result : Result Outcome Stop) → pending ≡ [] → ((line : List ℕ) → Keeps LINE_LIMIT mid.overlong mid.line line → IsLackIn line why) → WhereTold before.tape (tape_behind pending told) (ReadsNext LINE_LIMIT before mid (Ok Next.End))
+      pub told_cut : (why : NoLine) (result : Result Outcome Stop) → pending ≡ [] → ((line : List ℕ) → Keeps line_limit mid.overlong mid.line line → IsLackIn line why) → WhereTold before.tape (tape_behind pending told) (ReadsNext line_limit before mid (Ok Next.End))
           → PutsEnd Outcome.Refused before.held held_now (heads.lacks why) result → WhereTold before.tape told (λ x y. Wrote (headless heads limit) x.left y.left before.held held_now result)
-      told_cut why result none lacks reads puts = told_source before.tape pending told (ReadsNext LINE_LIMIT before mid (Ok Next.End)) _ reads (λ x z r.
+      told_cut why result none lacks reads puts = told_source before.tape pending told (ReadsNext line_limit before mid (Ok Next.End)) _ reads (λ x z r.
           let ends : z.left ≡ [] = ap (λ (p : List ℕ). p ++ z.left) (sym none) ∙ r.3 in
           refused_wrote x.left r.0 z.left (heads.lacks why) before.held held_now result (r.2.next ∙ ap (λ (p : List ℕ). r.0 ++ (p ++ z.left)) none)
           (inr (why, lacks_end limit why r.0 z.left r.1.no_newline (omega (arith, whole, r.2.counted)) ends (lacks r.0 r.1.keeps), refl)) puts)
 
-      pub told_past : (result : Result Outcome Stop) → pending ≡ [] → WhereTold before.tape (tape_behind pending told) (ReadsNext LINE_LIMIT before mid (Ok Next.PastLimit))
+      pub told_past : (result : Result Outcome Stop) → pending ≡ [] → WhereTold before.tape (tape_behind pending told) (ReadsNext line_limit before mid (Ok Next.PastLimit))
           → PutsEnd Outcome.Refused before.held held_now (heads.lacks NoLine.Long) result → WhereTold before.tape told (λ x y. Wrote (headless heads limit) x.left y.left before.held held_now result)
-      told_past result none reads puts = told_source before.tape pending told (ReadsNext LINE_LIMIT before mid (Ok Next.PastLimit)) _ reads (λ x z r.
+      told_past result none reads puts = told_source before.tape pending told (ReadsNext line_limit before mid (Ok Next.PastLimit)) _ reads (λ x z r.
           refused_wrote x.left (r.0 ++ r.1 ∷ []) z.left (heads.lacks NoLine.Long) before.held held_now result
           (r.3 ∙ ap (λ (p : List ℕ). r.0 ++ r.1 ∷ (p ++ z.left)) none ∙ sym (append_assoc r.0 (r.1 ∷ []) z.left))
           (inr (NoLine.Long, inr (inr (r.0, r.1, r.2, r.4 ∙ whole, refl)), refl)) puts)
 
-      pub told_stopped : (stop : Stop) → length pending ≤ mid.allowed → (stop ≢ Stop.OutOfMemory → pending ≡ []) → WhereTold before.tape (tape_behind pending told) (ReadsNext LINE_LIMIT before mid (Err stop)) → held_now ≡ before.held
+      pub told_stopped : (stop : Stop) → length pending ≤ mid.allowed → (stop ≢ Stop.OutOfMemory → pending ≡ []) → WhereTold before.tape (tape_behind pending told) (ReadsNext line_limit before mid (Err stop)) → held_now ≡ before.held
           → WhereTold before.tape told (λ x y. Wrote (headless heads limit) x.left y.left before.held held_now (Err stop))
-      told_stopped stop within looked reads same = told_source before.tape pending told (ReadsNext LINE_LIMIT before mid (Err stop)) _ reads (λ x z r.
+      told_stopped stop within looked reads same = told_source before.tape pending told (ReadsNext line_limit before mid (Err stop)) _ reads (λ x z r.
           stopped_wrote stop x.left r.0 pending z.left before.held held_now r.2.next r.1 (omega (arith, whole, r.2.counted, within, length-append r.0 pending)) few looked same)

@@ -6,7 +6,7 @@ use Rattle.adx_io.specs.declared.line_buffer.TheConstants.{CHUNK}
 use Rattle.adx_io.specs.declared.stop.Stop.{Stop}
 use Rattle.command_runs.specs.Meanings.{Meaning}
 use Rattle.command_runs.specs.declared.first.NoLine.{NoLine}
-use Rattle.command_runs.specs.declared.limits.TheConstants.{LINE_LIMIT}
+use Rattle.command_runs.specs.Limits.{line_limit}
 use Rattle.command_runs.specs.declared.outcome.Outcome.{Outcome}
 
 -- This line was read, and at most one piece was taken behind it, which was not looked at.
@@ -17,10 +17,10 @@ IsAhead line taken = (ahead : List ℕ) × (length ahead ≤ CHUNK) × (taken �
 -- input; or a line is too long, be it with a newline, without one, or past the limit of the input, of which one byte more
 -- was taken.
 abbrev pub HasNoLine : ℕ → NoLine → List ℕ → List ℕ → Type 0
-HasNoLine limit NoLine.Cut taken left = HasNoNewline taken × (length taken ≤ LINE_LIMIT) × (length taken ≤ limit) × (left ≡ [])
+HasNoLine limit NoLine.Cut taken left = HasNoNewline taken × (length taken ≤ line_limit) × (length taken ≤ limit) × (left ≡ [])
 HasNoLine limit NoLine.Long taken left =
-    ((line : List ℕ) × HasNoNewline line × (LINE_LIMIT < length line) × IsAhead (ended line) taken)
-    ⊎ ((HasNoNewline taken × (LINE_LIMIT < length taken) × (length taken ≤ limit) × (left ≡ []))
+    ((line : List ℕ) × HasNoNewline line × (line_limit < length line) × IsAhead (ended line) taken)
+    ⊎ ((HasNoNewline taken × (line_limit < length taken) × (length taken ≤ limit) × (left ≡ []))
     ⊎ ((line : List ℕ) × (more : ℕ) × HasNoNewline line × (length line ≡ limit) × (taken ≡ line ++ more ∷ [])))
 
 -- What a first line tells its command: its head. What is written for a line that tells none, and where there is no line.
@@ -33,7 +33,7 @@ module _ {H : Type 0} (heads : Heads H) (limit : ℕ) where
   -- The first line was refused, so this was written.
   abbrev pub IsRefused : List ℕ → List ℕ → List ℕ → Type 0
   IsRefused taken left out =
-      ((line : List ℕ) × HasNoNewline line × (length line ≤ LINE_LIMIT) × heads.refuses line out × IsAhead (ended line) taken)
+      ((line : List ℕ) × HasNoNewline line × (length line ≤ line_limit) × heads.refuses line out × IsAhead (ended line) taken)
       ⊎ ((why : NoLine) × HasNoLine limit why taken left × (out ≡ heads.lacks why))
 
   -- Nothing but the first line, or a part of it, was read, and no more than a piece was taken behind that; all of it is
@@ -53,7 +53,7 @@ module _ {H : Type 0} (heads : Heads H) (limit : ℕ) where
   -- The first line told this head, and more was taken behind it, of which this holds where so many bytes may be read.
   abbrev pub AfterHead : H → (ℕ → List ℕ → Type 0) → List ℕ → Type 0
   AfterHead h Holds taken =
-      (line more : List ℕ) × HasNoNewline line × (length line ≤ LINE_LIMIT) × heads.tells line h
+      (line more : List ℕ) × HasNoNewline line × (length line ≤ line_limit) × heads.tells line h
       × (taken ≡ ended line ++ more) × Holds (limit - length (ended line)) more
 
   -- what a command means whose first line told this head, by what it means for what comes behind the line
@@ -77,8 +77,8 @@ module _ {H : Type 0} (heads : Heads H) (limit : ℕ) where
   -- the same of a whole line of any length: one above the limit of a line tells no head
   abbrev pub FindsFirst : List ℕ → List ℕ → List ℕ → Option H → Type 0
   FindsFirst line before now head =
-      ((length line ≤ LINE_LIMIT) × FindsHead line before now head)
-      ⊎ ((LINE_LIMIT < length line) × (head ≡ None) × (now ≡ before ++ heads.lacks NoLine.Long))
+      ((length line ≤ line_limit) × FindsHead line before now head)
+      ⊎ ((line_limit < length line) × (head ≡ None) × (now ≡ before ++ heads.lacks NoLine.Long))
 
 -- where a head was found nothing was written
 abbrev pub KeepsOut : {H : Type 0} → List ℕ → List ℕ → Option H → Type 0
@@ -87,8 +87,8 @@ KeepsOut before now None = Unit {0}
 
 -- why a last piece without a newline is no first line
 abbrev pub IsLackIn : List ℕ → NoLine → Type 0
-IsLackIn line NoLine.Cut = length line ≤ LINE_LIMIT
-IsLackIn line NoLine.Long = LINE_LIMIT < length line
+IsLackIn line NoLine.Cut = length line ≤ line_limit
+IsLackIn line NoLine.Long = line_limit < length line
 
 -- how a run ends whose first line told no head: the line was refused, or the run stopped
 abbrev pub EndsHeadless : Result Outcome Stop → Type 0

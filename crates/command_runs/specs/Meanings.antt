@@ -1,4 +1,7 @@
 -- What a command means: what it writes for the bytes that it takes of its input, by how its run ends. This project's own.
+-- Example: a command that prints `hi` once its input was read means, at the end `Done`, all of the input taken,
+-- nothing left, and `hi`; where the source fails, some bytes taken and nothing written; where the sink fails,
+-- nothing in it before the last step, and that step was to add `hi`.
 use Rattle.std.specs.Prelude.{◌≡◌, ◌⊎◌, ℕ, List, ◌++◌, Option, Result, Ok, Err}
 use Rattle.adx_io.specs.Streams.{Took}
 use Rattle.adx_io.specs.declared.stop.Stop.{Stop}

@@ -1,4 +1,7 @@
 -- A command that answers its input line by line. This project's own.
+-- Example: three lines, and a sink that fails at the second answer: the answer to the first stands there whole, a
+-- front of the second's, and the third line wasn't answered. Of two lines of which the second passes the limit of
+-- the input, with a sink that fails, the second wasn't answered.
 use Rattle.std.specs.Prelude.{◌≡◌, ◌⊎◌, ℕ, suc, ◌+◌, ◌≤◌, List, [], ◌∷◌, ◌++◌, length, All, Option, Result, Ok, Err}
 use Rattle.std.specs.List.{flat_map}
 use Rattle.adx_io.specs.Lines.{HasNoNewline}

@@ -7,7 +7,7 @@ use Rattle.adx_io.specs.declared.source.Source as source
 use Rattle.adx_io.specs.declared.sink.Sink as sink
 use Rattle.adx_io.specs.declared.stop.Stop.{Stop}
 use Rattle.adx_io.specs.declared.talk.Talk.{Talk}
-use Rattle.command_runs.specs.declared.limits.TheConstants.{LINE_LIMIT}
+use Rattle.command_runs.specs.Limits.{line_limit}
 use Rattle.command_runs.specs.declared.outcome.Outcome.{Outcome}
 use Rattle.command_runs.specs.Meanings.{Meaning, Wrote}
 
@@ -21,4 +21,4 @@ TalkWrote {s = s} {k = k} m old new result =
 
 -- so it is of the line that a buffer keeps, be it longer than a line may be or not
 abbrev pub OfLine : Bool → List ℕ → (List ℕ → Type 0) → Type 0
-OfLine overlong kept P = (line : List ℕ) → Keeps LINE_LIMIT overlong kept line → P line
+OfLine overlong kept P = (line : List ℕ) → Keeps line_limit overlong kept line → P line

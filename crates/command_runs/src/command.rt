@@ -2,7 +2,7 @@
 ghost use Rattle.std.specs.Prelude.{◌≡◌, ◌≤◌, []};
 ghost use Rattle.adx_io.specs.Talk.{HasCauses};
 ghost use Rattle.adx_io.specs.TalkState.{place_of, state_of};
-ghost use Rattle.command_runs.specs.declared.limits.TheConstants.{INPUT_LIMIT as input_limit};
+ghost use Rattle.command_runs.specs.Limits.{input_limit};
 ghost use Rattle.command_runs.specs.Runs.{Runs};
 ghost use Rattle.command_runs.specs.Talks.{TalkWrote};
 

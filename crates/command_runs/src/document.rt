@@ -8,7 +8,7 @@ ghost use Rattle.adx_io.specs.TalkState.{place_of, state_of};
 ghost use Rattle.adx_io.specs.declared.stop.Stop.{Stop as StopValue};
 ghost use Rattle.command_runs.specs.Documents.{Judged, MayEnd, document as document_meaning};
 ghost use Rattle.command_runs.specs.Runs.{Runs};
-ghost use Rattle.command_runs.specs.declared.limits.TheConstants.{DOCUMENT_LIMIT as document_limit};
+ghost use Rattle.command_runs.specs.Limits.{document_limit};
 ghost use Rattle.command_runs.specs.declared.outcome.Outcome.{Outcome as OutcomeValue};
 ghost use Rattle.command_runs.specs.Talks.{TalkWrote};
 
@@ -106,11 +106,11 @@ impl<J: Judge> Command for Document<'_, J> {
     ghost use Rattle.adx_io.specs.Streams.{WhereTold};
     ghost use Rattle.adx_io.specs.declared.stop.Stop.{Stop};
     ghost use Rattle.command_runs.specs.Documents.{document};
-    ghost use Rattle.command_runs.specs.declared.limits.TheConstants.{DOCUMENT_LIMIT, INPUT_LIMIT};
+    ghost use Rattle.command_runs.specs.Limits.{document_limit, input_limit};
 
     ghost course = { J.course };
 
-    ghost meaning = { λ c. document DOCUMENT_LIMIT (J.judges c) };
+    ghost meaning = { λ c. document document_limit (J.judges c) };
 
     ghost leaves = { λ old new c result. J.leaves old.judge.now new.judge.now c result };
 

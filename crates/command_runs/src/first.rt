@@ -8,7 +8,7 @@ ghost use Rattle.command_runs.specs.Firsts.{FindsFirst, FindsHead, IsLackIn, Kee
 ghost use Rattle.command_runs.specs.Meanings.{PutsEnd};
 ghost use Rattle.command_runs.specs.Runs.{Runs};
 ghost use Rattle.command_runs.specs.declared.outcome.Outcome.TheVariants.{Refused};
-ghost use Rattle.command_runs.specs.declared.limits.TheConstants.{INPUT_LIMIT as input_limit, LINE_LIMIT as line_limit};
+ghost use Rattle.command_runs.specs.Limits.{input_limit, line_limit};
 ghost use Rattle.command_runs.specs.Talks.{OfLine, TalkWrote};
 
 use crate::command::{Command, run_command};
@@ -177,11 +177,11 @@ impl<L: Led> Command for FirstLine<'_, L> {
     ghost use Rattle.std.proofs.lemmas.List.Elements.{All-nil};
     ghost use Rattle.adx_io.specs.Streams.{WhereTold};
     ghost use Rattle.command_runs.specs.Firsts.{LeavesFirst, by_first};
-    ghost use Rattle.command_runs.specs.declared.limits.TheConstants.{INPUT_LIMIT};
+    ghost use Rattle.command_runs.specs.Limits.{input_limit};
 
     ghost course = { Option (L.Head × L.course) };
 
-    ghost meaning = { by_first L.heads INPUT_LIMIT L.meaning };
+    ghost meaning = { by_first L.heads input_limit L.meaning };
 
     ghost leaves = { λ old new c result. LeavesFirst L.leaves old.led.now new.led.now c result };
 

@@ -10,24 +10,31 @@ use Rattle.command_words.specs.declared.command.TheConstants.{MOST_ASKS}
 abbrev pub journal_name : List ℕ
 journal_name = codes "journal"
 
+-- the option --seed of gen
 abbrev pub seed_name : List ℕ
 seed_name = codes "seed"
 
+-- the option --asks of gen
 abbrev pub asks_name : List ℕ
 asks_name = codes "asks"
 
+-- the option --bidder of reconcile
 abbrev pub bidder_name : List ℕ
 bidder_name = codes "bidder"
 
+-- the option --roster of serve and post
 abbrev pub roster_name : List ℕ
 roster_name = codes "roster"
 
+-- the option --prices of bid
 abbrev pub prices_name : List ℕ
 prices_name = codes "prices"
 
+-- the option --port of serve and bid
 abbrev pub port_name : List ℕ
 port_name = codes "port"
 
+-- the option --workers of serve
 abbrev pub workers_name : List ℕ
 workers_name = codes "workers"
 
@@ -35,18 +42,23 @@ workers_name = codes "workers"
 abbrev pub ratio_name : List ℕ
 ratio_name = codes "ratio"
 
+-- the option --archive of the commands on the archive
 abbrev pub archive_name : List ℕ
 archive_name = codes "archive"
 
+-- the option --seat of archive-list
 abbrev pub seat_name : List ℕ
 seat_name = codes "seat"
 
+-- the option --cid of archive-list
 abbrev pub cid_name : List ℕ
 cid_name = codes "cid"
 
+-- the option --from of archive-list
 abbrev pub from_name : List ℕ
 from_name = codes "from"
 
+-- the option --to of archive-list
 abbrev pub to_name : List ℕ
 to_name = codes "to"
 
@@ -135,6 +147,7 @@ AsksFor Command.Version row given = ⊥
 abbrev pub help_word : List ℕ
 help_word = dashed (codes "help")
 
+-- the word --version
 abbrev pub version_word : List ℕ
 version_word = dashed (codes "version")
 

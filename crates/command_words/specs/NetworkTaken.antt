@@ -21,12 +21,14 @@ serve_with roster journal port workers =
     option_and_then (λ p.
     option_map (λ w. NetworkCommand.Serve r j p w) workers) port) journal) roster
 
+-- what the values that clap found ask for, of post
 abbrev pub post_with : Option (List ℕ) → Option (List ℕ) → Option NetworkCommand
 post_with roster journal = option_and_then (λ r. option_map (λ j. NetworkCommand.Post r j) journal) roster
 
 abbrev pub bid_with : Option (List ℕ) → Option ℕ → Option NetworkCommand
 bid_with prices port = option_and_then (λ f. option_map (λ p. NetworkCommand.Bid f p) port) prices
 
+-- the command of a word and the options that were found
 abbrev pub network_by : List ℕ → List Found → Option NetworkCommand
 network_by word found =
     if bytes_eq word serving.word then
@@ -35,6 +37,7 @@ network_by word found =
     else if bytes_eq word bidding.word then bid_with (first_of prices_name found) (number_of MOST_PORT (first_of port_name found))
     else None
 
+-- the same, if a command was found at all
 abbrev pub network_found : Option (List ℕ × List Found) → Option NetworkCommand
 network_found = option_and_then (λ sub. network_by sub.0 sub.1)
 

@@ -6,6 +6,7 @@ use Rattle.command_words.specs.declared.command.Command.{Command}
 use Rattle.command_words.specs.declared.network.NetworkCommand.{NetworkCommand}
 use Rattle.command_words.specs.declared.paths.Paths.{Paths}
 
+-- no option has a value
 abbrev pub no_paths : Paths
 no_paths = record { roster = None; journal = None; archive = None; prices = None; port = None; workers = None }
 

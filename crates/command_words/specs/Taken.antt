@@ -58,6 +58,7 @@ application = program_of commands
 abbrev pub generate : Option ℕ → Option ℕ → Option Command
 generate seed asks = option_and_then (λ s. option_map (λ a. Command.Generate s a) asks) seed
 
+-- `notices`, if its journal was found
 abbrev pub print_notices : Option (List ℕ) → Option Command
 print_notices = option_map (λ j. Command.Notices j)
 
@@ -65,15 +66,19 @@ print_notices = option_map (λ j. Command.Notices j)
 abbrev pub is_set : List ℕ → List Found → Bool
 is_set name found = option_map_or (λ text. bytes_eq text (codes "true")) (first_of name found) false
 
+-- what the options of close ask for
 abbrev pub close_by : Option (List ℕ) → Bool → Option Command
 close_by journal ratio = option_map (λ j. Command.Close j ratio) journal
 
+-- `reconcile`, if its journal and its bidder were found
 abbrev pub reconcile_with : Option (List ℕ) → Option (List ℕ) → Option Command
 reconcile_with journal name = option_and_then (λ j. option_map (λ n. Command.Reconcile j n) name) journal
 
+-- `archive-put`, if its archive was found
 abbrev pub put_archive : Option (List ℕ) → Option Command
 put_archive = option_map (λ a. Command.ArchivePut a)
 
+-- `archive-list`, if its five options were found
 abbrev pub list_archive : Option (List ℕ) → Option (List ℕ) → Option (List ℕ) → Option (List ℕ) → Option (List ℕ) → Option Command
 list_archive archive seat cid first last =
     option_and_then (λ a.
@@ -92,6 +97,7 @@ days_asked found =
     list_archive (first_of archive_name found) (first_of seat_name found) (first_of cid_name found)
     (first_of from_name found) (first_of to_name found)
 
+-- the command of a word and the options that were found
 abbrev pub command_by : List ℕ → List Found → Option Command
 command_by word found =
     if bytes_eq word day.word then Some (Command.Day (first_of journal_name found))
@@ -106,6 +112,7 @@ command_by word found =
     else if bytes_eq word reconcile.word then reconcile_with (first_of journal_name found) (first_of bidder_name found)
     else None
 
+-- the same, if a command was found at all
 abbrev pub command_found : Option (List ℕ × List Found) → Option Command
 command_found = option_and_then (λ sub. command_by sub.0 sub.1)
 
@@ -127,6 +134,7 @@ topic_by word =
     else if bytes_eq word bidding.word then Topic.Bid
     else Topic.Program
 
+-- what help is asked about, by the words after `help`
 abbrev pub topic_of : List (List ℕ) → Topic
 topic_of [] = Topic.Program
 topic_of (word ∷ rest) = topic_by word
@@ -145,11 +153,13 @@ abbrev pub Comes : Option ErrorKind → Kinds → Type 0
 Comes None kinds = kinds ≡ []
 Comes (Some kind) kinds = IsAmong kind kinds
 
+-- what is read where a parse ended with this error
 abbrev pub answer_by : ErrorKind → List (List ℕ) → Option Command
 answer_by ErrorKind.DisplayHelp words = Some (Command.Help (topic_of words))
 answer_by ErrorKind.DisplayVersion words = Some Command.Version
 answer_by _ words = None
 
+-- what is read of a parse that took the words, or ended with this error
 abbrev pub answer : Option ErrorKind → List (List ℕ) → Option Command
 answer None words = command_found (subcommand_of application words)
 answer (Some kind) words = answer_by kind words

@@ -2,7 +2,7 @@
 use Rattle.std.specs.Prelude.{ℕ, ◌+◌, ◌-◌, ◌*◌, List, slice_index, pos, Bool, IsTrue}
 use Rattle.std.specs.Cmp.Lexicographic.{slice_cmp}
 use Rattle.std.specs.Ordering.{nat_cmp, is_le}
-use Rattle.day_form.specs.Days.{is_day}
+use Rattle.formats.specs.Days.{is_day}
 use Rattle.jiff.specs.Words.{IsDate as IsCalendarDate}
 
 -- the number of the two digits at a place
@@ -13,9 +13,11 @@ two_digits at day = 10 * (slice_index day at - 48) + (slice_index day (at + 1) -
 abbrev pub year_of : List ℕ → ℕ
 year_of day = 100 * two_digits 0 day + two_digits 2 day
 
+-- its month
 abbrev pub month_of : List ℕ → ℕ
 month_of day = two_digits 5 day
 
+-- its day of the month
 abbrev pub monthday_of : List ℕ → ℕ
 monthday_of day = two_digits 8 day
 

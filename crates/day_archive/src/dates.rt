@@ -5,7 +5,7 @@ ghost use Rattle.day_archive.specs.Dates.{IsDate, is_upto as is_upto_text, two_d
 ghost use Rattle.day_archive.specs.Unfits.{IsFitDay, IsFitRange};
 
 use adx_units::{OutOfMemory, Text};
-use day_form::is_day;
+use formats::is_day;
 use jiff::civil::Date;
 use std::alloc::Global;
 

@@ -1,4 +1,5 @@
 -- When an ask is what settling it again makes of it, over a book. This project's own.
+-- Example: two offers with the reasons 0 and 102 are, where with both read as admitted the first is chosen again.
 use Rattle.std.specs.Prelude.{◌≡◌, ℕ, ◌≤◌, List, map}
 use Rattle.adx_units.specs.declared.offer.Offer.{Offer}
 use Rattle.allocator_core.specs.Choice.{settled_offers}

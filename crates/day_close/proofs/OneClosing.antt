@@ -3,8 +3,8 @@ use Rattle.std.proofs.Common.{◌≡◌, ℕ, ◌<◌, List, [], length, get_or,
 use Rattle.std.proofs.lemmas.List.{ext_get_or}
 use Rattle.bid_record.specs.declared.record.Record.{Record}
 use Rattle.dual_cert.specs.declared.cert.Cert.{Cert}
-use Rattle.hindsight.specs.Assignments.{Impression, impressions}
-use Rattle.hindsight.specs.Certificates.{bound_by}
+use Rattle.dual_cert.specs.Assignments.{Impression, impressions}
+use Rattle.dual_cert.specs.Certificates.{bound_by}
 use Rattle.day_close.specs.Choosing.{no_campaign}
 use Rattle.day_close.specs.Closing.{IsClosing, IsLeastBeta}
 

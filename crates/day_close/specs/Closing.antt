@@ -3,16 +3,16 @@
 -- solution in Mehta, Saberi, Vazirani and Vazirani (JACM 2007).
 use Rattle.std.specs.Prelude.{◌≡◌, ℕ, ◌-◌, ◌≤◌, ◌<◌, List, [], length, Bool, true, false, nat_le, if◌then◌else◌, Option, Some, None, slice_index, slice_index_or}
 use Rattle.std.specs.List.{All, sum_by}
-use Rattle.discount_table.specs.Discount.{discount, slab_of}
+use Rattle.campaign_book.specs.Discount.{discount, slab_of}
 use Rattle.bid_record.specs.declared.record.Record.{Record}
 use Rattle.bid_record.specs.declared.rows.ImpRow.{ImpRow}
 use Rattle.bid_record.specs.declared.rows.CampaignRow.{CampaignRow}
 use Rattle.bid_record.specs.declared.rows.End.{End}
 use Rattle.bid_record.specs.declared.rows.End.TheVariants.{Live, Billed, Lost, Expired}
 use Rattle.dual_cert.specs.declared.cert.Cert.{Cert}
-use Rattle.dual_cert.specs.declared.cert.TheConstants.{WHOLE}
-use Rattle.hindsight.specs.Assignments.{Impression, impressions, picked_charge}
-use Rattle.hindsight.specs.Certificates.{HasShape, Covers, bound_of}
+use Rattle.dual_cert.specs.Whole.{whole}
+use Rattle.dual_cert.specs.Assignments.{Impression, impressions, picked_charge}
+use Rattle.dual_cert.specs.Certificates.{HasShape, Covers, bound_of}
 
 -- an award that is billed or has no end yet takes money from its campaign
 abbrev pub takes_money : Option End → Bool
@@ -35,8 +35,9 @@ abbrev pub IsWithinBudgets : Record → Type 0
 IsWithinBudgets r = (campaign : ℕ) (row : CampaignRow) → campaign < length r.campaigns → money_in r.imps campaign ≤ (slice_index_or r.campaigns campaign row).budget.0
 
 -- the alpha of a slab: what the discount has fallen by, and all of it from slab 99 on
+-- Example: 200 of 10,000 is slab 2, whose discount is 988,209,843, so that alpha is 11,790,157.
 abbrev pub alpha_of : ℕ → ℕ
-alpha_of slab = if nat_le 99 slab then WHOLE else WHOLE - discount slab
+alpha_of slab = if nat_le 99 slab then whole else whole - discount slab
 
 -- the alpha of a campaign's row, with so much money in its awards
 abbrev pub row_alpha : CampaignRow → ℕ → ℕ

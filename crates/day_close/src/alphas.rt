@@ -1,13 +1,13 @@
 //! The alphas of a day.
 ghost use Rattle.std.specs.Prelude.{◌≡◌, ℕ, ◌<◌, ◌≤◌, ◌^◌, All, IfOk, vec_len, length, slice_index, slice_index_or};
 ghost use Rattle.bid_record.specs.declared.rows.CampaignRow.{CampaignRow};
-ghost use Rattle.dual_cert.specs.declared.cert.TheConstants.{WHOLE};
+ghost use Rattle.dual_cert.specs.Whole.{whole};
 ghost use Rattle.day_close.specs.Closing.{alpha_of as alpha_of_slab, row_alpha, money_in, IsWithinBudgets};
 
 use crate::money::moneys_of;
 use adx_units::OutOfMemory;
 use bid_record::{CampaignRow, Record};
-use discount_table::{discount, slab_of};
+use campaign_book::{discount, slab_of};
 use dual_cert::WHOLE;
 use std::alloc::Global;
 

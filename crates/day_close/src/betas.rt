@@ -1,8 +1,8 @@
 //! The betas of a day.
 ghost use Rattle.std.specs.Prelude.{◌≡◌, ℕ, ◌<◌, ◌≤◌, ◌^◌, ◌*◌, All, IfOk, vec_len, length, slice_index, slice_index_or, []};
 ghost use Rattle.bid_record.specs.Records.{IsCharge};
-ghost use Rattle.hindsight.specs.Assignments.{impressions_of};
-ghost use Rattle.hindsight.specs.Certificates.{Fit};
+ghost use Rattle.dual_cert.specs.Assignments.{impressions_of};
+ghost use Rattle.dual_cert.specs.Certificates.{Fit};
 ghost use Rattle.day_close.specs.Closing.{IsLeastBeta};
 ghost use Rattle.day_close.specs.Steps.{IsMostOf, weight};
 

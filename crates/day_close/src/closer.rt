@@ -1,14 +1,13 @@
 //! The closer's certificate.
 ghost use Rattle.std.specs.Prelude.{◌≡◌, IfOk};
-ghost use Rattle.hindsight.specs.Certificates.{IsCertificate};
+ghost use Rattle.dual_cert.specs.Certificates.{IsCertificate};
 ghost use Rattle.day_close.specs.Closing.{IsWithinBudgets, IsClosing};
 
 use crate::alphas::alphas_of;
 use crate::betas::betas_of;
 use adx_units::{OutOfMemory, Sequence};
 use bid_record::Record;
-use dual_cert::Cert;
-use hindsight::bound_by;
+use dual_cert::{Cert, bound_by};
 use std::alloc::Global;
 
 /// The certificate of a day: each alpha from the slab where its campaign ended, each beta the least

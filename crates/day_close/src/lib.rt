@@ -1,9 +1,10 @@
 //! The closer: the certificate of a day's record, from where its campaigns stand at the end.
 //!
-//! What the certificate is stands in `specs/Closing`; that it meets the rules of every certificate,
-//! so that a checker accepts it, is a clause of `close`. `specs/Choosing` says of a record which offer the
-//! rule chooses for each impression; what makes records and what bounds them cite it. Stands on `bid_record`, `dual_cert`,
-//! `hindsight` and `discount_table`.
+//! What the certificate is stands in `specs/Closing`; that it meets the rules of every certificate, so that a checker
+//! accepts it, is a clause of `close`. `specs/Choosing` says of a record which offer the rule chooses for each
+//! impression; what makes records and what bounds them cite it.
+//!
+//! Stands on `adx_units`, `campaign_book`, `bid_record` and `dual_cert`.
 #![tactic(auto)]
 
 mod alphas;

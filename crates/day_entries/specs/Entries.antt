@@ -1,4 +1,5 @@
 -- The bytes of an entry of a day's history, in both formats of a journal. This project's own.
+-- Example: a bill of award 300 is the bytes 3, 44, 1, 0, 0 in format 1 and 3, 172, 2 in format 2.
 use Rattle.std.specs.Prelude.{◌≡◌, ℕ, ◌<◌, ◌^◌, Bool, ◌&&◌, nat_le, List, ◌++◌, length, All, IsUtf8, ◌⊎◌}
 use Rattle.std.proofs.Common.{inl, inr}
 use Rattle.std.specs.List.{flat_map}
@@ -18,6 +19,7 @@ use Rattle.day_entries.specs.Numbers.{numbers_of, small, short, long, wide}
 unfoldable pub text : Numbers → Format (List ℕ)
 text n = such IsUtf8 is_utf8 (sized (long n))
 
+-- a name of 1 to 128 bytes
 abbrev pub is_sized : List ℕ → Bool
 is_sized name = nat_le 1 (length name) && nat_le (length name) LONGEST_ID
 
@@ -25,12 +27,15 @@ is_sized name = nat_le 1 (length name) && nat_le (length name) LONGEST_ID
 unfoldable pub name : Numbers → Format (List ℕ)
 name n = such IsSized is_sized (text n)
 
+-- an offer as the pairs that its format is made of
 abbrev pub OfferParts : Type 0
 OfferParts = ℕ × (ℕ × (ℕ × (ℕ × ℕ)))
 
+-- the offer of such pairs
 abbrev pub offer_of_parts : OfferParts → Offer
 offer_of_parts p = record { imp = p.0; campaign = p.1.0; charge = record { 0 = p.1.1.0 }; life = p.1.1.1.0; reason = p.1.1.1.1 }
 
+-- the pairs of an offer
 abbrev pub parts_of_offer : Offer → OfferParts
 parts_of_offer o = (o.imp, (o.campaign, (o.charge.0, (o.life, o.reason))))
 
@@ -38,13 +43,16 @@ parts_of_offer o = (o.imp, (o.campaign, (o.charge.0, (o.life, o.reason))))
 unfoldable pub offer : Numbers → Format Offer
 offer n = made offer_of_parts parts_of_offer (small n ⊗ (long n ⊗ (wide n ⊗ (long n ⊗ short n))))
 
+-- the kept texts of a bid as the pairs that their format is made of
 abbrev pub KeptParts : Type 0
 KeptParts = ℕ × (List ℕ × (List ℕ × (List ℕ × (List ℕ × (List ℕ × (List ℕ × List ℕ))))))
 
+-- the kept texts of such pairs
 abbrev pub kept_of_parts : KeptParts → Kept
 kept_of_parts p =
     record { bid = p.0; seat = p.1.0; bidid = p.1.1.0; adid = p.1.1.1.0; nurl = p.1.1.1.1.0; burl = p.1.1.1.1.1.0; lurl = p.1.1.1.1.1.1.0; body = p.1.1.1.1.1.1.1 }
 
+-- the pairs of kept texts
 abbrev pub parts_of_kept : Kept → KeptParts
 parts_of_kept k = (k.bid, (k.seat, (k.bidid, (k.adid, (k.nurl, (k.burl, (k.lurl, k.body)))))))
 
@@ -62,12 +70,15 @@ offers n = counted (long n) (offer n)
 unfoldable pub all_kept : Numbers → Format (List Kept)
 all_kept n = counted (long n) (kept n)
 
+-- an ask as the pairs that its format is made of
 abbrev pub AskParts : Type 0
 AskParts = List ℕ × (List ℕ × (ℕ × (ℕ × (List (List ℕ) × (List Offer × List Kept)))))
 
+-- the ask of such pairs
 abbrev pub ask_of_parts : AskParts → Ask
 ask_of_parts p = record { auction = p.0; digest = p.1.0; now = p.1.1.0; first = p.1.1.1.0; imps = p.1.1.1.1.0; offers = p.1.1.1.1.1.0; kept = p.1.1.1.1.1.1 }
 
+-- the pairs of an ask
 abbrev pub parts_of_ask : Ask → AskParts
 parts_of_ask a = (a.auction, (a.digest, (a.now, (a.first, (a.imps, (a.offers, a.kept))))))
 
@@ -79,9 +90,11 @@ ask n = made ask_of_parts parts_of_ask (name n ⊗ (bytes_of 32 ⊗ (wide n ⊗ 
 abbrev pub ChangeParts : Type 0
 ChangeParts = ℕ × (ℕ × ℕ)
 
+-- the change of a budget of such pairs
 abbrev pub change_of_parts : ChangeParts → BudgetChange
 change_of_parts p = change_of p.0 p.1.0 (record { 0 = p.1.1 })
 
+-- the pairs of a change of a budget
 abbrev pub parts_of_change : BudgetChange → ChangeParts
 parts_of_change x = (x.campaign, (x.change, x.budget.0))
 
@@ -89,9 +102,11 @@ parts_of_change x = (x.campaign, (x.change, x.budget.0))
 unfoldable pub change : Numbers → Format BudgetChange
 change n = made change_of_parts parts_of_change (long n ⊗ (long n ⊗ wide n))
 
+-- an entry as the choices that its format is made of
 abbrev pub EntryParts : Type 0
 EntryParts = Ask ⊎ (ℕ ⊎ (ℕ ⊎ (ℕ ⊎ (ℕ ⊎ BudgetChange))))
 
+-- the entry of such a choice
 abbrev pub entry_of_parts : EntryParts → Entry
 entry_of_parts (inl a) = Entry.Ask a
 entry_of_parts (inr (inl n)) = Entry.Win n
@@ -100,6 +115,7 @@ entry_of_parts (inr (inr (inr (inl n)))) = Entry.Loss n
 entry_of_parts (inr (inr (inr (inr (inl t))))) = Entry.Expire t
 entry_of_parts (inr (inr (inr (inr (inr x))))) = entry_of_change x
 
+-- the kind of an entry, as the choices that its format is made of, and what it has
 abbrev pub parts_of_entry : Entry → EntryParts
 parts_of_entry (Entry.Ask a) = inl a
 parts_of_entry (Entry.Win n) = inr (inl n)
@@ -154,6 +170,7 @@ pub record HasBytes (a : Ask) : Type 0 where
   pub few_kept : length a.kept < 2 ^ 32
   pub kept : All HasShortTexts a.kept
 
+-- every number of the entry fits its bytes
 abbrev pub IsSpelled : Entry → Type 0
 IsSpelled (Entry.Ask a) = HasBytes a
 IsSpelled (Entry.Win award) = Unit {0}

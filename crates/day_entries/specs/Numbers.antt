@@ -19,10 +19,12 @@ abbrev pub short : Numbers → Format ℕ
 short Numbers.Fixed = fixed w16 (2 ^ 16)
 short Numbers.Grouped = grouped (2 ^ 16)
 
+-- a number of four bytes, or in groups
 abbrev pub long : Numbers → Format ℕ
 long Numbers.Fixed = fixed w32 (2 ^ 32)
 long Numbers.Grouped = grouped (2 ^ 32)
 
+-- a number of eight bytes, or in groups
 abbrev pub wide : Numbers → Format ℕ
 wide Numbers.Fixed = fixed w64 (2 ^ 64)
 wide Numbers.Grouped = grouped (2 ^ 64)

@@ -2,5 +2,6 @@
 use Rattle.std.specs.Prelude.{ℕ, List, ◌++◌}
 use Rattle.adx_io.specs.Frames.{FrameState}
 
+-- the payload of a frame with these bytes after it
 abbrev pub with_pieces : List ℕ → FrameState → List ℕ
 with_pieces pieces frame = frame.payload ++ pieces

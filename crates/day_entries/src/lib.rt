@@ -1,8 +1,10 @@
 //! Entries of a day's history as bytes: written into a record's payload, and read back.
 //!
-//! A contract sees the spelling of an entry as a list of bytes, in the format of its journal. What is read is
-//! spelled so, each byte of it; what is spelled so is read, whatever follows. An ask can be copied, since a
-//! history keeps its own. Stands on `adx_units`, `byte_runs`, `adx_io`, `day_rules` and `formats`.
+//! A contract sees the spelling of an entry as a list of bytes, in the format of its journal. What is read is spelled
+//! so, each byte of it; what is spelled so is read, whatever follows. An ask can be copied, since a history keeps its
+//! own.
+//!
+//! Stands on `adx_units`, `adx_io`, `day_rules`, `formats` and `arrayvec`.
 #![tactic(auto)]
 
 mod copying;

@@ -35,6 +35,7 @@ pub record WindowState : Type 0 where
   pub at : ℕ
   pub bytes : List ℕ
 
+-- the bytes that were read are those of the file at that place
 pub record IsWindow (file : List ℕ) (window : WindowState) : Type 0 where
   pub within : window.at ≤ length file
   pub addressed : length file < 2 ^ 64

@@ -1,4 +1,6 @@
 -- The journal's file: a head, and behind it the payloads, each at an open place. This project's own.
+-- Example: the bytes 1, `ADXJRNL2`, 1, 1, 0, 0, 0, 7, 0 are a journal of format 2 with one payload, the byte 7;
+-- what stands behind isn't looked at.
 use Rattle.std.specs.Prelude.{◌≡◌, ◌≢◌, ◌⊎◌, ℕ, ◌+◌, ◌<◌, ◌≤◌, List, [], ◌∷◌, ◌++◌, length, take, slice_get, All}
 use Rattle.std.specs.List.{flat_map}
 use Rattle.adx_io.specs.Frames.{longest_payload, body}
@@ -12,9 +14,11 @@ IsFormat format = (format ≡ 1) ⊎ (format ≡ 2)
 abbrev pub mark : ℕ → List ℕ
 mark format = 65 ∷ 68 ∷ 88 ∷ 74 ∷ 82 ∷ 78 ∷ 76 ∷ (48 + format) ∷ []
 
+-- a 1 and the mark
 abbrev pub head : ℕ → List ℕ
 head format = 1 ∷ mark format
 
+-- what a journal can have as a payload: at least one byte, and at most the longest
 pub record IsPayload (payload : List ℕ) : Type 0 where
   pub some : 0 < length payload
   pub fits : length payload ≤ longest_payload

@@ -1,4 +1,6 @@
 -- The books of a history: its awards, how they end, and each campaign's money. This project's own.
+-- Example: an ask with one award of 2,500,000 at deadline 3,610, then an expiry at 3,611: the award's end is
+-- Expired, reserved and billed are 0.
 use Rattle.std.specs.Prelude.{ℕ, ◌+◌, max, List, [], ◌∷◌, map, length, drop, filter, Bool, false, ◌&&◌, nat_lt, ◌==◌, if◌then◌else◌, Option, Some, None, is_some, slice_get, option_map, option_and_then, unwrap_or}
 use Rattle.std.specs.List.{flat_map, filter_map, enumerate_from, range_with_len, sum_by, count_by, list_any}
 use Rattle.std.specs.Option.{option_or, option_map_or}
@@ -99,9 +101,11 @@ billed_in awards campaign = sum_by (charge_where is_billed campaign) awards
 abbrev pub reserved : List Entry → ℕ → ℕ
 reserved history campaign = reserved_in (awards_of history) campaign
 
+-- the billed money of a campaign after a history
 abbrev pub billed : List Entry → ℕ → ℕ
 billed history campaign = billed_in (awards_of history) campaign
 
+-- both together
 abbrev pub committed : List Entry → ℕ → ℕ
 committed history campaign = reserved history campaign + billed history campaign
 

@@ -5,8 +5,8 @@ use Rattle.std.proofs.lemmas.List.{map-append, length-map}
 use Rattle.std.proofs.lemmas.List.Folds.{list_all-append}
 use Rattle.std.proofs.Math.Seq.{append_snoc}
 use Rattle.adx_json.specs.Tree.{Tree}
-use Rattle.tree_view.specs.Checks.{judged}
-use Rattle.tree_view.proofs.Judging.{judged_on, judged_off, judged_value}
+use Rattle.adx_json.specs.Checks.{judged}
+use Rattle.adx_json.proofs.Judging.{judged_on, judged_off, judged_value}
 use Rattle.deal_floor.specs.Faults.{lacks_memory}
 use Rattle.deal_floor.specs.Pairs.{Pair, is_pair_among, all_pairs_distinct, pair_of, has_pair, have_bidders}
 use Rattle.deal_floor.specs.Rosters.{CampaignView, campaign_checks, campaigns_checks, campaign_view, campaign_pair}

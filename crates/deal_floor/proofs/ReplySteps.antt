@@ -5,8 +5,8 @@ use Rattle.std.proofs.Math.Seq.{append_snoc}
 use Rattle.adx_json.specs.Tree.{Tree}
 use Rattle.adx_json.specs.View.{tree_of, trees_of}
 use Rattle.adx_json.specs.declared.tree.Json.{Json}
-use Rattle.tree_view.specs.Values.{texts_in}
-use Rattle.tree_view.proofs.Items.{all_trees}
+use Rattle.adx_json.specs.Values.{texts_in}
+use Rattle.adx_json.proofs.Items.{all_trees}
 use Rattle.deal_floor.specs.Rosters.{are_texts}
 
 pub all_replies : (ts : List Json) → list_all (λ t. are_texts (tree_of t)) ts ≡ list_all are_texts (trees_of ts)

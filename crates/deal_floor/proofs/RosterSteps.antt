@@ -2,12 +2,12 @@
 use Rattle.std.proofs.Common.{◌≡◌, ℕ, List, [], ◌∷◌, ◌++◌, map, length, codes, Option, Some, None, Result, Ok, Err, refl, sym, ap, ◌∙◌}
 use Rattle.std.proofs.lemmas.List.{length-map}
 use Rattle.adx_json.specs.Tree.{Tree}
-use Rattle.tree_view.specs.Checks.{Check, first_fault, judged_by, judged}
-use Rattle.tree_view.proofs.Judging.{after_all, judged_off, judged_value}
+use Rattle.adx_json.specs.Checks.{Check, first_fault, judged_by, judged}
+use Rattle.adx_json.proofs.Judging.{after_all, judged_off, judged_value}
 use Rattle.adx_json.specs.Named.{member_in}
 use Rattle.adx_json.specs.Spelling.{spelling}
 use Rattle.sha2.specs.Sha256.{sha256}
-use Rattle.tree_view.specs.Values.{text_or_empty, items_in, texts_in}
+use Rattle.adx_json.specs.Values.{text_or_empty, items_in, texts_in}
 use Rattle.deal_floor.specs.Forms.{text_or, whole_or}
 use Rattle.deal_floor.specs.Rosters.{PlaceView, CampaignView, LimitsView, RosterView, place_view, campaign_view, limits_view, bidder_name, bidder_names, bidder_trees, reply_trees, head_checks, bidder_list_checks, campaign_list_checks, replies_checks, limits_checks, digest_tree, roster_view, roster_in}
 use Rattle.deal_floor.specs.declared.campaign.Campaign.{Campaign}

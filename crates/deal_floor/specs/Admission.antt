@@ -8,8 +8,8 @@ use Rattle.adx_units.specs.declared.units.Units.{Units}
 use Rattle.adx_units.specs.declared.price.PriceFault.{PriceFault}
 use Rattle.adx_units.specs.declared.offer.Offer.{Offer}
 use Rattle.adx_units.specs.declared.offer.TheConstants.{ADMITTED}
-use Rattle.tree_view.specs.Checks.{Check, check, judged}
-use Rattle.name_sets.specs.Among.{is_among}
+use Rattle.adx_json.specs.Checks.{Check, check, judged}
+use Rattle.adx_units.specs.Among.{is_among}
 use Rattle.rtb_request.specs.Seen.{deal_has_id, imp_has_id}
 use Rattle.rtb_request.specs.declared.bid_request.BidRequest.{BidRequest}
 use Rattle.rtb_request.specs.declared.imp.Imp.{Imp}
@@ -45,13 +45,16 @@ case_by_parts request campaigns bidder bidid seat bid =
 abbrev pub place_of_imp : BidRequest → Bid → Option ℕ
 place_of_imp r b = position (imp_has_id b.impid) r.imps
 
+-- the place of the impression that the bid names
 abbrev pub imp_place : Case → Option ℕ
 imp_place c = place_of_imp c.request c.bid
 
+-- the item at a place, if there is one
 abbrev pub item_at : {A : Type 0} → List A → Option ℕ → Option A
 item_at xs None = None
 item_at xs (Some place) = slice_get xs place
 
+-- the impression that the bid names
 abbrev pub imp_of : Case → Option Imp
 imp_of c = item_at c.request.imps (imp_place c)
 
@@ -63,6 +66,7 @@ campaign_place c = position (is_campaign c.bidder c.seat.seat c.bid.cid) c.campa
 abbrev pub deal_in : Imp → List ℕ → Option Deal
 deal_in i id = item_at i.deals (position (deal_has_id id) i.deals)
 
+-- the deal of this id among those of the impression
 abbrev pub deal_by : Option (List ℕ) → Option Imp → Option Deal
 deal_by None i = None
 deal_by (Some id) None = None
@@ -72,6 +76,7 @@ deal_by (Some id) (Some i) = deal_in i id
 abbrev pub deal_of : Case → Option Deal
 deal_of c = deal_by c.bid.dealid (imp_of c)
 
+-- the bid names a deal
 abbrev pub names_deal : Bid → Bool
 names_deal b = is_some b.dealid
 
@@ -80,14 +85,17 @@ abbrev pub holds_of : {A : Type 0} → (A → Bool) → Option A → Bool
 holds_of test None = false
 holds_of test (Some x) = test x
 
+-- a number of what was found, 0 where nothing was
 abbrev pub number_or_zero : {A : Type 0} → (A → ℕ) → Option A → ℕ
 number_or_zero f None = 0
 number_or_zero f (Some x) = f x
 
+-- a price in units, 0 if it has a fault
 abbrev pub units_of : Result Units PriceFault → ℕ
 units_of (Ok u) = u.0
 units_of (Err e) = 0
 
+-- the bid's price in units
 abbrev pub price_units : Case → ℕ
 price_units c = units_of c.bid.price
 
@@ -139,6 +147,7 @@ deal_floor_met c = not (names_deal c.bid) || nat_le (number_or_zero (λ (d : Dea
 abbrev pub advertiser_allowed : Case → Bool
 advertiser_allowed c = not (list_any (is_among c.request.badv) c.bid.adomain)
 
+-- rule 7: no category of the bid is in the request's bcat
 abbrev pub category_allowed : Case → Bool
 category_allowed c = not (list_any (is_among c.request.bcat) c.bid.cat)
 
@@ -177,6 +186,7 @@ offer c = record {
 abbrev pub admitted : Case → Result Offer Reason
 admitted c = judged (rules c) (offer c)
 
+-- the place that was found, or this other one
 abbrev pub place_or : ℕ → Option ℕ → ℕ
 place_or other None = other
 place_or other (Some place) = place

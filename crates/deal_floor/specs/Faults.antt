@@ -5,6 +5,7 @@ use Rattle.deal_floor.specs.declared.fault.Field.TheVariants as fields
 use Rattle.deal_floor.specs.declared.fault.RosterFault.{RosterFault}
 use Rattle.deal_floor.specs.declared.fault.RosterFault.TheVariants.{BadField, Repeated, TooMany, OutOfMemory}
 
+-- the fault is that memory ran out
 abbrev pub lacks_memory : RosterFault → Bool
 lacks_memory (BadField field) = false
 lacks_memory (Repeated index) = false

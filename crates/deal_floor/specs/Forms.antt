@@ -10,7 +10,7 @@ use Rattle.adx_units.specs.Money.{budget_of}
 use Rattle.adx_units.specs.declared.units.Units.{Units}
 use Rattle.adx_units.specs.declared.price.PriceFault.{PriceFault}
 use Rattle.adx_units.specs.declared.price.PriceFault.TheVariants.{NotNumber}
-use Rattle.tree_view.specs.Values.{text_in, number_in, whole_by}
+use Rattle.adx_json.specs.Values.{text_in, number_in, whole_by}
 
 -- a member of an object that may be absent
 abbrev pub member_within : List ℕ → Option Tree → Option Tree
@@ -25,6 +25,7 @@ is_date_byte place byte = if place == 4 || place == 7 then byte == 45 else is_di
 abbrev pub is_date : List ℕ → Bool
 is_date t = length t == 10 && list_all (λ (p : ℕ × ℕ). is_date_byte p.0 p.1) (enumerate_from 0 t)
 
+-- the text is a date
 abbrev pub is_date_text : Option (List ℕ) → Bool
 is_date_text None = false
 is_date_text (Some t) = is_date t
@@ -37,6 +38,7 @@ text_or absent v = unwrap_or (text_in v) absent
 abbrev pub whole_in : ℕ → Option Tree → Option ℕ
 whole_in most v = whole_by most (number_in v)
 
+-- absent, or a whole number of at most this
 abbrev pub is_whole_if_given : ℕ → Option Tree → Bool
 is_whole_if_given most None = true
 is_whole_if_given most (Some t) = is_some (whole_in most (Some t))
@@ -50,10 +52,12 @@ abbrev pub is_path : Option (List ℕ) → Bool
 is_path None = false
 is_path (Some p) = begins_with 47 p
 
+-- absent, or a text that begins with a slash
 abbrev pub is_path_if_given : Option Tree → Bool
 is_path_if_given None = true
 is_path_if_given (Some t) = is_path (text_in (Some t))
 
+-- the budget of a number's text; without one it isn't a number
 abbrev pub budget_by : Option (List ℕ) → Result Units PriceFault
 budget_by None = Err NotNumber
 budget_by (Some n) = budget_of n

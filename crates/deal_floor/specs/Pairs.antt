@@ -8,6 +8,7 @@ use Rattle.deal_floor.specs.declared.campaign.Campaign.{Campaign}
 abbrev pub Pair : Type 0
 Pair = List ℕ × List ℕ
 
+-- seat with seat and cid with cid
 abbrev pub same_pair : Pair → Pair → Bool
 same_pair p q = bytes_eq p.0 q.0 && bytes_eq p.1 q.1
 
@@ -20,9 +21,11 @@ abbrev pub all_pairs_distinct : List Pair → Bool
 all_pairs_distinct [] = true
 all_pairs_distinct (p ∷ ps) = not (list_any (same_pair p) ps) && all_pairs_distinct ps
 
+-- the seat and the cid of a campaign
 abbrev pub pair_of : Campaign → Pair
 pair_of c = (c.seat, c.cid)
 
+-- a campaign has this seat and this cid
 abbrev pub has_pair : List ℕ → List ℕ → Campaign → Bool
 has_pair seat cid c = bytes_eq c.seat seat && bytes_eq c.cid cid
 

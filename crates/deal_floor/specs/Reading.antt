@@ -7,8 +7,8 @@ use Rattle.adx_json.specs.declared.tree.Json.{Json}
 use Rattle.adx_json.specs.Spelling.{spelling}
 use Rattle.adx_json.specs.Tree.{Tree, item, list, no_items}
 use Rattle.adx_json.specs.View.{tree_of}
-use Rattle.tree_view.specs.Checks.{judged}
-use Rattle.tree_view.specs.Values.{items_in, text_or_empty, texts_in}
+use Rattle.adx_json.specs.Checks.{judged}
+use Rattle.adx_json.specs.Values.{items_in, text_or_empty, texts_in}
 use Rattle.deal_floor.specs.declared.campaign.Campaign.{Campaign}
 use Rattle.deal_floor.specs.declared.fault.RosterFault.{RosterFault}
 use Rattle.deal_floor.specs.declared.limits.Limits.{Limits}

@@ -3,6 +3,7 @@ use Rattle.std.specs.Prelude.{ℕ}
 use Rattle.deal_floor.specs.declared.reason.Reason.{Reason}
 use Rattle.deal_floor.specs.declared.reason.Reason.TheVariants.{NotEligible, SeatNotAllowed, DealNotEligible, BelowFloor, BelowDealFloor, BlockedAdvertiser, BlockedCategory}
 
+-- the number of a reason: 3, 104, 4, 100, 101, 205, 209 in the order of the rules
 abbrev pub number_of : Reason → ℕ
 number_of NotEligible = 3
 number_of SeatNotAllowed = 104

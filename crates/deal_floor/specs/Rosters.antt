@@ -7,10 +7,10 @@ use Rattle.adx_json.specs.Named.{member_in}
 use Rattle.adx_json.specs.Spelling.{spelling}
 use Rattle.sha2.specs.Sha256.{sha256}
 use Rattle.adx_units.specs.declared.units.Units.{Units}
-use Rattle.tree_view.specs.Values.{text_in, text_or_empty, items_in, texts_in, or_zero, is_text_if_given, is_list_if_given, is_object_if_given, are_texts_if_given}
-use Rattle.tree_view.specs.Checks.{Check, check, judged}
+use Rattle.adx_json.specs.Values.{text_in, text_or_empty, items_in, texts_in, or_zero, is_text_if_given, is_list_if_given, is_object_if_given, are_texts_if_given}
+use Rattle.adx_json.specs.Checks.{Check, check, judged}
 use Rattle.rtb_request.specs.Amounts.{is_id, units_or_zero}
-use Rattle.name_sets.specs.Among.{is_among}
+use Rattle.adx_units.specs.Among.{is_among}
 use Rattle.deal_floor.specs.Forms.{member_within, is_date_text, text_or, is_whole_if_given, whole_or, is_path_if_given, budget_in, place_in}
 use Rattle.deal_floor.specs.Pairs.{Pair, is_pair_among}
 use Rattle.deal_floor.specs.declared.campaign.TheConstants.{MOST_CAMPAIGNS}
@@ -23,6 +23,7 @@ use Rattle.deal_floor.specs.declared.fault.Field.TheVariants as fields
 
 -- a bidder
 
+-- the name of a bidder, empty if it is absent
 abbrev pub bidder_name : Tree → List ℕ
 bidder_name t = text_or_empty (member_in (codes "name") t)
 
@@ -41,6 +42,7 @@ abbrev pub bidders_checks : List (List ℕ) → List Tree → List (Check Roster
 bidders_checks before [] = []
 bidders_checks before (t ∷ ts) = bidder_checks before t ++ bidders_checks (before ++ bidder_name t ∷ []) ts
 
+-- what a roster says of a bidder: its name and where it listens
 pub record PlaceView : Type 0 where
   pub name : List ℕ
   pub host : List ℕ
@@ -58,6 +60,7 @@ place_view t = record {
 
 -- a campaign
 
+-- the seat and the cid of a campaign, empty if absent
 abbrev pub campaign_pair : Tree → Pair
 campaign_pair t = (text_or_empty (member_in (codes "seat") t), text_or_empty (member_in (codes "cid") t))
 
@@ -77,6 +80,7 @@ campaigns_checks names before [] = []
 campaigns_checks names before (t ∷ ts) =
     campaign_checks names before t ++ campaigns_checks names (before ++ campaign_pair t ∷ []) ts
 
+-- what a roster says of a campaign; its bidder is a place in the list
 pub record CampaignView : Type 0 where
   pub bidder : ℕ
   pub seat : List ℕ
@@ -102,6 +106,7 @@ limits_checks v =
     ∷ check (is_whole_if_given MOST_TEXT (member_within (codes "text") v)) (BadField fields.LimitsText)
     ∷ []
 
+-- the limits of a day
 pub record LimitsView : Type 0 where
   pub auctions : ℕ
   pub bids : ℕ
@@ -153,15 +158,19 @@ replies_checks bidders v =
 
 -- the whole roster
 
+-- the bidders of a roster, as they are written
 abbrev pub bidder_trees : Tree → List Tree
 bidder_trees t = items_in (member_in (codes "bidders") t)
 
+-- their names
 abbrev pub bidder_names : Tree → List (List ℕ)
 bidder_names t = map bidder_name (bidder_trees t)
 
+-- the campaigns of a roster, as they are written
 abbrev pub campaign_trees : Tree → List Tree
 campaign_trees t = items_in (member_in (codes "campaigns") t)
 
+-- its lists of replies, as they are written
 abbrev pub reply_trees : Tree → List Tree
 reply_trees t = items_in (member_in (codes "replies") t)
 
@@ -174,6 +183,7 @@ roster_checks t =
     ++ (replies_checks (length (bidder_trees t)) (member_in (codes "replies") t)
     ++ limits_checks (member_in (codes "limits") t))))
 
+-- the value, or null if it is absent
 abbrev pub or_null : Option Tree → Tree
 or_null v = unwrap_or v null
 
@@ -182,6 +192,7 @@ abbrev pub digest_tree : Tree → Tree
 digest_tree t =
     list (item (or_null (member_in (codes "day") t)) (item (or_null (member_in (codes "campaigns") t)) no_items))
 
+-- what a roster says
 pub record RosterView : Type 0 where
   pub day : List ℕ
   pub base : List ℕ

@@ -7,15 +7,19 @@ use Rattle.deal_floor.specs.declared.campaign.Campaign.{Campaign}
 use Rattle.deal_floor.specs.declared.limits.Limits.{Limits}
 use Rattle.deal_floor.specs.declared.roster.Roster.{Roster}
 
+-- what a bidder of the code says
 abbrev pub seen_place : Place → PlaceView
 seen_place p = record { name = p.name; host = p.host; port = p.port; path = p.path }
 
+-- what a campaign of the code says
 abbrev pub seen_campaign : Campaign → CampaignView
 seen_campaign c = record { bidder = c.bidder; seat = c.seat; cid = c.cid; budget = c.budget }
 
+-- what the limits of the code say
 abbrev pub seen_limits : Limits → LimitsView
 seen_limits l = record { auctions = l.auctions; bids = l.bids; text = l.text }
 
+-- what a roster of the code says
 abbrev pub seen_roster : Roster → RosterView
 seen_roster r =
     record {

@@ -2,7 +2,7 @@
 ghost use Rattle.std.specs.Prelude.{◌≡◌, ◌≤◌, ◌<◌, ◌⊎◌, ◌&&◌, not, length, IfOk};
 ghost use Rattle.adx_units.specs.declared.offer.TheConstants.{ADMITTED};
 ghost use Rattle.adx_units.specs.declared.price.TheConstants.{PRICE_LIMIT};
-ghost use Rattle.name_sets.specs.Among.{is_among as is_among_by};
+ghost use Rattle.adx_units.specs.Among.{is_among as is_among_by};
 ghost use Rattle.deal_floor.specs.Admission.{admitted, refused_offer, kept_length, life_by, number_or_zero, allows as allows_by, case_by_parts};
 ghost use Rattle.deal_floor.specs.declared.terms.TheConstants.{MOST_KEPT, MOST_LIFE, NO_IMP};
 
@@ -11,8 +11,7 @@ use crate::deals::{allows, charge_of, is_deal_eligible, named_deal};
 use crate::reason::Reason;
 use crate::roster::Roster;
 use crate::terms::{MOST_LIFE, NO_IMP, USUAL_LIFE};
-use adx_units::{ADMITTED, Offer, Units};
-use name_sets::{any_among, is_among};
+use adx_units::{ADMITTED, Offer, Units, any_among, is_among};
 use rtb_request::{BidRequest, Deal};
 use rtb_response::{Bid, SeatBid};
 use std::alloc::Global;

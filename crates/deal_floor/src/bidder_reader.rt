@@ -2,7 +2,7 @@
 ghost use Rattle.std.specs.Prelude.{◌≡◌, ◌≤◌, ◌<◌, ◌+◌, ◌++◌, ◌∷◌, [], map, length, true, IfOk, OnOk};
 ghost use Rattle.std.specs.List.{list_any};
 ghost use Rattle.adx_json.specs.View.{tree_of, trees_of};
-ghost use Rattle.tree_view.specs.Checks.{Gives};
+ghost use Rattle.adx_json.specs.Checks.{Gives};
 ghost use Rattle.rtb_request.specs.Distinct.{all_distinct};
 ghost use Rattle.deal_floor.specs.Faults.{lacks_memory};
 ghost use Rattle.deal_floor.specs.Seen.{seen_place, place_has_name};
@@ -14,10 +14,9 @@ use crate::fault::{Field, RosterFault, bad_field};
 use crate::members::bidder_members;
 use crate::place::{MOST_PORT, Place};
 use crate::value::{id_in, is_path_if_given, text_or, whole_or};
-use adx_json::Json;
+use adx_json::{Json, is_text_if_given};
 use adx_units::Id;
 use std::alloc::Global;
-use tree_view::is_text_if_given;
 
 /// The bidders of a list, or the first fault of any of them.
 pub(crate) fn bidders_of(alloc: Global, trees: &[Json]) -> Result<Vec<Place>, RosterFault>

@@ -2,7 +2,7 @@
 ghost use Rattle.std.specs.Prelude.{◌≡◌, ◌≤◌, ◌<◌, ◌+◌, ◌++◌, ◌∷◌, [], map, length, true, IfOk, OnOk};
 ghost use Rattle.std.specs.List.{position};
 ghost use Rattle.adx_json.specs.View.{tree_of, trees_of};
-ghost use Rattle.tree_view.specs.Checks.{Gives};
+ghost use Rattle.adx_json.specs.Checks.{Gives};
 ghost use Rattle.deal_floor.specs.Faults.{lacks_memory};
 ghost use Rattle.deal_floor.specs.Forms.{place_in as place_by};
 ghost use Rattle.deal_floor.specs.Pairs.{pair_of, all_pairs_distinct, have_bidders};
@@ -18,10 +18,9 @@ use crate::fault::{Field, RosterFault, bad_field};
 use crate::members::campaign_members;
 use crate::place::Place;
 use crate::value::{budget_in, id_in};
-use adx_json::Json;
+use adx_json::{Json, text_in};
 use adx_units::Text;
 use std::alloc::Global;
-use tree_view::text_in;
 
 /// The campaigns of a list, or the first fault of any of them.
 pub(crate) fn campaigns_of(

@@ -4,8 +4,7 @@ ghost use Rattle.std.specs.List.{position};
 ghost use Rattle.rtb_request.specs.Seen.{deal_has_id};
 ghost use Rattle.deal_floor.specs.Admission.{allows as allows_by, advertisers_allowed, deal_is_open_to, deal_eligible_by, deal_in as deal_in_by, deal_by, charge_by};
 
-use adx_units::{Text, Units};
-use name_sets::{all_among, is_among};
+use adx_units::{Text, Units, all_among, is_among};
 use rtb_request::{Deal, Imp};
 use rtb_response::{Bid, SeatBid};
 use std::alloc::Global;

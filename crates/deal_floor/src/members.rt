@@ -5,8 +5,7 @@ ghost use Rattle.adx_json.specs.View.{tree_of};
 ghost use Rattle.deal_floor.specs.Forms.{member_within};
 ghost use Rattle.deal_floor.specs.Reading.{given};
 
-use adx_json::Json;
-use tree_view::{members_in, met};
+use adx_json::{Json, find_members};
 
 /// The members of a roster.
 #[derive(Clone, Copy)]
@@ -29,22 +28,21 @@ pub(crate) fn roster_members(tree: &Json) -> RosterMembers<'_>
     ensures replies { given result.replies ≡ member_in (codes "replies") (tree_of tree.now) }
     ensures limits { given result.limits ≡ member_in (codes "limits") (tree_of tree.now) }
 {
-    let mut day = None;
-    let mut base = None;
-    let mut now = None;
-    let mut bidders = None;
-    let mut campaigns = None;
-    let mut replies = None;
-    let mut limits = None;
-    for member in members_in(tree) {
-        day = met(day, "day", member);
-        base = met(base, "base", member);
-        now = met(now, "now", member);
-        bidders = met(bidders, "bidders", member);
-        campaigns = met(campaigns, "campaigns", member);
-        replies = met(replies, "replies", member);
-        limits = met(limits, "limits", member);
-    }
+    let mut found = [None; 7];
+    find_members(
+        Some(tree),
+        &[
+            "day",
+            "base",
+            "now",
+            "bidders",
+            "campaigns",
+            "replies",
+            "limits",
+        ],
+        &mut found,
+    );
+    let [day, base, now, bidders, campaigns, replies, limits] = found;
     RosterMembers {
         day,
         base,
@@ -71,16 +69,9 @@ pub(crate) fn bidder_members(tree: &Json) -> BidderMembers<'_>
     ensures port { given result.port ≡ member_in (codes "port") (tree_of tree.now) }
     ensures path { given result.path ≡ member_in (codes "path") (tree_of tree.now) }
 {
-    let mut name = None;
-    let mut host = None;
-    let mut port = None;
-    let mut path = None;
-    for member in members_in(tree) {
-        name = met(name, "name", member);
-        host = met(host, "host", member);
-        port = met(port, "port", member);
-        path = met(path, "path", member);
-    }
+    let mut found = [None; 4];
+    find_members(Some(tree), &["name", "host", "port", "path"], &mut found);
+    let [name, host, port, path] = found;
     BidderMembers {
         name,
         host,
@@ -104,16 +95,9 @@ pub(crate) fn campaign_members(tree: &Json) -> CampaignMembers<'_>
     ensures cid { given result.cid ≡ member_in (codes "cid") (tree_of tree.now) }
     ensures budget { given result.budget ≡ member_in (codes "budget") (tree_of tree.now) }
 {
-    let mut bidder = None;
-    let mut seat = None;
-    let mut cid = None;
-    let mut budget = None;
-    for member in members_in(tree) {
-        bidder = met(bidder, "bidder", member);
-        seat = met(seat, "seat", member);
-        cid = met(cid, "cid", member);
-        budget = met(budget, "budget", member);
-    }
+    let mut found = [None; 4];
+    find_members(Some(tree), &["bidder", "seat", "cid", "budget"], &mut found);
+    let [bidder, seat, cid, budget] = found;
     CampaignMembers {
         bidder,
         seat,
@@ -130,38 +114,18 @@ pub(crate) struct LimitsMembers<'a> {
     pub text: Option<&'a Json>,
 }
 
-fn limits_members(tree: &Json) -> LimitsMembers<'_>
-    ensures auctions { given result.auctions ≡ member_in (codes "auctions") (tree_of tree.now) }
-    ensures bids { given result.bids ≡ member_in (codes "bids") (tree_of tree.now) }
-    ensures text { given result.text ≡ member_in (codes "text") (tree_of tree.now) }
-{
-    let mut auctions = None;
-    let mut bids = None;
-    let mut text = None;
-    for member in members_in(tree) {
-        auctions = met(auctions, "auctions", member);
-        bids = met(bids, "bids", member);
-        text = met(text, "text", member);
-    }
-    LimitsMembers {
-        auctions,
-        bids,
-        text,
-    }
-}
-
 /// The members of limits that may be absent.
 pub(crate) fn members_of_limits(limits: Option<&Json>) -> LimitsMembers<'_>
     ensures auctions { given result.auctions ≡ member_within (codes "auctions") (given limits.entry) }
     ensures bids { given result.bids ≡ member_within (codes "bids") (given limits.entry) }
     ensures text { given result.text ≡ member_within (codes "text") (given limits.entry) }
 {
-    match limits {
-        Some(tree) => limits_members(tree),
-        None => LimitsMembers {
-            auctions: None,
-            bids: None,
-            text: None,
-        },
+    let mut found = [None; 3];
+    find_members(limits, &["auctions", "bids", "text"], &mut found);
+    let [auctions, bids, text] = found;
+    LimitsMembers {
+        auctions,
+        bids,
+        text,
     }
 }

@@ -2,13 +2,12 @@
 ghost use Rattle.std.specs.Prelude.{◌≡◌, map, length, Some, IfOk};
 ghost use Rattle.std.specs.List.{list_all};
 ghost use Rattle.adx_json.specs.View.{tree_of, trees_of};
-ghost use Rattle.tree_view.specs.Values.{texts_in as texts_by};
+ghost use Rattle.adx_json.specs.Values.{texts_in as texts_by};
 ghost use Rattle.deal_floor.specs.Rosters.{are_texts};
 
-use adx_json::Json;
+use adx_json::{Json, are_texts_if_given, texts_in};
 use adx_units::{OutOfMemory, Sequence, Text};
 use std::alloc::Global;
-use tree_view::{are_texts_if_given, texts_in};
 
 /// Whether each value is a list of texts.
 #[tactic(auto, using(crate::proofs::ReplySteps::all_replies))]

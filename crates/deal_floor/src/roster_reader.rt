@@ -2,7 +2,7 @@
 ghost use Rattle.std.specs.Prelude.{◌≡◌, ℕ, ◌≤◌, List, ◌++◌, map, length, Some, true, IfOk, OnOk, string_bytes};
 ghost use Rattle.adx_json.specs.Spelling.{spelling};
 ghost use Rattle.adx_json.specs.View.{tree_of, trees_of};
-ghost use Rattle.tree_view.specs.Checks.{Gives};
+ghost use Rattle.adx_json.specs.Checks.{Gives};
 ghost use Rattle.rtb_request.specs.Distinct.{all_distinct};
 ghost use Rattle.deal_floor.specs.Faults.{lacks_memory};
 ghost use Rattle.deal_floor.specs.Forms.{is_date};
@@ -25,11 +25,12 @@ use crate::place::{MOST_BIDDERS, Place};
 use crate::replies::{are_replies, replies_of};
 use crate::roster::{MOST_NOW, Roster};
 use crate::value::{date_in, text_or, whole_or};
-use adx_json::{Json, push_value};
+use adx_json::{
+    Json, is_list_if_given, is_object_if_given, is_text_if_given, items_in, push_value,
+};
 use adx_units::{OutOfMemory, Sequence, Text};
 use sha2::{Digest, Sha256};
 use std::alloc::Global;
-use tree_view::{is_list_if_given, is_object_if_given, is_text_if_given, items_in};
 
 impl Roster {
     /// The view of a roster, or its first fault. A member that is null is there and isn't of its form; members that no

@@ -3,15 +3,14 @@ ghost use Rattle.std.specs.Prelude.{◌≡◌, ◌≤◌, ◌&&◌, ◌==◌, If
 ghost use Rattle.std.specs.List.{list_all, enumerate_from};
 ghost use Rattle.adx_units.specs.Number.{is_digit as is_digit_by};
 ghost use Rattle.adx_units.specs.declared.price.TheConstants.{BUDGET_LIMIT};
-ghost use Rattle.tree_view.specs.Values.{text_in as text_by, text_or_empty};
+ghost use Rattle.adx_json.specs.Values.{text_in as text_by, text_or_empty};
 ghost use Rattle.rtb_request.specs.Amounts.{is_id};
 ghost use Rattle.deal_floor.specs.Forms.{is_date as is_date_by, is_date_text, is_date_byte as is_date_byte_by, text_or as text_or_by, is_whole_if_given, whole_or as whole_or_by, is_path_if_given as is_path_by, budget_in as budget_by};
 ghost use Rattle.deal_floor.specs.Reading.{given};
 
-use adx_json::Json;
+use adx_json::{Json, number_in, text_in};
 use adx_units::{Id, OutOfMemory, Text, Units, budget_of, whole_up_to};
 use std::alloc::Global;
-use tree_view::{number_in, text_in};
 
 fn is_digit(byte: u8) -> bool
     ensures { result ≡ is_digit_by byte }

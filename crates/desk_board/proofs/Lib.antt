@@ -1,1 +1,4 @@
 pub mod Meeting
+mod Boards
+mod Tending
+mod Rooms

@@ -9,8 +9,8 @@ use Rattle.adx_desk.specs.declared.shared.OpenedWith.{OpenedWith}
 use Rattle.adx_desk.specs.declared.turn.Turn.{Turn}
 use Rattle.turnstile.specs.Passes.{PassView, told}
 use Rattle.turnstile.specs.Places.{AreOneList}
-use Rattle.meter_steps.specs.declared.step.MeterStep.{MeterStep}
-use Rattle.day_meters.specs.DayMeters.{steps_of}
+use Rattle.day_rules.specs.declared.step.MeterStep.{MeterStep}
+use Rattle.day_rules.specs.DayMeters.{steps_of}
 use Rattle.meter_board.proofs.Beginnings.{still_begins}
 use Rattle.shared_desk.specs.Callers.{Looks, Passed}
 use Rattle.shared_desk.proofs.Steps.{as_many, prefix_of_steps, steps_front}

@@ -1,6 +1,6 @@
 //! A board of steps with a pass of the desk whose meters it shows.
 ghost use Rattle.std.specs.Prelude.{◌≡◌, length, take};
-ghost use Rattle.day_meters.specs.DayMeters.{steps_of};
+ghost use Rattle.day_rules.specs.DayMeters.{steps_of};
 ghost use Rattle.meter_board.specs.Words.{published, taken};
 
 use adx_desk::Desk;

@@ -2,7 +2,7 @@
 ghost use Rattle.std.specs.Prelude.{◌≡◌, ◌≤◌, ◌⊎◌, [], All, length, take, IfOk, OnErr};
 ghost use mathlib.Core.List.{IsPrefix};
 ghost use Rattle.turnstile.specs.Passes.{IsOf, IsSamePass};
-ghost use Rattle.day_meters.specs.DayMeters.{steps_of};
+ghost use Rattle.day_rules.specs.DayMeters.{steps_of};
 ghost use Rattle.meter_board.specs.Words.{published, seen, IsOf as IsReaderOf, IsSameBoard};
 
 use crate::board::Board;

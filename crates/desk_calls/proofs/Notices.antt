@@ -4,8 +4,8 @@ use Rattle.std.proofs.lemmas.List.{take_all}
 use Rattle.day_rules.specs.Laws.{Arrival, after_arrival}
 use Rattle.day_rules.specs.declared.answer.Answer.{Answer}
 use Rattle.day_rules.specs.declared.entry.Entry.{Entry}
-use Rattle.notice_batches.specs.Batches.{AreApart, BatchState, answers_in_turn}
-use Rattle.notice_batches.specs.declared.batch.TheConstants.{BATCH_LIMIT}
+use Rattle.day_machine.specs.Batches.{AreApart, BatchState, answers_in_turn}
+use Rattle.day_machine.specs.declared.batch.TheConstants.{BATCH_LIMIT}
 use Rattle.desk_calls.specs.Desks.{IsNoticed, RanTogether, Takes, fault_of_disk}
 use Rattle.desk_calls.specs.Steps.{Step, took}
 use Rattle.desk_calls.specs.Together.{AreNoticed, TakesNotices, call_by, noticed, took_in_turn}

@@ -16,10 +16,10 @@ use Rattle.day_rules.specs.Entries.{BudgetChange}
 use Rattle.day_rules.specs.Replies.{Call, ask, set_budget, tick, ask_reply, budget_reply, tick_reply, with_entry}
 use Rattle.day_rules.specs.Terms.{Terms}
 use Rattle.deal_floor.specs.declared.roster.Roster.{Roster}
-use Rattle.notice_batches.specs.Batches.{BatchState, answers_in_turn}
+use Rattle.day_machine.specs.Batches.{BatchState, answers_in_turn}
 use Rattle.desk_calls.specs.Calls.{Ended, wanted_memory, was_done, was_given_up}
 use Rattle.desk_calls.specs.Steps.{Step, looked, metered, took}
-use Rattle.meter_steps.specs.declared.meters.Meters.{Meters}
+use Rattle.day_rules.specs.declared.meters.Meters.{Meters}
 use Rattle.desk_calls.specs.Together.{call_by, took_in_turn}
 
 -- given up by the disk's fault
@@ -31,6 +31,7 @@ abbrev pub ended_as : Option Fault → Ended
 ended_as None = wanted_memory
 ended_as (Some fault) = was_given_up fault
 
+-- how a call ended that this fault gave up
 abbrev pub ended_by : DeskFault → Ended
 ended_by fault = ended_as (told_as fault)
 

@@ -8,8 +8,8 @@ use Rattle.day_rules.specs.declared.entry.Entry.{Entry}
 use Rattle.day_rules.specs.Legal.{IsLegal}
 use Rattle.day_rules.specs.Runs.{Turn}
 use Rattle.day_rules.specs.Terms.{Terms}
-use Rattle.day_meters.specs.DayMeters.{meters_after}
-use Rattle.meter_steps.specs.declared.meters.Meters.{Meters}
+use Rattle.day_rules.specs.DayMeters.{meters_after}
+use Rattle.day_rules.specs.declared.meters.Meters.{Meters}
 use Rattle.desk_calls.specs.Calls.{Called, Ended, IsCalled, left_by, turn_of, was_done, was_given_up, wanted_memory}
 
 -- a call; a look at a history; or meters that were read, with the history that was seen then
@@ -45,6 +45,8 @@ abbrev pub shared : Way
 shared = record { goes = IsPrefix; reads = λ history meters. Unit {0} }
 
 -- it is one that a desk with these terms answers
+-- Example: on a shared desk a caller that saw 3 entries bills an award while another adds one: the call is at a
+-- history of 4, and leaves 5.
 abbrev pub IsStep : Way → DeskTerms → Step → Type 0
 IsStep way terms (took c) = IsCalled terms c
 IsStep way terms (looked history) = IsLegal terms.day history
@@ -78,6 +80,7 @@ faults_by (was_given_up Fault.Disk) more = suc more
 faults_by (was_given_up (Fault.JournalFull size)) more = more
 faults_by wanted_memory more = more
 
+-- how many of the calls a fault of the disk gave up
 abbrev pub disk_faults : List Step → ℕ
 disk_faults [] = zero
 disk_faults (took c ∷ steps) = faults_by c.ended (disk_faults steps)

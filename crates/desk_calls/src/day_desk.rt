@@ -4,18 +4,17 @@ ghost use Rattle.adx_desk.specs.Rosters.{desk_terms};
 ghost use Rattle.adx_desk.specs.declared.fault.DeskFault.{DeskFault as Fault};
 ghost use Rattle.campaign_book.specs.Accounts.{IsBudget};
 ghost use Rattle.day_rules.specs.Asks.{IsUndecided, IsWellFormed};
-ghost use Rattle.notice_batches.specs.Batches.{AreApart};
-ghost use Rattle.notice_batches.specs.declared.batch.TheConstants.{BATCH_LIMIT as batch_limit};
+ghost use Rattle.day_machine.specs.Batches.{AreApart};
+ghost use Rattle.day_machine.specs.declared.batch.TheConstants.{BATCH_LIMIT as batch_limit};
 ghost use Rattle.desk_calls.specs.Desks.{IsAsked, IsChanged, IsNoticed, IsTicked, Looks, Reads, RanTogether, ShowsBooks, Takes, ended_by, fault_of_disk};
 ghost use Rattle.day_rules.specs.Entries.{change_of};
 ghost use Rattle.day_rules.specs.Replies.{seen_in, ask as ask_call, notice as notice_call, set_budget as change_call, tick as tick_call};
 
 use adx_desk::{DeskFault, Done};
 use adx_units::{OutOfMemory, Units};
-use day_rules::{Answer, Ask, Seen};
+use day_machine::Batch;
+use day_rules::{Answer, Ask, Meters, Seen};
 use deal_floor::Roster;
-use meter_steps::Meters;
-use notice_batches::Batch;
 use notice_book::NoticeKind;
 
 /// The desk of a roster's day, as one who calls it sees it. Others may call it between his calls, where it is shared.
@@ -26,8 +25,8 @@ pub trait DayDesk {
     ghost use Rattle.day_rules.specs.declared.entry.Entry.{Entry};
     ghost use Rattle.day_rules.specs.declared.answer.Answer.{Answer};
     ghost use Rattle.day_rules.specs.Laws.{Arrival};
-    ghost use Rattle.notice_batches.specs.Batches.{AreApart};
-    ghost use Rattle.notice_batches.specs.declared.batch.TheConstants.{BATCH_LIMIT};
+    ghost use Rattle.day_machine.specs.Batches.{AreApart};
+    ghost use Rattle.day_machine.specs.declared.batch.TheConstants.{BATCH_LIMIT};
     ghost use Rattle.desk_calls.specs.Steps.{AreSteps, Step, Way};
     ghost use Rattle.desk_calls.specs.Together.{AreNoticed};
 

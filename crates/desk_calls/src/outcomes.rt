@@ -1,12 +1,12 @@
 //! Notices that are taken together, and one by one where the disk's fault gave that up.
 ghost use Rattle.std.specs.Prelude.{◌≡◌, ◌≤◌, ◌∷◌, [], map, length, None, Some, IfSome, vec_capacity};
-ghost use Rattle.notice_batches.specs.Batches.{AreApart};
-ghost use Rattle.notice_batches.specs.declared.batch.TheConstants.{BATCH_LIMIT as batch_limit};
+ghost use Rattle.day_machine.specs.Batches.{AreApart};
+ghost use Rattle.day_machine.specs.declared.batch.TheConstants.{BATCH_LIMIT as batch_limit};
 ghost use Rattle.desk_calls.specs.Together.{TakesNotices};
 
 use crate::day_desk::DayDesk;
+use day_machine::Batch;
 use day_rules::Answer;
-use notice_batches::Batch;
 use notice_book::NoticeKind;
 
 /// Takes the answers of a batch that ran.

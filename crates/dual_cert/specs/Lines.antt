@@ -5,6 +5,7 @@ use Rattle.std.specs.Fmt.{decimal}
 use Rattle.formats.specs.Parts.{ended, part}
 use Rattle.dual_cert.specs.declared.cert.Cert.{Cert}
 
+-- the first line of a certificate
 abbrev pub head_line : List ℕ
 head_line = codes "adx-cert 1"
 
@@ -24,6 +25,7 @@ bound_line n = codes "bound " ++ decimal n
 abbrev pub rows_lines : List ℕ → List ℕ → List (List ℕ)
 rows_lines alphas betas = head_line ∷ (map alpha_line (enumerate_from 0 alphas) ++ map beta_line (enumerate_from 0 betas))
 
+-- all lines after it: alphas, betas, bound
 abbrev pub lines : Cert → List (List ℕ)
 lines c = rows_lines c.alphas c.betas ++ bound_line c.bound ∷ []
 

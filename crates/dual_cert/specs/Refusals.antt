@@ -27,6 +27,7 @@ IsWhole nothing = ⊥
 IsWhole (rows alphas betas) = ⊥
 IsWhole (all alphas betas bound) = Unit {0}
 
+-- after these lines, this one may not come
 abbrev pub DoesNotFollow : Told → List ℕ → Type 0
 DoesNotFollow told line = (next : Told) → Follows told line next → ⊥
 

@@ -8,7 +8,7 @@ use Rattle.fan_out.specs.declared.lane.Lane.{Lane}
 use Rattle.fan_out.specs.Lanes.{Outcome}
 use Rattle.http_connection.specs.declared.conn.ConnEnd.{ConnEnd}
 use Rattle.exchange_http.specs.Running.{Coming, EndsHere, IsUnderWay, StepGives, more}
-use Rattle.exchange_floor.specs.Floors.{IsMomentOf}
+use Rattle.exchange_messages.specs.Floors.{IsMomentOf}
 use Rattle.exchange_http.specs.declared.over.Over.{Over}
 use Rattle.exchange_http.specs.declared.stop.Stop.{Stop}
 

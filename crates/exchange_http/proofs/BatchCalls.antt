@@ -2,10 +2,10 @@
 use Rattle.std.proofs.Common.{◌≡◌, ◌+◌, ◌≤◌, List, [], ◌∷◌, ◌++◌, length, Bool, true, false, MatchBool, None, refl, sym, ap, ◌∙◌, subst, arith}
 use Rattle.std.specs.List.{IsDistinct}
 use Rattle.day_rules.specs.Laws.{Arrival}
-use Rattle.notice_batches.specs.Batches.{AreApart, BatchState, MayJoin, joined}
-use Rattle.notice_batches.specs.Fields.{AreCalls}
-use Rattle.notice_batches.specs.declared.batch.TheConstants.{BATCH_LIMIT}
-use Rattle.notice_batches.proofs.Calls.{more_calls}
+use Rattle.day_machine.specs.Batches.{AreApart, BatchState, MayJoin, joined}
+use Rattle.day_machine.specs.BatchFields.{AreCalls}
+use Rattle.day_machine.specs.declared.batch.TheConstants.{BATCH_LIMIT}
+use Rattle.day_machine.proofs.Calls.{more_calls}
 
 -- no notice is apart from others
 none_apart : AreApart []

@@ -5,7 +5,7 @@ use Rattle.adx_http.specs.Written.{WritesBy}
 use Rattle.adx_http.specs.declared.reply.WriteFault.{WriteFault}
 use Rattle.adx_io.specs.Streams.{HasCause, Rises}
 use Rattle.adx_io.specs.declared.failed.Failed.{Failed}
-use Rattle.http_bodies.specs.Steps.{ReadsBy}
+use Rattle.http_connection.specs.Steps.{ReadsBy}
 use Rattle.http_connection.specs.declared.conn.ConnEnd.{ConnEnd}
 use Rattle.http_connection.specs.declared.conn.Message.{Message}
 use Rattle.http_grammar.specs.declared.fault.HttpFault.{HttpFault}

@@ -7,8 +7,8 @@ use Rattle.day_rules.specs.Laws.{Arrival}
 use Rattle.deal_floor.specs.declared.roster.Roster.{Roster}
 use Rattle.fan_out.specs.declared.lane.Lane.{Lane}
 use Rattle.fan_out.specs.Lanes.{Outcome}
-use Rattle.http_bodies.specs.Steps.{Advances}
-use Rattle.http_buffer.specs.State.{Passes}
+use Rattle.http_connection.specs.Steps.{Advances}
+use Rattle.http_connection.specs.BufferState.{Passes}
 use Rattle.http_connection.specs.Answers.{AnswersMessage, GivesMessage, Shows}
 use Rattle.http_connection.specs.Messages.{AreRequests, IsUnfinishedRequest, RefusesRequest, Request}
 use Rattle.http_connection.specs.State.{ConnState}

@@ -13,7 +13,7 @@ use Rattle.day_rules.specs.declared.answer.Answer.{Answer}
 use Rattle.deal_floor.specs.declared.roster.Roster.{Roster}
 use Rattle.fan_out.specs.declared.lane.Lane.{Lane}
 use Rattle.fan_out.specs.Lanes.{Outcome}
-use Rattle.notice_batches.specs.Batches.{BatchState, MayJoin, joined}
+use Rattle.day_machine.specs.Batches.{BatchState, MayJoin, joined}
 use Rattle.exchange_http.specs.Gathered.{Moves, count_of}
 use Rattle.exchange_http.specs.Running.{Coming, FlushFails, Flushes, IsSettled, IsUnderWay, outcomes_bytes}
 use Rattle.exchange_http.proofs.Gathered.{known_none}

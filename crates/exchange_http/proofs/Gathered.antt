@@ -3,7 +3,7 @@ use Rattle.std.proofs.Common.{◌≡◌, inl, inr, ℕ, ◌+◌, ◌-◌, ◌≤
 use Rattle.std.proofs.lemmas.List.{drop-drop, take-append-drop, take_all}
 use Rattle.std.specs.Io.KnownBytes.{append_known}
 use Rattle.adx_io.specs.Streams.{Took}
-use Rattle.notice_batches.specs.declared.batch.TheConstants.{BATCH_LIMIT}
+use Rattle.day_machine.specs.declared.batch.TheConstants.{BATCH_LIMIT}
 use Rattle.http_connection.specs.Messages.{Request}
 use Rattle.http_service.specs.Connections.{Answering, Replies}
 use Rattle.http_service.specs.Replies.{reply_to}

@@ -13,3 +13,4 @@ pub mod OneReply
 pub mod Served
 pub mod UnderWay
 pub mod WrittenOutcomes
+pub mod OwnCalls

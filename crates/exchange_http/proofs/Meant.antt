@@ -16,7 +16,7 @@ use Rattle.script_lines.specs.declared.refusal.RosterRefusal.{RosterRefusal}
 use Rattle.script_lines.proofs.OneFault.{one_fault}
 use Rattle.script_lines.proofs.SomeMeaning.{some_first}
 use Rattle.script_lines.proofs.SomeRequest.{some_request}
-use Rattle.tree_view.specs.Checks.{first_fault, judged_by}
+use Rattle.adx_json.specs.Checks.{first_fault, judged_by}
 use Rattle.exchange_http.specs.Laws.{AreOne, HasMeaning, HasOneMeaning}
 use Rattle.exchange_messages.specs.Meanings.{BodyMeans, Meaning, MeansBy, PathMeans, ServedMeans, TreeMeans, asks, budget_query_meaning, query_meaning, refused, wants_books, wants_meters}
 use Rattle.exchange_messages.specs.Paths.{is_served, path_named}

@@ -7,7 +7,7 @@ use Rattle.day_rules.specs.Laws.{Arrival}
 use Rattle.deal_floor.specs.declared.roster.Roster.{Roster}
 use Rattle.fan_out.specs.declared.lane.Lane.{Lane}
 use Rattle.fan_out.specs.Lanes.{Outcome}
-use Rattle.http_bodies.specs.Steps.{Advances}
+use Rattle.http_connection.specs.Steps.{Advances}
 use Rattle.http_connection.specs.Answers.{GivesMessage}
 use Rattle.http_connection.specs.Messages.{IsRequestThen, IsUnfinishedRequest, Request}
 use Rattle.http_connection.specs.State.{ConnState, room_of}

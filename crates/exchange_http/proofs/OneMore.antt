@@ -6,12 +6,12 @@ use Rattle.adx_io.specs.Streams.{Tape}
 use Rattle.http_grammar.specs.Requests.{is_kept}
 use Rattle.desk_calls.specs.Steps.{Step}
 use Rattle.desk_calls.specs.declared.day_desk.DayDesk.{Ghosts as DeskGhosts}
-use Rattle.notice_batches.specs.declared.batch.TheConstants.{BATCH_LIMIT}
+use Rattle.day_machine.specs.declared.batch.TheConstants.{BATCH_LIMIT}
 use Rattle.adx_links.specs.declared.link.Link.{Ghosts as LinkGhosts}
-use Rattle.exchange_floor.specs.Floors.{AnswersHere, GivesUpHere, IsMomentOf, works}
-use Rattle.exchange_floor.specs.declared.clock.Clock.{Ghosts as ClockGhosts}
-use Rattle.exchange_floor.specs.declared.floor.Floor.{Floor}
-use Rattle.exchange_floor.proofs.Requested.{JoinsSteps}
+use Rattle.exchange_messages.specs.Floors.{AnswersHere, GivesUpHere, IsMomentOf, works}
+use Rattle.exchange_messages.specs.declared.clock.Clock.{Ghosts as ClockGhosts}
+use Rattle.exchange_messages.specs.declared.floor.Floor.{Floor}
+use Rattle.exchange_messages.proofs.Requested.{JoinsSteps}
 use Rattle.exchange_messages.specs.Replies.{Reply}
 use Rattle.deal_floor.specs.declared.roster.Roster.{Roster}
 use Rattle.fan_out.specs.declared.lane.Lane.{Lane}

@@ -16,16 +16,16 @@ use Rattle.desk_calls.specs.Calls.{turn_of}
 use Rattle.desk_calls.specs.Steps.{AreSteps, Step, alone, history_behind, looked, metered, took, turns_of}
 use Rattle.desk_calls.specs.declared.day_desk.DayDesk.{Ghosts as DeskGhosts}
 use Rattle.desk_calls.proofs.Chains.{owned_now}
-use Rattle.desk_runs.proofs.Books.{run_books}
+use Rattle.day_rules.proofs.RunBooks.{run_books}
 use Rattle.fan_out.specs.declared.lane.Lane.{Lane}
 use Rattle.http_connection.specs.Messages.{Request}
 use Rattle.http_connection.specs.declared.conn.ConnEnd.{ConnEnd}
 use Rattle.http_grammar.specs.Requests.{is_kept}
 use Rattle.http_service.specs.Connections.{HasCauses}
-use Rattle.owned_desk.specs.Owned.{OwnRuns}
-use Rattle.exchange_floor.specs.Floors.{IsMomentOf}
-use Rattle.exchange_floor.specs.declared.clock.Clock.{Ghosts as ClockGhosts}
-use Rattle.exchange_floor.specs.declared.floor.Floor.{Floor}
+use Rattle.exchange_http.specs.Owned.{OwnRuns}
+use Rattle.exchange_messages.specs.Floors.{IsMomentOf}
+use Rattle.exchange_messages.specs.declared.clock.Clock.{Ghosts as ClockGhosts}
+use Rattle.exchange_messages.specs.declared.floor.Floor.{Floor}
 use Rattle.exchange_messages.specs.Courses.{begun}
 use Rattle.exchange_http.specs.Serving.{EndsSo, ServesConnection, ServesFloor, Talked, talked}
 use Rattle.exchange_http.proofs.Gathered.{known_none}

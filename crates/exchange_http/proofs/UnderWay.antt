@@ -8,9 +8,9 @@ use Rattle.adx_io.specs.Streams.{Tape, WhereTold}
 use Rattle.desk_calls.specs.Steps.{Step}
 use Rattle.desk_calls.specs.Together.{TakesNotices}
 use Rattle.desk_calls.specs.declared.day_desk.DayDesk.{Ghosts as DeskGhosts}
-use Rattle.notice_batches.specs.declared.batch.TheConstants.{BATCH_LIMIT}
+use Rattle.day_machine.specs.declared.batch.TheConstants.{BATCH_LIMIT}
 use Rattle.day_rules.specs.Laws.{Arrival}
-use Rattle.exchange_floor.proofs.Requested.{JoinsSteps}
+use Rattle.exchange_messages.proofs.Requested.{JoinsSteps}
 use Rattle.deal_floor.specs.declared.roster.Roster.{Roster}
 use Rattle.fan_out.specs.declared.lane.Lane.{Lane}
 use Rattle.fan_out.specs.Lanes.{Outcome}

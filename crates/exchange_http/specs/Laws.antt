@@ -8,7 +8,7 @@ use Rattle.http_connection.specs.Messages.{Request}
 use Rattle.http_service.specs.Connections.{Replies}
 use Rattle.exchange_messages.specs.Courses.{AnswersOn, Course, begun}
 use Rattle.exchange_messages.specs.Meanings.{Meaning, Means, asks}
-use Rattle.exchange_floor.specs.Floors.{IsMomentOf}
+use Rattle.exchange_messages.specs.Floors.{IsMomentOf}
 
 -- there is no message without a meaning
 abbrev pub HasMeaning : Type 0

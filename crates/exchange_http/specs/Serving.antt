@@ -6,7 +6,7 @@ use Rattle.adx_links.specs.declared.link.Link.{Ghosts as LinkGhosts}
 use Rattle.adx_desk.specs.Desks.{OnDisk}
 use Rattle.desk_calls.specs.Steps.{AreSteps, Step, alone, turns_of}
 use Rattle.desk_calls.specs.declared.day_desk.DayDesk.{Ghosts as DeskGhosts}
-use Rattle.notice_batches.specs.declared.batch.TheConstants.{BATCH_LIMIT}
+use Rattle.day_machine.specs.declared.batch.TheConstants.{BATCH_LIMIT}
 use Rattle.deal_floor.specs.declared.roster.Roster.{Roster}
 use Rattle.fan_out.specs.declared.lane.Lane.{Lane}
 use Rattle.http_connection.specs.Messages.{Request}
@@ -14,13 +14,13 @@ use Rattle.http_connection.specs.declared.conn.ConnEnd.{ConnEnd}
 use Rattle.http_grammar.specs.declared.fault.HttpFault.{HttpFault}
 use Rattle.http_service.specs.Connections.{Answering, GivingUp, AreSpent, Brings, CloseLast, FailsRefusing, GoOn, Replies, TookWithFront, EndsWith as EndsService}
 use Rattle.http_service.specs.declared.limits.TheConstants.{REQUEST_LIMIT}
-use Rattle.desk_runs.specs.Calls.{HasBooks}
-use Rattle.desk_runs.specs.Told.{told_of}
-use Rattle.exchange_floor.specs.Floors.{IsMomentOf, works}
-use Rattle.exchange_floor.specs.declared.clock.Clock.{Ghosts as ClockGhosts}
-use Rattle.exchange_floor.specs.declared.floor.Floor.{Floor}
+use Rattle.day_rules.specs.RunBooks.{HasBooks}
+use Rattle.desk_calls.specs.Told.{told_of}
+use Rattle.exchange_messages.specs.Floors.{IsMomentOf, works}
+use Rattle.exchange_messages.specs.declared.clock.Clock.{Ghosts as ClockGhosts}
+use Rattle.exchange_messages.specs.declared.floor.Floor.{Floor}
 use Rattle.exchange_messages.specs.Courses.{AnswersOn, Course, GivesUpOn, begun}
-use Rattle.desk_runs.specs.Records.{RunsOn}
+use Rattle.desk_calls.specs.Records.{RunsOn}
 
 -- nothing is said of the rest
 abbrev pub IsAny : List ℕ → Type 0

@@ -3,7 +3,7 @@ ghost use Rattle.std.specs.Prelude.{◌≡◌, Some, IfOk, OnErr};
 ghost use Rattle.adx_io.specs.Streams.{HasCause};
 ghost use Rattle.http_connection.specs.declared.conn.ConnEnd.{ConnEnd as End};
 ghost use Rattle.http_service.specs.Replies.{fault_status};
-ghost use Rattle.exchange_floor.specs.Floors.{IsFloor, IsKept};
+ghost use Rattle.exchange_messages.specs.Floors.{IsFloor, IsKept};
 ghost use Rattle.exchange_http.specs.Going.{EndsBehind, kept};
 ghost use Rattle.exchange_http.specs.Running.{EndsAt, EndsOver, IsEndOf, IsSettled};
 
@@ -14,7 +14,7 @@ use adx_http::{ConnEnd, HttpFault};
 use adx_io::Failed;
 use adx_links::Link;
 use desk_calls::DayDesk;
-use exchange_floor::{Clock, Floor, Given, Round};
+use exchange_messages::{Clock, Floor, Given, Round};
 
 /// Ends a connection whose next message is refused, by its reply.
 fn refuse_by<O: Outlet>(outlet: &mut O, fault: HttpFault, status: u16) -> Result<ConnEnd, Failed>

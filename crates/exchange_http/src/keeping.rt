@@ -2,7 +2,7 @@
 ghost use Rattle.std.specs.Prelude.{◌≡◌, [], false, OnOk, OnErr};
 ghost use Rattle.adx_io.specs.Streams.{HasCause};
 ghost use Rattle.http_connection.specs.declared.conn.ConnEnd.{ConnEnd as End};
-ghost use Rattle.exchange_floor.specs.Floors.{IsFloor, IsKept};
+ghost use Rattle.exchange_messages.specs.Floors.{IsFloor, IsKept};
 ghost use Rattle.exchange_http.specs.Going.{GoesOn, Stops, kept, none_waits};
 ghost use Rattle.exchange_http.specs.Running.{IsSettled};
 
@@ -11,7 +11,7 @@ use crate::waiting::Waiting;
 use adx_io::Failed;
 use adx_links::Link;
 use desk_calls::DayDesk;
-use exchange_floor::{Clock, Floor, Given, Round};
+use exchange_messages::{Clock, Floor, Given, Round};
 
 /// What is kept from one message to the next: the notices that wait, where replies go out, and room for a body.
 #[derive(Drop)]

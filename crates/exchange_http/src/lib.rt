@@ -1,11 +1,15 @@
-//! The exchange on a connection: requests for bids, notices, changes of budgets, the books and the meters over HTTP/1.1.
+//! The exchange on a connection: requests for bids, notices, changes of budgets, the books and the meters over
+//! HTTP/1.1.
 //!
-//! `serve_connection` reads messages from a source, asks bidders over links, keeps the day on a desk, and puts the reply to
-//! each message into a sink, in their order. Its contract names the messages, the steps that they made on the desk, what
-//! each was replied by the history of its own steps, what the disk keeps of it, and why no more were read. `serve_floor` is
-//! the same loop over any desk that one calls.
-//! Stands on `exchange_floor` for what one message does, on `desk_calls` and `owned_desk` for the desk, on
-//! `exchange_messages` for what a message means, and on `http_service` for replies.
+//! `serve_connection` reads messages from a source, asks bidders over links, keeps the day on a desk, and puts the
+//! reply to each message into a sink, in their order. Its contract names the messages, the steps that they made on the
+//! desk, what each was replied by the history of its own steps, what the disk keeps of it, and why no more were read.
+//! `serve_floor` is the same loop over any desk that one calls.
+//!
+//! A desk that one connection owns, as a desk that one calls. `OwnDesk` lends a desk: its history stays between two
+//! calls. What the disk keeps of the calls is a run of `Records`.
+//!
+//! Stands on `http_service` for the loop over messages, and on `exchange_messages` for what is done with each.
 #![tactic(auto)]
 
 mod ending;
@@ -17,9 +21,11 @@ mod others;
 mod outgoing;
 mod outlet;
 mod over;
+mod own_desk;
 mod serving;
 mod stop;
 mod waiting;
 
 pub use laws::{has_meaning, one_reply};
+pub use own_desk::OwnDesk;
 pub use serving::{serve_connection, serve_floor};

@@ -2,7 +2,7 @@
 ghost use Rattle.std.specs.Prelude.{◌≡◌, ℕ, [], false, IsNone, IfOk, OnOk, IfErr};
 ghost use Rattle.http_connection.specs.Answers.{Shows};
 ghost use Rattle.http_service.specs.declared.limits.TheConstants.{REQUEST_LIMIT as request_limit};
-ghost use Rattle.exchange_floor.specs.Floors.{Gave, IsFloor, IsKept};
+ghost use Rattle.exchange_messages.specs.Floors.{Gave, IsFloor, IsKept};
 ghost use Rattle.exchange_http.specs.Going.{StopsAmong, StopsIn, TakesAll, TakesNext, TakesOne, TakesRead, kept, read_so};
 ghost use Rattle.exchange_http.specs.Running.{IsSettled, OverCauses, StepCauses, StopCauses, end_of, fault_over};
 
@@ -16,8 +16,7 @@ use adx_http::{Conn, HttpFault, Message};
 use adx_io::Source;
 use adx_links::Link;
 use desk_calls::DayDesk;
-use exchange_floor::{Clock, Floor, Given, Round};
-use exchange_messages::{Wanted, wanted_by};
+use exchange_messages::{Clock, Floor, Given, Round, Wanted, wanted_by};
 use http_service::MESSAGE_LIMIT;
 use std::alloc::Global;
 

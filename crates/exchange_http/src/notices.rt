@@ -2,7 +2,7 @@
 ghost use Rattle.std.specs.Prelude.{◌≡◌, [], OnOk, OnErr};
 ghost use Rattle.adx_io.specs.Streams.{HasCause};
 ghost use Rattle.http_connection.specs.declared.conn.ConnEnd.{ConnEnd as End};
-ghost use Rattle.exchange_floor.specs.Floors.{IsFloor, IsKept};
+ghost use Rattle.exchange_messages.specs.Floors.{IsFloor, IsKept};
 ghost use Rattle.exchange_http.specs.Going.{GoesOn, IsNotice, Stops, StopsIn, TakesOne, kept, none_waits};
 
 use crate::keeping::Keeping;
@@ -11,7 +11,7 @@ use crate::waiting::write_outcome;
 use adx_io::Failed;
 use adx_links::Link;
 use desk_calls::{DayDesk, take_one};
-use exchange_floor::{Clock, Floor, Given, Round};
+use exchange_messages::{Clock, Floor, Given, Round};
 use notice_book::NoticeKind;
 
 /// Takes a notice that can't wait.

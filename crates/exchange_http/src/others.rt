@@ -6,7 +6,7 @@ ghost use Rattle.http_connection.specs.Answers.{Shows};
 ghost use Rattle.http_connection.specs.Messages.{Request};
 ghost use Rattle.http_service.specs.Connections.{TookFront};
 ghost use Rattle.http_service.specs.Replies.{reply_to};
-ghost use Rattle.exchange_floor.specs.Floors.{Gave, IsFloor, IsKept};
+ghost use Rattle.exchange_messages.specs.Floors.{Gave, IsFloor, IsKept};
 ghost use Rattle.exchange_http.specs.Going.{ShowsOther, StopsIn, TakesOne, kept, none_waits};
 ghost use Rattle.exchange_http.specs.Running.{IsSettled, StopCauses, end_of};
 
@@ -16,8 +16,7 @@ use crate::stop::Stop;
 use adx_http::{Message, WriteFault};
 use adx_links::Link;
 use desk_calls::DayDesk;
-use exchange_floor::{Clock, Floor, Given, Round};
-use exchange_messages::Other;
+use exchange_messages::{Clock, Floor, Given, Other, Round};
 use http_service::{Answer, asks_no_body};
 use std::alloc::Global;
 

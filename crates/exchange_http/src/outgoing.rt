@@ -1,7 +1,7 @@
 //! Replies that are gathered before a sink takes them.
 ghost use Rattle.std.specs.Prelude.{◌≡◌, ◌≤◌, ◌∷◌, [], length, drop, IfOk, OnOk, vec_capacity};
 ghost use Rattle.std.specs.Io.KnownBytes.{append_known};
-ghost use Rattle.notice_batches.specs.declared.batch.TheConstants.{BATCH_LIMIT as batch_limit};
+ghost use Rattle.day_machine.specs.declared.batch.TheConstants.{BATCH_LIMIT as batch_limit};
 ghost use Rattle.adx_io.specs.Streams.{HasCause};
 ghost use Rattle.exchange_http.specs.Gathered.{count_of};
 ghost use Rattle.exchange_http.specs.declared.outgoing.TheConstants.{ROOM as room_size};
@@ -10,8 +10,8 @@ use crate::outlet::Outlet;
 use adx_http::WriteFault;
 use adx_io::{Failed, Sink};
 use adx_units::OutOfMemory;
+use day_machine::BATCH_LIMIT;
 use http_service::{Answer, write_answer, write_refusal};
-use notice_batches::BATCH_LIMIT;
 use std::alloc::Global;
 use std::snapshot::Snapshot;
 

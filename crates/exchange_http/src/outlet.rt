@@ -2,7 +2,7 @@
 ghost use Rattle.std.specs.Prelude.{◌≡◌, ◌≤◌, ℕ, List, [], Option, OnOk, OnErr};
 ghost use Rattle.std.specs.Borrow.{GName};
 ghost use Rattle.std.specs.Io.KnownBytes.{append_known};
-ghost use Rattle.notice_batches.specs.declared.batch.TheConstants.{BATCH_LIMIT as batch_limit};
+ghost use Rattle.day_machine.specs.declared.batch.TheConstants.{BATCH_LIMIT as batch_limit};
 ghost use Rattle.adx_http.specs.Written.{Writes, WritesBy};
 ghost use Rattle.adx_io.specs.Streams.{HasCause};
 ghost use Rattle.http_service.specs.Replies.{answer_bytes, refusal_bytes};

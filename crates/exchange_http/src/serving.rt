@@ -3,7 +3,7 @@ ghost use Rattle.std.specs.Prelude.{◌≡◌, ◌≤◌, [], drop, false, vec_c
 ghost use Rattle.adx_desk.specs.Rosters.{desk_terms};
 ghost use Rattle.http_service.specs.Connections.{HasCauses};
 ghost use Rattle.http_service.specs.declared.limits.TheConstants.{REQUEST_LIMIT as request_limit};
-ghost use Rattle.exchange_floor.specs.Floors.{AreLanes, Gave, IsFloor, IsKept, IsMomentOf};
+ghost use Rattle.exchange_messages.specs.Floors.{AreLanes, Gave, IsFloor, IsKept, IsMomentOf};
 ghost use Rattle.exchange_http.specs.Going.{EndsOn};
 ghost use Rattle.exchange_http.specs.Running.{IsSettled};
 ghost use Rattle.exchange_http.specs.Serving.{ServesConnection, ServesFloor, talked};
@@ -14,6 +14,7 @@ use crate::keeping::Keeping;
 use crate::messages::serve_all;
 use crate::outgoing::{Outgoing, room};
 use crate::outlet::Outlet;
+use crate::own_desk::OwnDesk;
 use crate::stop::Stop;
 use crate::waiting::Waiting;
 use adx_desk::Desk;
@@ -22,10 +23,9 @@ use adx_io::{Disk, Sink, Source};
 use adx_links::Link;
 use deal_floor::Roster;
 use desk_calls::DayDesk;
-use exchange_floor::{Clock, Floor, Given, Round, in_turn};
+use exchange_messages::{Clock, Floor, Given, Round, in_turn};
 use fan_out::Lane;
 use http_service::REQUEST_LIMIT;
-use owned_desk::OwnDesk;
 use std::alloc::Global;
 
 /// Nothing waits, and nothing is gathered for the sink.

@@ -1,8 +1,8 @@
 //! Notices that wait, and are answered together.
 ghost use Rattle.std.proofs.Props.{props};
 ghost use Rattle.std.specs.Prelude.{◌≡◌, ◌≤◌, ◌==◌, ◌&&◌, [], length, None, IfOk, OnOk, OnErr, MatchBool, vec_capacity};
-ghost use Rattle.notice_batches.specs.Batches.{AreApart, MayJoin, joined};
-ghost use Rattle.notice_batches.specs.declared.batch.TheConstants.{BATCH_LIMIT as batch_limit};
+ghost use Rattle.day_machine.specs.Batches.{AreApart, MayJoin, joined};
+ghost use Rattle.day_machine.specs.declared.batch.TheConstants.{BATCH_LIMIT as batch_limit};
 ghost use Rattle.adx_http.specs.Written.{Writes, WritesBy};
 ghost use Rattle.adx_io.specs.Streams.{HasCause};
 ghost use Rattle.exchange_http.specs.Running.{FlushFails, Flushes, outcome_bytes, outcomes_bytes};
@@ -11,10 +11,10 @@ use crate::outlet::Outlet;
 use adx_http::WriteFault;
 use adx_io::Failed;
 use adx_units::OutOfMemory;
+use day_machine::{BATCH_LIMIT, Batch};
 use day_rules::Answer;
 use desk_calls::{DayDesk, take_all};
 use exchange_messages::notice_reply;
-use notice_batches::{BATCH_LIMIT, Batch};
 use notice_book::NoticeKind;
 use std::alloc::Global;
 

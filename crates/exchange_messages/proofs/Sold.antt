@@ -20,7 +20,7 @@ use Rattle.day_rules.specs.declared.ask.Kept.{Kept}
 use Rattle.deal_floor.specs.declared.campaign.Campaign.{Campaign}
 use Rattle.notice_macros.specs.declared.values.Values.{Values}
 use Rattle.rtb_response.specs.declared.sold.Sold.{Sold}
-use Rattle.tree_view.specs.Values.{text_in}
+use Rattle.adx_json.specs.Values.{text_in}
 use Rattle.exchange_messages.proofs.Shown.{ShowSame, same_markup}
 use Rattle.exchange_messages.specs.Sales.{HasTree, IsSold, expanded, is_award_for, markup_values, sold_bids, with_markup}
 use Rattle.exchange_messages.specs.Selling.{AreSold}

@@ -7,7 +7,7 @@ use Rattle.http_grammar.specs.Requests.{verb_of_method}
 use Rattle.http_grammar.specs.declared.verb.Verb.{Verb}
 use Rattle.notice_book.specs.declared.kind.NoticeKind.{NoticeKind}
 use Rattle.script_lines.specs.declared.limits.TheConstants.{LAST_AWARD}
-use Rattle.tree_view.specs.Values.{whole_by}
+use Rattle.adx_json.specs.Values.{whole_by}
 use Rattle.exchange_messages.specs.Meanings.{Meaning, Means, MeansBy, ServedMeans, budget_meaning, budget_query_meaning, change_meaning, notice_meaning, notifies, query_meaning, refused, wants_books, wants_meters}
 use Rattle.exchange_messages.specs.Paths.{is_served, path_named}
 use Rattle.exchange_messages.specs.Wants.{MeansSo, Wants, WantsOther, change_meant, meaning_of, other_meaning}

@@ -8,3 +8,5 @@ pub mod Sales
 pub mod Selling
 pub mod Turns
 pub mod Courses
+pub mod Floors
+pub mod Asking

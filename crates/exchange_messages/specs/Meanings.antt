@@ -8,7 +8,7 @@ use Rattle.adx_json.specs.Tree.{Tree}
 use Rattle.adx_json.specs.Grammar.{IsJson}
 use Rattle.adx_json.specs.Faults.{IsFault}
 use Rattle.adx_json.specs.declared.fault.JsonFault.{JsonFault}
-use Rattle.tree_view.specs.Values.{whole_by}
+use Rattle.adx_json.specs.Values.{whole_by}
 use Rattle.adx_http.specs.Targets.{path_of, query_of, value_of}
 use Rattle.http_connection.specs.Messages.{Request}
 use Rattle.http_grammar.specs.Requests.{verb_of_method}
@@ -41,6 +41,7 @@ TreeMeans t m =
     ⊎ ((f : RequestFault) × (request_in t ≡ Err f) × (m ≡ refused (Refusal.Request f)))
 
 -- what a body means, in any spelling of its tree; bytes that are no JSON text are refused by their fault
+-- Example: `seat=s1&cid=c1&change=1&budget=0.02` sets 20,000,000 units.
 abbrev pub BodyMeans : List ℕ → Meaning → Type 0
 BodyMeans body m =
     ((t : Tree) × IsJson body t × TreeMeans t m)
@@ -88,14 +89,17 @@ PathMeans Path.Books request m = m ≡ wants_books
 PathMeans Path.Meters request m = m ≡ wants_meters
 PathMeans Path.Budget request m = m ≡ budget_query_meaning (query_of request.head.target)
 
+-- what a request to this path means, by whether the method serves it
 abbrev pub ServedMeans : Bool → Path → Request → Meaning → Type 0
 ServedMeans true path request m = PathMeans path request m
 ServedMeans false path request m = m ≡ refused (Refusal.Method path)
 
+-- what a request means, by the path that its target names, if it names one
 abbrev pub MeansBy : Option Path → Request → Meaning → Type 0
 MeansBy None request m = m ≡ refused Refusal.Path
 MeansBy (Some path) request m = ServedMeans (is_served path (verb_of_method request.head.method)) path request m
 
 -- what a message means
+-- Example: a GET of `/openrtb` is refused for its method, whatever its body.
 abbrev pub Means : Request → Meaning → Type 0
 Means request m = MeansBy (path_named (path_of request.head.target)) request m

@@ -1,7 +1,7 @@
 -- The meters of a day as an operator reads them: JSON (RFC 8259) in its one compact spelling, without a newline. This
 -- project's own.
 use Rattle.std.specs.Prelude.{ℕ, List, ◌++◌, codes, decimal}
-use Rattle.meter_steps.specs.declared.meters.Meters.{Meters}
+use Rattle.day_rules.specs.declared.meters.Meters.{Meters}
 
 -- a number behind its name
 abbrev pub meter_text : List ℕ → ℕ → List ℕ

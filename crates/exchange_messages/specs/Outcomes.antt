@@ -8,6 +8,7 @@ use Rattle.exchange_messages.specs.Replies.{Reply, fault_reply, no_content, with
 
 -- The reply is that of a call which is about no ask. No notice is answered that an id or a change's number was reused, that
 -- a change comes too late or below the committed money, or that the day is full: such an answer has its status, and no body.
+-- Example: a bill of an award that was lost gives 409 with the line of a conflict.
 abbrev pub outcome_reply : Option Answer → Reply
 outcome_reply None = fault_reply Fault.Disk
 outcome_reply (Some (Answer.Awarded place)) = no_content

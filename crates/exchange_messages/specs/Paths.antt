@@ -7,6 +7,7 @@ use Rattle.http_service.specs.declared.answer.Methods.{Methods}
 use Rattle.exchange_messages.specs.declared.path.Path.{Path}
 
 -- the path with this spelling, where one is served. A target's path isn't decoded.
+-- Example: `/notice/win` is served by GET and POST, and `/%6eotice/win` isn't a path.
 abbrev pub path_named : List ℕ → Option Path
 path_named text =
     if bytes_eq text (codes "/openrtb") then Some Path.OpenRtb

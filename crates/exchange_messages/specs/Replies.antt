@@ -12,6 +12,7 @@ use Rattle.exchange_messages.specs.Paths.{methods_of}
 use Rattle.exchange_messages.specs.declared.refusal.Refusal.{Refusal}
 
 -- an answer with its body
+-- Example: a full journal gives 503 with its line.
 pub record Reply : Type 0 where
   pub answer : Answer
   pub body : List ℕ

@@ -21,7 +21,7 @@ use Rattle.notice_macros.specs.Expansion.{markup_expansion}
 use Rattle.notice_macros.specs.declared.values.Values.{Values}
 use Rattle.rtb_response.specs.ExchangeAnswer.{answer_tree}
 use Rattle.rtb_response.specs.declared.sold.Sold.{Sold}
-use Rattle.tree_view.specs.Values.{text_in}
+use Rattle.adx_json.specs.Values.{text_in}
 use Rattle.http_service.specs.Replies.{lent}
 
 -- a bid with its place was awarded for the impression
@@ -36,6 +36,8 @@ sold_bids a = flat_map (λ imp. filter (is_award_for imp) (enumerate_from 0 a.of
 abbrev pub no_texts : ℕ → Kept
 no_texts place = record { bid = place; seat = []; bidid = []; adid = []; nurl = []; burl = []; lurl = []; body = [] }
 
+-- the texts that are kept of the bid at a place, or empty ones. markup_values a o k: what the macros of its markup
+-- stand for: its charge is the price, and there is no loss
 abbrev pub texts_at : List Kept → ℕ → Kept
 texts_at kept place = unwrap_or (find (λ k. k.bid == place) kept) (no_texts place)
 

@@ -8,7 +8,7 @@ use Rattle.adx_units.specs.declared.units.Units.{Units}
 use Rattle.answer_lines.specs.Answers.{answer_line, ask_told, below_line, budgetreused_line, conflict_line, dayfull_line, late_line, reused_line}
 use Rattle.answer_lines.specs.Table.{closing_table}
 use Rattle.answer_lines.specs.declared.faults.Fault.{Fault}
-use Rattle.ask_making.specs.Making.{ask_of}
+use Rattle.script_lines.specs.Making.{ask_of}
 use Rattle.day_rules.specs.declared.answer.Answer.{Answer}
 use Rattle.day_rules.specs.declared.answer.Seen.{Seen}
 use Rattle.day_rules.specs.declared.ask.Ask.{Ask}
@@ -27,7 +27,7 @@ use Rattle.rtb_request.specs.declared.bid_request.BidRequest.{BidRequest}
 use Rattle.rtb_response.specs.declared.bid_answer.BidAnswer.{BidAnswer}
 use Rattle.desk_calls.specs.Calls.{Called, Ended, wanted_memory, was_done, was_given_up}
 use Rattle.desk_calls.specs.Steps.{Step, looked, metered, took}
-use Rattle.meter_steps.specs.declared.meters.Meters.{Meters}
+use Rattle.day_rules.specs.declared.meters.Meters.{Meters}
 use Rattle.script_lines.specs.Changes.{pair_place}
 use Rattle.http_service.specs.declared.answer.Methods.{Methods}
 use Rattle.exchange_messages.specs.Meanings.{Meaning, asks, notifies, sets_budget, wants_books, wants_meters, refused, Means}
@@ -143,6 +143,8 @@ module _ {L : Type 0} (Works : List ℕ → List ℕ → Lane L → Lane L → O
   IsAnsweredAs old (refused why) steps new said = (steps ≡ []) × (new ≡ old) × (said ≡ refusal_reply why)
 
   -- what a message is answered, by its meaning
+  -- Example: a message that wants the books makes one look, and its reply is the closing table of the history that
+  -- was looked at.
   pub record IsAnswered (old : List (Lane L)) (request : Request) (steps : List Step) (new : List (Lane L)) (said : Reply) : Type 0 where
     pub meaning : Meaning
     pub means : Means request meaning

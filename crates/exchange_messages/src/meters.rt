@@ -4,7 +4,7 @@ ghost use Rattle.exchange_messages.specs.Meters.{counts_part, meter_text, meters
 
 use adx_json::push_number;
 use adx_units::OutOfMemory;
-use meter_steps::Meters;
+use day_rules::Meters;
 
 /// Writes a number behind its name.
 fn push_meter(out: &mut String, name: &str, number: u64) -> Result<(), OutOfMemory>

@@ -10,7 +10,7 @@ ghost use Rattle.script_lines.specs.declared.limits.TheConstants.{LAST_AWARD};
 ghost use Rattle.exchange_messages.specs.Sales.{HasTree, IsSale, IsSold, expanded, imp_sold, is_award_for, sold_bids, texts_at, IsBodySold};
 ghost use Rattle.exchange_messages.specs.Selling.{AreSold, MayBeTold};
 
-use adx_json::{Json, JsonFault, read};
+use adx_json::{Json, JsonFault, read, text_in};
 use adx_units::{Offer, OutOfMemory, Text};
 use allocator_core::AWARDED;
 use day_rules::{Ask, Kept};
@@ -18,7 +18,6 @@ use deal_floor::{Campaign, Roster};
 use notice_macros::{Values, expand_markup};
 use rtb_response::{Sold, write_answer};
 use std::alloc::Global;
-use tree_view::text_in;
 
 /// The texts of a bid that its markup and its body are made of.
 #[derive(Clone, Copy)]

@@ -3,8 +3,8 @@ use Rattle.std.proofs.Common.{◌≡◌, ℕ, ◌+◌, List, [], length, true, s
 use Rattle.adx_desk.specs.declared.shared.OpenedWith.{OpenedWith}
 use Rattle.adx_links.specs.declared.link.Link as links
 use Rattle.day_rules.specs.declared.entry.Entry.{Entry}
-use Rattle.mail_room.specs.Rooms.{HasTended}
-use Rattle.mail_room.specs.declared.mail.Mail.{Mail}
+use Rattle.desk_board.specs.Rooms.{HasTended}
+use Rattle.desk_board.specs.declared.mail.Mail.{Mail}
 use Rattle.shared_desk.specs.Callers.{DeskPass}
 use Rattle.shared_desk.specs.Idle.{IsIdle}
 use Rattle.turnstile.specs.Passes.{IsOf, TurnstileState, first_pass, split_from}

@@ -4,13 +4,13 @@ use Rattle.std.proofs.lemmas.List.{length-map}
 use Rattle.std.proofs.lemmas.Bool.Decides.{leb_tells}
 use Rattle.std.specs.Prelude.{unwrap_or}
 use mathlib.Core.List.{IsPrefix}
-use Rattle.adx_acceptors.specs.Pairs.{AcceptorTold, PairTold, PairsTold}
+use Rattle.adx_links.specs.Pairs.{AcceptorTold, PairTold, PairsTold}
 use Rattle.adx_io.specs.Streams.{last_count}
 use Rattle.adx_io.specs.declared.disk.Disk as disk
 use Rattle.adx_links.specs.declared.link.Link as links
-use Rattle.adx_desk.specs.Desks.{OnDisk, StandsOnDisk}
+use Rattle.adx_desk.specs.Desks.{OnDisk, StandsInDoubt, StandsOnDisk}
 use Rattle.adx_desk.specs.Endings.{IsWithinRise}
-use Rattle.adx_desk.specs.Histories.{DeskTerms, WithOrWithout}
+use Rattle.adx_desk.specs.Histories.{DeskTerms}
 use Rattle.adx_desk.specs.Rosters.{desk_terms}
 use Rattle.adx_desk.specs.Shared.{IsTurnAt, is_disk_fault, opened_with, terms_in}
 use Rattle.adx_desk.specs.declared.shared.OpenedWith.{OpenedWith}
@@ -18,18 +18,20 @@ use Rattle.adx_desk.specs.declared.turn.Turn.{Turn}
 use Rattle.day_rules.specs.declared.entry.Entry.{Entry}
 use Rattle.day_rules.specs.DayState.{IsDay}
 use Rattle.day_rules.specs.Legal.{IsLegal}
+use Rattle.day_rules.proofs.RunBooks.{books_along}
 use Rattle.deal_floor.specs.declared.roster.Roster.{Roster}
 use Rattle.desk_board.proofs.Meeting.{prefix_on}
-use Rattle.exchange_floor.specs.Floors.{IsMomentOf}
+use Rattle.exchange_messages.specs.Floors.{IsMomentOf}
 use Rattle.fan_out.specs.declared.lane.Lane.{Lane}
-use Rattle.lobby.specs.Lobbies.{AllServed, IsIntake, WasServed}
-use Rattle.lobby.specs.Serving.{ServedPair}
-use Rattle.lobby.specs.declared.intake.Intake.{Intake}
-use Rattle.lobby.proofs.Keeping.{joins, leaves, opens}
-use Rattle.mail_room.specs.Rooms.{HasTended, IsTendedTo}
-use Rattle.mail_room.specs.Tending.{AreTended}
-use Rattle.mail_room.specs.declared.mail.Mail.{Mail}
+use Rattle.adx_links.specs.Lobbies.{AllServed, IsIntake, WasServed}
+use Rattle.adx_links.specs.Serving.{ServedPair}
+use Rattle.adx_links.specs.declared.intake.Intake.{Intake}
+use Rattle.adx_links.proofs.Keeping.{joins, leaves, opens}
+use Rattle.desk_board.specs.Rooms.{HasTended, IsTendedTo}
+use Rattle.desk_board.specs.Tending.{AreTended}
+use Rattle.desk_board.specs.declared.mail.Mail.{Mail}
 use Rattle.shared_desk.specs.Callers.{DeskPass, IsRightPass, entry_of}
+use Rattle.shared_desk.proofs.Taken.{all_taken}
 use Rattle.turnstile.specs.Passes.{joined}
 use Rattle.turnstile.specs.Places.{AreAllOnce, AreOneList}
 use Rattle.turnstile.specs.Turns.{AreAllRight, Stand, faults_noted, places_of}
@@ -127,20 +129,27 @@ module _ {L : Type 0} (l : links.Ghosts L) where
       let same_tells : closed.since.tells ≡ opened.since.tells = ap (λ (o : OpenedWith). o.tells) (closed_is ∙ sym opened_is) in
       let closed_terms : closed.desk.terms ≡ desk_terms r = ap terms_in closed_is ∙ terms in
       let within' : IsWithinRise opened.since.count closed.desk.faults (d.faults disk_now) = subst (λ (n : ℕ). IsWithinRise n closed.desk.faults (d.faults disk_now)) same_since within in
+      let legal : IsLegal (desk_terms r).day history_now = subst (IsLegal (desk_terms r).day) is (subst (λ (t : DeskTerms). IsLegal t.day last.seen) terms closes.right.legal.legal) in
+      let right : AreAllRight (IsTurnAt (desk_terms r)) history_now (turns_in rows) = subst (λ (h : List Entry). AreAllRight (IsTurnAt (desk_terms r)) h (turns_in rows)) is
+      (subst (λ (ts : List (Noted Turn)). AreAllRight (IsTurnAt (desk_terms r)) last.seen ts) turns
+      (subst (λ (t : DeskTerms). AreAllRight (IsTurnAt t) last.seen last.turns) terms closes.right.turns)) in
       let counted : closed.desk.faults < LAST_COUNT → faults_in rows ≤ closed.desk.faults = subst (λ (ts : List (Noted Turn)). closed.desk.faults < LAST_COUNT → faults_noted (λ (t : Turn). is_disk_fault t.ended) ts ≤ closed.desk.faults) turns closes.counted in
       record {
         history = history_now;
         begins = subst (λ (h : List Entry). IsPrefix h history_now) (sym history) (subst (IsPrefix first.seen) is k.later.begins);
-        legal = subst (IsLegal (desk_terms r).day) is (subst (λ (t : DeskTerms). IsLegal t.day last.seen) terms closes.right.legal.legal);
-        on_disk = λ e. let st = stands (same_tells ∙ e) in (st.0, λ file leaves. subst (λ (t : DeskTerms). WithOrWithout t history_now st.0 file) closed_terms (st.1 file leaves));
+        legal = legal;
+        books = books_along (desk_terms r).day history_now legal;
+        faults = closed.desk.faults;
+        risen = within';
+        on_disk = λ e. subst (λ (t : DeskTerms). StandsInDoubt (d.may_leave disk_now) t history_now closed.desk.faults) closed_terms (stands (same_tells ∙ e));
+        sound = tells.passed;
         rows = rows;
         served = record {
           each = subst (λ (h : List Entry). All (IsServed l (IsMomentOf moment) r h workers history_now) rows) (sym history)
               (each_served moment roster r workers first.seen history_now rows roster_is (subst (λ (h : List Entry). All (WasServed (IsServedIn l moment roster workers first.seen) h) rows) is s.each));
           wanting = λ j x h e. tells.short_is (s.short j x h e);
-          right = subst (λ (h : List Entry). AreAllRight (IsTurnAt (desk_terms r)) h (turns_in rows)) is
-              (subst (λ (ts : List (Noted Turn)). AreAllRight (IsTurnAt (desk_terms r)) last.seen ts) turns
-              (subst (λ (t : DeskTerms). AreAllRight (IsTurnAt t) last.seen last.turns) terms closes.right.turns));
+          right = right;
+          taken = all_taken (desk_terms r) history_now (turns_in rows) legal right;
           stand = subst (λ (h : List Entry). Stand entry_of h (turns_in rows)) is (subst (λ (ts : List (Noted Turn)). Stand entry_of last.seen ts) turns closes.right.stand);
           own = subst (λ (n : ℕ). AreAllOnce n (length history_now) (places_of entry_of (turns_in rows))) (k.later.opening ∙ (opening ∙ ap (λ (h : List Entry). length h) (sym history)))
               (subst (λ (h : List Entry). AreAllOnce last.opening (length h) (places_of entry_of (turns_in rows))) is

@@ -8,10 +8,10 @@ use Rattle.adx_units.specs.declared.memory.OutOfMemory.{OutOfMemory}
 use Rattle.day_rules.specs.DayState.{IsDay}
 use Rattle.day_rules.specs.Terms.{Terms}
 use Rattle.day_rules.specs.declared.entry.Entry.{Entry}
-use Rattle.lobby.specs.declared.intake.Intake.{Intake}
-use Rattle.mail_room.specs.Rooms.{BringsUp, HasTended}
-use Rattle.mail_room.specs.Tending.{due_behind}
-use Rattle.mail_room.specs.declared.mail.Mail.{Mail}
+use Rattle.adx_links.specs.declared.intake.Intake.{Intake}
+use Rattle.desk_board.specs.Rooms.{BringsUp, HasTended}
+use Rattle.desk_board.specs.Tending.{due_behind}
+use Rattle.desk_board.specs.declared.mail.Mail.{Mail}
 use Rattle.exchange_serving.specs.Finishing.{IsTendedAll, Tells, ending_at, ending_by}
 use Rattle.exchange_serving.specs.Served.{ArePosted}
 use Rattle.exchange_serving.specs.declared.ending.Ending.{Ending}

@@ -4,3 +4,4 @@ mod Workers
 mod Finished
 mod Days
 mod Begun
+pub mod Shared

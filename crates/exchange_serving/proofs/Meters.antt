@@ -3,17 +3,17 @@ use Rattle.std.proofs.Common.{◌≡◌, ℕ, ◌≤◌, List, [], ◌∷◌, le
 use Rattle.std.proofs.Math.Seq.{take-append_seam}
 use Rattle.std.proofs.lemmas.List.{take-append-drop, take-append-le}
 use mathlib.Core.List.{IsPrefix}
-use Rattle.day_meters.specs.DayMeters.{meters_after, steps_of}
-use Rattle.day_meters.proofs.Campaigns.{day_meters}
+use Rattle.day_rules.specs.DayMeters.{meters_after, steps_of}
+use Rattle.day_rules.proofs.Campaigns.{day_meters}
 use Rattle.day_rules.specs.DayState.{IsDay}
 use Rattle.day_rules.specs.Terms.{Terms}
 use Rattle.day_rules.specs.declared.entry.Entry.{Entry}
 use Rattle.day_rules.proofs.Histories.{legal_front}
 use Rattle.desk_board.proofs.Meeting.{prefix_on}
-use Rattle.meter_steps.specs.Steps.{meters_of}
-use Rattle.meter_steps.specs.declared.meters.Meters.{Meters}
-use Rattle.meter_steps.specs.declared.step.MeterStep.{MeterStep}
-use Rattle.pass_calls.specs.Passes.{AreRead}
+use Rattle.day_rules.specs.Steps.{meters_of}
+use Rattle.day_rules.specs.declared.meters.Meters.{Meters}
+use Rattle.day_rules.specs.declared.step.MeterStep.{MeterStep}
+use Rattle.shared_desk.specs.Passes.{AreRead}
 use Rattle.shared_desk.proofs.Steps.{as_many, steps_front}
 use Rattle.exchange_serving.specs.Served.{AreMetersIn}
 

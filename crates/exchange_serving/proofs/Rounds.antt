@@ -5,7 +5,7 @@ use Rattle.std.specs.List.{AllZip}
 use Rattle.std.specs.Io.KnownBytes.{append_known}
 use Rattle.std.proofs.lemmas.List.Elements.{All-nil}
 use mathlib.Core.List.{IsPrefix}
-use Rattle.adx_acceptors.specs.Pairs.{IsNew, PairTold}
+use Rattle.adx_links.specs.Pairs.{IsNew, PairTold}
 use Rattle.adx_desk.specs.Histories.{DeskTerms}
 use Rattle.adx_desk.specs.Rosters.{desk_terms}
 use Rattle.adx_desk.specs.Shared.{terms_in}
@@ -14,7 +14,7 @@ use Rattle.adx_desk.specs.declared.turn.Turn.{Turn}
 use Rattle.adx_io.specs.Streams.{Moves, Tape, Took}
 use Rattle.adx_io.specs.declared.failed.Failed.{Failed}
 use Rattle.adx_links.specs.declared.link.Link as links
-use Rattle.day_meters.specs.DayMeters.{steps_of}
+use Rattle.day_rules.specs.DayMeters.{steps_of}
 use Rattle.day_rules.specs.DayState.{IsDay}
 use Rattle.day_rules.specs.Legal.{IsLegal}
 use Rattle.day_rules.specs.declared.entry.Entry.{Entry}
@@ -22,7 +22,7 @@ use Rattle.deal_floor.specs.declared.roster.Roster.{Roster}
 use Rattle.desk_board.proofs.Meeting.{prefix_on}
 use Rattle.desk_calls.specs.Steps.{AreSteps, Step, calls_of, meters_read, shared}
 use Rattle.desk_calls.proofs.Chains.{from_earlier, shared_on, steps_join}
-use Rattle.exchange_floor.specs.Floors.{AreLanes}
+use Rattle.exchange_messages.specs.Floors.{AreLanes}
 use Rattle.exchange_http.specs.Serving.{EndsSo, Talked}
 use Rattle.exchange_messages.specs.Courses.{Course, begun}
 use Rattle.fan_out.specs.declared.lane.Lane.{Lane}
@@ -30,13 +30,13 @@ use Rattle.http_connection.specs.Messages.{Request}
 use Rattle.http_connection.specs.declared.conn.ConnEnd.{ConnEnd}
 use Rattle.http_grammar.specs.Requests.{is_kept}
 use Rattle.http_service.specs.Connections.{HasCauses}
-use Rattle.lobby.specs.Serving.{ServedPair}
-use Rattle.meter_steps.specs.declared.step.MeterStep.{MeterStep}
-use Rattle.pass_calls.specs.Passes.{IsNotedAs}
-use Rattle.shared_board.specs.Boards.{AreStepsBetween}
+use Rattle.adx_links.specs.Serving.{ServedPair}
+use Rattle.day_rules.specs.declared.step.MeterStep.{MeterStep}
+use Rattle.shared_desk.specs.Passes.{IsNotedAs}
+use Rattle.desk_board.specs.Boards.{AreStepsBetween}
 use Rattle.shared_desk.specs.Callers.{DeskPass, IsRightPass}
 use Rattle.shared_desk.proofs.Steps.{as_many}
-use Rattle.shared_serving.specs.Sharing.{ServesShared}
+use Rattle.exchange_serving.specs.Sharing.{ServesShared}
 use Rattle.turnstile.specs.Passes.{IsSamePass}
 use Rattle.turnstile.specs.declared.noted.Noted.{Noted}
 use Rattle.exchange_serving.specs.Served.{AreServedOver, Connection, IsServed, IsServedOver, as_new, talk_of, untaken}

@@ -4,15 +4,15 @@ use Rattle.std.proofs.Common.{Global}
 use Rattle.std.proofs.lemmas.List.{map-append}
 use Rattle.std.proofs.lemmas.List.Elements.{All-pop}
 use mathlib.Core.List.{IsPrefix}
-use Rattle.adx_acceptors.specs.Pairs.{IsNew, PairTold}
+use Rattle.adx_links.specs.Pairs.{IsNew, PairTold}
 use Rattle.adx_desk.specs.declared.shared.OpenedWith.{OpenedWith}
 use Rattle.day_rules.specs.declared.entry.Entry.{Entry}
 use Rattle.adx_links.specs.declared.link.Link as links
 use Rattle.deal_floor.specs.declared.roster.Roster.{Roster}
-use Rattle.exchange_floor.specs.Floors.{AreLanes, IsMomentOf}
+use Rattle.exchange_messages.specs.Floors.{AreLanes, IsMomentOf}
 use Rattle.fan_out.specs.declared.lane.Lane.{Lane}
 use Rattle.exchange_serving.specs.Lanes.{lists_of}
-use Rattle.lobby.specs.Serving.{IsBeside, IsFresh}
+use Rattle.adx_links.specs.Serving.{IsBeside, IsFresh}
 use Rattle.logbook.specs.Pages.{Book}
 use Rattle.shared_desk.specs.Callers.{DeskPass}
 use Rattle.turnstile.specs.Passes.{IsOf, TurnstileState}

@@ -7,9 +7,9 @@ use Rattle.adx_desk.specs.declared.shared.OpenedWith.{OpenedWith}
 use Rattle.adx_desk.specs.declared.turn.Turn.{Turn}
 use Rattle.adx_desk.specs.Shared.{is_disk_fault}
 use Rattle.day_rules.specs.declared.entry.Entry.{Entry}
-use Rattle.lobby.specs.declared.intake.Intake.{Intake}
-use Rattle.mail_room.specs.Tending.{AreTended, AreTriedOnce, due_behind}
-use Rattle.mail_room.specs.declared.mail.Mail.{Mail}
+use Rattle.adx_links.specs.declared.intake.Intake.{Intake}
+use Rattle.desk_board.specs.Tending.{AreTended, AreTriedOnce, due_behind}
+use Rattle.desk_board.specs.declared.mail.Mail.{Mail}
 use Rattle.shared_desk.specs.Callers.{DeskPass, IsRightPass, entry_of}
 use Rattle.turnstile.specs.Passes.{joined}
 use Rattle.turnstile.specs.Places.{AreAllOnce, AreOneList}

@@ -4,3 +4,4 @@ pub mod Lanes
 pub mod Rounds
 pub mod Finishing
 pub mod Beginning
+pub mod Sharing

@@ -4,7 +4,7 @@ use Rattle.std.specs.List.{AllZip}
 use Rattle.logbook.specs.Pages.{Book}
 use Rattle.adx_io.specs.Streams.{Tape}
 use Rattle.adx_links.specs.declared.link.Link as links
-use Rattle.adx_acceptors.specs.Pairs.{PairTold}
+use Rattle.adx_links.specs.Pairs.{PairTold}
 use Rattle.adx_desk.specs.Rosters.{desk_terms}
 use Rattle.adx_desk.specs.Shared.{terms_in}
 use Rattle.adx_desk.specs.declared.shared.OpenedWith.{OpenedWith}
@@ -13,14 +13,14 @@ use Rattle.day_rules.specs.Legal.{IsLegal}
 use Rattle.day_rules.specs.declared.entry.Entry.{Entry}
 use Rattle.deal_floor.specs.declared.roster.Roster.{Roster}
 use Rattle.desk_calls.specs.Steps.{AreSteps, calls_of, meters_read, shared}
-use Rattle.exchange_floor.specs.Floors.{AreLanes, IsMomentOf}
+use Rattle.exchange_messages.specs.Floors.{AreLanes, IsMomentOf}
 use Rattle.exchange_http.specs.Serving.{EndsSo}
 use Rattle.exchange_messages.specs.Courses.{Course}
 use Rattle.fan_out.specs.declared.lane.Lane.{Lane}
 use Rattle.http_connection.specs.declared.conn.ConnEnd.{ConnEnd}
 use Rattle.http_service.specs.Connections.{HasCauses}
-use Rattle.lobby.specs.Serving.{ServedPair}
-use Rattle.pass_calls.specs.Passes.{IsNotedAs}
+use Rattle.adx_links.specs.Serving.{ServedPair}
+use Rattle.shared_desk.specs.Passes.{IsNotedAs}
 use Rattle.shared_desk.specs.Callers.{DeskPass}
 use Rattle.turnstile.specs.Passes.{IsOf, IsSamePass, TurnstileState}
 use Rattle.turnstile.specs.declared.noted.Noted.{Noted}

@@ -1,36 +1,39 @@
 -- What serving the connections of an acceptor on one desk leaves. This project's own.
+-- Example: two connections of one bill each, of different awards, opened at a history of one ask: there are two
+-- rows, each with one turn; the history has three entries, and which bill stands first is by the order of the
+-- turns.
 use Rattle.std.specs.Prelude.{◌≡◌, ◌≢◌, ◌⊎◌, ℕ, ◌<◌, ◌≤◌, List, [], ◌∷◌, ◌++◌, length, map, take, All, true, false, Some, IfSome, option_map, slice_get}
 use Rattle.std.specs.List.{AllZip, flat_map}
 use mathlib.Core.List.{IsPrefix}
 use Rattle.adx_io.specs.Streams.{Rises, Tape}
 use Rattle.adx_io.specs.declared.disk.Disk as disk
 use Rattle.adx_links.specs.declared.link.Link as links
-use Rattle.adx_acceptors.specs.Pairs.{AcceptorTold, PairTold}
+use Rattle.adx_links.specs.Pairs.{AcceptorTold, PairTold}
 use Rattle.turnstile.specs.declared.noted.Noted.{Noted}
 use Rattle.turnstile.specs.Turns.{AreAllRight, Stand, faults_noted, places_of}
 use Rattle.turnstile.specs.Places.{AreAllOnce}
-use Rattle.lobby.specs.Serving.{ServedPair}
-use Rattle.day_meters.specs.DayMeters.{meters_after}
+use Rattle.adx_links.specs.Serving.{ServedPair}
+use Rattle.day_rules.specs.DayMeters.{meters_after}
 use Rattle.day_rules.specs.declared.entry.Entry.{Entry}
 use Rattle.day_rules.specs.Legal.{IsLegal}
+use Rattle.day_rules.specs.RunBooks.{HasBooksAlong}
 use Rattle.adx_desk.specs.declared.turn.Turn.{Turn}
-use Rattle.adx_desk.specs.Desks.{OnDisk}
+use Rattle.adx_desk.specs.Desks.{OnDisk, StandsInDoubt}
 use Rattle.adx_desk.specs.Endings.{IsWithinRise}
-use Rattle.adx_desk.specs.Histories.{WithOrWithout}
 use Rattle.adx_desk.specs.Rosters.{desk_terms}
-use Rattle.adx_desk.specs.Shared.{IsTurnAt, is_disk_fault}
+use Rattle.adx_desk.specs.Shared.{IsTakenAt, IsTurnAt, is_disk_fault}
 use Rattle.shared_desk.specs.Callers.{entry_of}
 use Rattle.desk_calls.specs.Steps.{AreSteps, calls_of, meters_read, shared}
-use Rattle.pass_calls.specs.Passes.{IsNotedAs}
+use Rattle.shared_desk.specs.Passes.{IsNotedAs}
 use Rattle.deal_floor.specs.declared.roster.Roster.{Roster}
 use Rattle.fan_out.specs.declared.lane.Lane.{Lane}
 use Rattle.http_connection.specs.declared.conn.ConnEnd.{ConnEnd}
 use Rattle.http_service.specs.Connections.{HasCauses}
 use Rattle.exchange_messages.specs.Courses.{Course}
 use Rattle.exchange_http.specs.Serving.{EndsSo, Talked}
-use Rattle.meter_steps.specs.declared.meters.Meters.{Meters}
+use Rattle.day_rules.specs.declared.meters.Meters.{Meters}
 use Rattle.outbox.specs.declared.post.Post.{Post}
-use Rattle.mail_room.specs.Tending.{AreTended, AreTriedOnce, due_behind}
+use Rattle.desk_board.specs.Tending.{AreTended, AreTriedOnce, due_behind}
 use Rattle.exchange_serving.specs.declared.ending.Ending.{Ending}
 
 -- a tape of which nothing was taken
@@ -119,6 +122,8 @@ pub record AreServed {L : Type 0} (l : links.Ghosts L) (IsMoment : ℕ → Type 
   -- has one, stands there
   pub right : AreAllRight (IsTurnAt (desk_terms r)) history (turns_in rows)
   pub stand : Stand entry_of history (turns_in rows)
+  -- what a run over it leaves there: its call taken once, within the budgets, each ask as its choice was
+  pub taken : AreAllRight (IsTakenAt (desk_terms r)) history (turns_in rows)
   -- each entry past the opening is of exactly one of these turns
   pub own : AreAllOnce (length opened) (length history) (places_of entry_of (turns_in rows))
 
@@ -157,9 +162,15 @@ pub record ServesDay {D L : Type 0} (d : disk.Ghosts D) (l : links.Ghosts L) (Is
   pub history : List Entry
   pub begins : IsPrefix opened.desk.history history
   pub legal : IsLegal (desk_terms r).day history
-  -- Where the disk told at the opening what it read, a crash now leaves the history, or it and one record in doubt.
-  pub on_disk : opened.since.tells ≡ true
-      → (tail : List Entry) × ((file : List ℕ) → d.may_leave disk_now file → WithOrWithout (desk_terms r) history tail file)
+  -- the books of all of it, and of each front of it, which is what each connection saw
+  pub books : HasBooksAlong (desk_terms r).day history
+  -- How many calls met a fault of the disk: at most what its count rose by since the opening.
+  pub faults : ℕ
+  pub risen : IsWithinRise opened.since.count faults (d.faults disk_now)
+  -- Where the disk told at the opening what it read, a crash now leaves the history, or it and one record in doubt of a call
+  -- that met such a fault; and no record is in doubt where none did, as where serving ended well.
+  pub on_disk : opened.since.tells ≡ true → StandsInDoubt (d.may_leave disk_now) (desk_terms r) history faults
+  pub sound : (ending ≡ Ending.Done) ⊎ (ending ≡ Ending.Pending) → faults ≡ 0
   pub rows : List (ServedPair Turn)
   pub served : AreServed l IsMoment r workers opened.desk.history history rows ending
   pub accepted : HasBack acceptor acceptor_now rows ending

@@ -8,7 +8,7 @@ use Rattle.day_rules.specs.declared.entry.Entry.{Entry}
 use Rattle.day_rules.specs.Legal.{IsLegal}
 use Rattle.deal_floor.specs.declared.roster.Roster.{Roster}
 use Rattle.fan_out.specs.declared.lane.Lane.{Lane}
-use Rattle.mail_room.specs.Tending.{AreTended}
+use Rattle.desk_board.specs.Tending.{AreTended}
 use Rattle.outbox.specs.declared.post.Post.{Post}
 use Rattle.exchange_serving.specs.declared.leaving.Unserved.{Unserved}
 
@@ -20,6 +20,7 @@ pub record LeavesPost {L : Type 0} (l : links.Ghosts L) (r : Roster) (post post_
   pub tended : AreTended l history pending post post_now
 
 -- All is given back as it came; or all but the desk; or only the link that posts go over.
+-- Example: memory is refused for the outbox: desk, acceptor, lanes and link come back as they were.
 abbrev pub IsGivenBack : {A D L : Type 0} → links.Ghosts L → Roster → OnDisk D → A → Vec (Vec (Lane L) Global) Global → L
     → Unserved A D L → Type 0
 IsGivenBack l r desk acceptor lanes post (Unserved.Unbegun desk_back acceptor_back lanes_back post_back) =

@@ -1,7 +1,7 @@
 //! The beginning of a day's serving: what takes memory is made, and the desk is shared.
 ghost use Rattle.std.specs.Prelude.{◌≡◌, ◌≤◌, [], All, IfErr, IfOk};
 ghost use Rattle.adx_desk.specs.Shared.{opened_with};
-ghost use Rattle.mail_room.specs.Rooms.{HasTended};
+ghost use Rattle.desk_board.specs.Rooms.{HasTended};
 ghost use Rattle.meter_board.specs.Words.{published, taken, IsOf as IsReaderOf};
 ghost use Rattle.exchange_serving.specs.Beginning.{IsBegun};
 
@@ -9,8 +9,7 @@ use adx_desk::Desk;
 use adx_io::Disk;
 use adx_links::Link;
 use adx_units::OutOfMemory;
-use desk_board::Board;
-use mail_room::Mail;
+use desk_board::{Board, Mail};
 use meter_board::{MeterReader, StepBoard};
 use shared_desk::SharedDesk;
 use std::alloc::Global;

@@ -1,12 +1,12 @@
 //! Who asks the bidders of a round.
-ghost use Rattle.exchange_floor.specs.Floors.{Gave};
+ghost use Rattle.exchange_messages.specs.Floors.{Gave};
 
 use adx_links::Link;
-use exchange_floor::{Given, Round};
+use exchange_messages::{Given, Round};
 
 /// Who asks the bidders of a round.
 pub trait Gathers<L: Link> {
-    ghost use Rattle.exchange_floor.specs.Floors.{Gave};
+    ghost use Rattle.exchange_messages.specs.Floors.{Gave};
 
     // It may be called.
     ghost ready: { Self → Type 0 };
@@ -24,7 +24,7 @@ pub(crate) struct ByClosure<'a, F> {
 }
 
 impl<L: Link, F: Fn(Round<'_, L>) -> Given<L>> Gathers<L> for ByClosure<'_, F> {
-    ghost use Rattle.exchange_floor.specs.Floors.{Gave};
+    ghost use Rattle.exchange_messages.specs.Floors.{Gave};
 
     ghost ready = { λ g. F.IsAlwaysCallable g.asks.now × ((x y : _) → F.post g.asks.now x y → Gave L.Link x y) };
 

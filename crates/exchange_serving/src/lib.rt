@@ -1,11 +1,17 @@
 //! The connections of an acceptor, served by many threads on one desk.
 //!
-//! `serve_connections` lets workers serve connections at the same time, each as `shared_serving` does, on one desk that they
-//! share, and tries the posts of its history behind each connection. Its contract says that all pairs were given back, what
-//! each was replied and by which turns, that these turns made the history that the disk stands for, which posts were
-//! delivered, and what is given back where no desk is left for want of memory.
-//! Stands on `lobby` for the threads, on `shared_serving` for a connection, on `mail_room` for the posts and on
-//! `shared_board` for the meters.
+//! `serve_connections` lets workers serve connections at the same time on one desk
+//! that they share, and tries the posts of its history behind each connection. Its contract says that all pairs were
+//! given back, what each was replied and by which turns, that these turns made the history that the disk stands for,
+//! which posts were delivered, and what is given back where no desk is left for want of memory.
+//!
+//! The exchange on a connection, on a desk that threads share. `serve_shared` serves a connection as `exchange_http`
+//! does, by a pass of a shared desk: its contract names the messages, the steps that they made by the pass, what each
+//! was replied by the history of its own steps, and why no more were read. `serve_gathering` does so too, and is given
+//! how bidders are asked.
+//!
+//! Stands on `adx_links` for connections and the threads, on `exchange_http` for a connection, and on `desk_board` for
+//! board and posts.
 #![tactic(auto)]
 
 mod beginning;
@@ -16,6 +22,7 @@ mod leaving;
 mod names;
 mod round;
 mod serving;
+mod sharing;
 mod talking;
 mod whole;
 mod worker;
@@ -23,3 +30,4 @@ mod worker;
 pub use ending::Ending;
 pub use leaving::{Served, Unserved};
 pub use serving::serve_connections;
+pub use sharing::{serve_gathering, serve_shared};

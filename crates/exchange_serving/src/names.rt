@@ -2,10 +2,8 @@
 
 use adx_desk::Desk;
 use adx_io::Disk;
-use adx_links::Link;
-use lobby::Hall;
-use mail_room::MailNames;
-use shared_board::BoardNames;
+use adx_links::{Hall, Link};
+use desk_board::{BoardNames, MailNames};
 use std::marker::{Brand, PhantomData};
 use std::sync::Mutex;
 

@@ -1,9 +1,9 @@
 //! One round of a worker: a connection between two looks at the board.
 ghost use Rattle.std.specs.Prelude.{◌≡◌};
-ghost use Rattle.adx_acceptors.specs.Told.{pair_by};
+ghost use Rattle.adx_links.specs.Told.{pair_by};
 ghost use Rattle.adx_desk.specs.Rosters.{desk_terms};
 ghost use Rattle.adx_desk.specs.Shared.{terms_in};
-ghost use Rattle.exchange_floor.specs.Floors.{AreLanes, IsMomentOf};
+ghost use Rattle.exchange_messages.specs.Floors.{AreLanes, IsMomentOf};
 ghost use Rattle.meter_board.specs.Words.{list_read};
 ghost use Rattle.turnstile.specs.Passes.{IsOf};
 ghost use Rattle.exchange_serving.specs.Rounds.{IsRound, is_out_of_memory};
@@ -16,10 +16,10 @@ use adx_http::ConnEnd;
 use adx_io::{Disk, Sink, Source};
 use adx_links::Link;
 use deal_floor::Roster;
-use exchange_floor::Clock;
+use desk_board::SharedBoard;
+use exchange_messages::Clock;
 use fan_out::Lane;
 use meter_board::MeterReader;
-use shared_board::SharedBoard;
 use shared_desk::SharedDesk;
 use std::alloc::Global;
 use std::sync::{Mutex, Wait};

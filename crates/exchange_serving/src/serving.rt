@@ -1,12 +1,12 @@
 //! All connections of an acceptor on one desk, from the desk as it was opened to its disk.
 ghost use Rattle.std.specs.Prelude.{◌≡◌, ◌≤◌, [], true, All, IfErr, IfOk, IfSome, Some, length};
-ghost use Rattle.adx_acceptors.specs.Told.{told_by};
+ghost use Rattle.adx_links.specs.Told.{told_by};
 ghost use Rattle.adx_desk.specs.Desks.{OnDisk};
 ghost use Rattle.adx_desk.specs.Rosters.{desk_terms};
 ghost use Rattle.adx_desk.specs.Shared.{opened_with, terms_in};
-ghost use Rattle.exchange_floor.specs.Floors.{AreLanes, Gave, IsMomentOf};
-ghost use Rattle.lobby.specs.Lobbies.{AllServed};
-ghost use Rattle.mail_room.specs.Rooms.{HasTended};
+ghost use Rattle.exchange_messages.specs.Floors.{AreLanes, Gave, IsMomentOf};
+ghost use Rattle.adx_links.specs.Lobbies.{AllServed};
+ghost use Rattle.desk_board.specs.Rooms.{HasTended};
 ghost use Rattle.meter_board.specs.Words.{list_of, list_read};
 ghost use Rattle.shared_desk.specs.Idle.{IsIdle};
 ghost use Rattle.turnstile.specs.Passes.{IsOf};
@@ -22,21 +22,18 @@ use crate::leaving::{Served, Unserved};
 use crate::names::{Day, DayNames};
 use crate::round::Boards;
 use crate::worker::{DayWorker, Mails, workers_of};
-use adx_acceptors::Acceptor;
 use adx_desk::Desk;
 use adx_io::Disk;
-use adx_links::Link;
+use adx_links::{Acceptor, Intake, Left, Link, serve_all};
 use deal_floor::Roster;
-use desk_board::Board;
-use exchange_floor::{Clock, Given, Round, at_once};
+use desk_board::{Board, Mail, Mailroom, SharedBoard};
+use exchange_messages::{Clock, Given, Round, at_once};
 use fan_out::Lane;
-use lobby::{Intake, Left, serve_all};
-use mail_room::{Mail, Mailroom};
 use meter_board::MeterReader;
-use shared_board::SharedBoard;
 use shared_desk::SharedDesk;
 use std::alloc::Global;
 use std::marker::{Brand, Send, Sync};
+use std::sync::atomic::AtomicBool;
 use std::sync::{Mutex, Wait};
 use std::thread::Threads;
 use turnstile::Pass;
@@ -61,6 +58,7 @@ fn serve_by<
     clock: &'a C,
     board: &'a Boards<'b, R, D, L, J>,
     mail: &'a Mails<D, L, J>,
+    due: &'a AtomicBool,
     acceptor: A,
     first: Pass<Desk<D>>,
     lists: Vec<Vec<Lane<L>>>,
@@ -85,7 +83,7 @@ fn serve_by<
         (told_by A.Acceptor A.In.Source A.Out.Sink l.acceptor) l.pass l.intake l.wanting) }
 {
     let made = workers_of::<R, D, L, C, G, J>(
-        alloc, roster, desk, clock, board, mail, lists, readers, gather,
+        alloc, roster, desk, clock, board, mail, due, lists, readers, gather,
     );
     match made {
         Ok(workers) => serve_all::<R, A, Desk<D>, Day<L, J>, DayWorker<'a, 'b, R, D, L, C, G, J>>(
@@ -154,12 +152,13 @@ fn serve_shared_desk<
 {
     let boards = Mutex::new(SharedBoard::<&R, D, Day<L, J>>::open(board));
     let mails = Mutex::new(Mailroom::<D, L, Day<L, J>>::open(mail, mail_pass));
+    let due = AtomicBool::new(false);
     let asks = |round: Round<'_, L>| -> Given<L>
         ensures { Gave L.Link round.entry result }
     { at_once(rt, alloc, round) };
     let gather = ByClosure { asks: &asks };
     match serve_by::<R, A, D, L, C, _, J>(
-        rt, alloc, roster, &shared, clock, &boards, &mails, acceptor, first, lists, readers,
+        rt, alloc, roster, &shared, clock, &boards, &mails, &due, acceptor, first, lists, readers,
         &gather,
     ) {
         Some(left) => {

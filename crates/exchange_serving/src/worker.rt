@@ -1,11 +1,11 @@
 //! A worker of a day.
 ghost use Rattle.std.specs.Prelude.{◌≡◌, false, All, IfOk, Some, length};
-ghost use Rattle.adx_acceptors.specs.Pairs.{IsNew};
-ghost use Rattle.adx_acceptors.specs.Told.{pair_by};
+ghost use Rattle.adx_links.specs.Pairs.{IsNew};
+ghost use Rattle.adx_links.specs.Told.{pair_by};
 ghost use Rattle.adx_desk.specs.Rosters.{desk_terms};
 ghost use Rattle.adx_desk.specs.Shared.{terms_in};
-ghost use Rattle.exchange_floor.specs.Floors.{AreLanes};
-ghost use Rattle.lobby.specs.Serving.{IsBeside, IsFresh, served_pair};
+ghost use Rattle.exchange_messages.specs.Floors.{AreLanes};
+ghost use Rattle.adx_links.specs.Serving.{IsBeside, IsFresh, served_pair};
 ghost use Rattle.meter_board.specs.Words.{list_read};
 ghost use Rattle.turnstile.specs.Passes.{IsOf};
 ghost use Rattle.exchange_serving.specs.Lanes.{lists_of};
@@ -14,25 +14,27 @@ ghost use Rattle.exchange_serving.specs.Rounds.{IsServedIn, IsWorker};
 use crate::gathering::Gathers;
 use crate::names::{Day, DayNames};
 use crate::round::{Boards, serve_pair};
-use adx_acceptors::Acceptor;
 use adx_desk::Desk;
 use adx_io::Disk;
-use adx_links::Link;
+use adx_links::{Acceptor, Link, Worker};
 use adx_units::OutOfMemory;
 use deal_floor::Roster;
-use exchange_floor::Clock;
+use desk_board::Mailroom;
+use exchange_messages::Clock;
 use fan_out::Lane;
-use lobby::Worker;
-use mail_room::Mailroom;
 use meter_board::MeterReader;
 use shared_desk::SharedDesk;
 use std::alloc::Global;
 use std::marker::Model;
+use std::sync::atomic::{AtomicBool, Ordering};
 use std::sync::{Mutex, Wait};
 use turnstile::Pass;
 
-/// The posts of a day, behind their lock.
+/// The posts of a day, under their lock.
 pub(crate) type Mails<D, L, J> = Mutex<Mailroom<D, L, Day<L, J>>>;
+
+/// How many rounds in a row a worker makes for others.
+const MOST_ROUNDS: u32 = 64;
 
 /// A worker of a day: what it shares with the others, its lanes, and its reader of the meters.
 #[derive(Drop)]
@@ -52,6 +54,8 @@ pub(crate) struct DayWorker<
     clock: &'a C,
     board: &'a Boards<'b, R, D, L, J>,
     mail: &'a Mails<D, L, J>,
+    /// A round over the posts is due.
+    due: &'a AtomicBool,
     lanes: Vec<Lane<L>>,
     reader: MeterReader,
     gather: &'a G,
@@ -85,9 +89,9 @@ impl<
     J: DayNames<L>,
 > Worker<R, A, Desk<D>, Day<L, J>> for DayWorker<'a, 'b, R, D, L, C, G, J> {
     ghost use Rattle.std.specs.Prelude.{◌≡◌, false};
-    ghost use Rattle.adx_acceptors.specs.Pairs.{IsNew};
-    ghost use Rattle.adx_acceptors.specs.Told.{pair_by};
-    ghost use Rattle.lobby.specs.Serving.{IsBeside, IsFresh, served_pair};
+    ghost use Rattle.adx_links.specs.Pairs.{IsNew};
+    ghost use Rattle.adx_links.specs.Told.{pair_by};
+    ghost use Rattle.adx_links.specs.Serving.{IsBeside, IsFresh, served_pair};
     ghost use Rattle.exchange_serving.specs.Rounds.{IsServedIn};
 
     fn serve(&mut self, rt: &R, pass: &mut Pass<Desk<D>>, pair: &mut (A::In, A::Out)) -> bool
@@ -114,10 +118,22 @@ impl<
     }
 
     fn rest(&mut self, rt: &R) -> bool {
-        match self.mail.lock(rt).bring_up(rt, self.alloc, self.desk) {
-            Ok(()) => false,
-            Err(_) => true,
+        // Nobody waits for another's round: who has the posts makes one more for those who found them taken.
+        self.due.store(true, Ordering::SeqCst);
+        let mut wanting = false;
+        for _round in 0..MOST_ROUNDS {
+            if !self.due.load(Ordering::SeqCst) {
+                break;
+            }
+            let Some(mut mail) = self.mail.try_lock() else {
+                break;
+            };
+            self.due.store(false, Ordering::SeqCst);
+            if mail.bring_up(rt, self.alloc, self.desk).is_err() {
+                wanting = true;
+            }
         }
+        wanting
     }
 }
 
@@ -138,6 +154,7 @@ pub(crate) fn workers_of<
     clock: &'a C,
     board: &'a Boards<'b, R, D, L, J>,
     mail: &'a Mails<D, L, J>,
+    due: &'a AtomicBool,
     mut lists: Vec<Vec<Lane<L>>>,
     mut readers: Vec<MeterReader>,
     gather: &'a G,
@@ -163,6 +180,7 @@ pub(crate) fn workers_of<
             clock,
             board,
             mail,
+            due,
             lanes,
             reader,
             gather,

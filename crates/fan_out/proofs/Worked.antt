@@ -6,12 +6,12 @@ use Rattle.std.proofs.lemmas.List.{length-append}
 use Rattle.adx_units.specs.declared.memory.OutOfMemory.{OutOfMemory}
 use Rattle.adx_io.specs.Streams.{WhereTold}
 use Rattle.adx_links.specs.Links.{Course, Exchange, Exchanges, FailsStart, after_start, exchanges_in, next_start}
-use Rattle.http_bodies.specs.Steps.{ReadsBy}
+use Rattle.http_connection.specs.Steps.{ReadsBy}
 use Rattle.http_connection.specs.State.{ConnState}
 use Rattle.http_grammar.specs.declared.fault.HttpFault.{HttpFault}
 use Rattle.httparse.specs.Grammar.{status_code}
 use Rattle.deal_floor.specs.declared.place.Place.{Place}
-use Rattle.link_exchange.specs.Exchanging.{Answered, Exchanged, HeardSome, MadeOf, AnswersFront}
+use Rattle.adx_http.specs.Exchanging.{Answered, Exchanged, HeardSome, MadeOf, AnswersFront}
 use Rattle.fan_out.specs.declared.answer.BidderAnswer.{BidderAnswer}
 use Rattle.fan_out.specs.declared.answer.Refusal.{Refusal}
 use Rattle.fan_out.specs.declared.lane.Lane.{Lane}
@@ -197,27 +197,28 @@ module _ {L : Type 0} (exchanges : L → Option Exchanges) (course : L → Optio
     heard_of (Ok h) s = (s.0, s.1, as_heard s.0 s.1 h s.2)
     heard_of (Err f) s = tt
 
-    put_so : (p : Place) (head : List ℕ) (res : Result (Result BidderAnswer OutOfMemory) HttpFault) (c : Option Course) → head ≡ request_head p (length body)
-        → IfSome c (λ c. 0 < length head → IsTrue (next_start c.plan).put_fails → res ≡ Err HttpFault.ReadFault)
+    put_so : (p : Place) (request : List ℕ) (res : Result (Result BidderAnswer OutOfMemory) HttpFault) (c : Option Course) → request ≡ request_bytes p body
+        → IfSome c (λ c. 0 < length request → IsTrue (next_start c.plan).put_fails → res ≡ Err HttpFault.ReadFault)
         → IfSome c (λ c. IsTrue (next_start c.plan).put_fails → res ≡ Err HttpFault.ReadFault)
-    put_so p head res None is h = tt
-    put_so p head res (Some c) is h = h (subst (λ (t : List ℕ). 0 < length t) (sym is) (some_head p (length body)))
+    put_so p request res None is h = tt
+    put_so p request res (Some c) is h =
+        h (omega (arith, ap length is, length-append (request_head p (length body)) body, some_head p (length body)))
 
     pub worked_by : (p : Place) (l m : L) (k n : ConnState) (before now : Option (Result BidderAnswer OutOfMemory)) (res : Result (Result BidderAnswer OutOfMemory) HttpFault)
-        (host head : List ℕ) → host ≡ p.host → head ≡ request_head p (length body)
-        → WhereTold (exchanges l) (exchanges m) (Exchanged host p.port (head ++ body) res)
+        (host request : List ℕ) → host ≡ p.host → request ≡ request_bytes p body
+        → WhereTold (exchanges l) (exchanges m) (Exchanged host p.port request res)
         → WhereTold (course l) (course m) (Answered hears auction k.limit res)
         → IfSome (course l) (λ c. WhereTold (exchanges l) (exchanges m) (AnswersFront c))
         → IfOk res (λ h. HeardSome hears auction h)
         → IfSome (course l) (λ c. FailsStart c → res ≡ Err HttpFault.ReadFault)
-        → IfSome (course l) (λ c. 0 < length head → IsTrue (next_start c.plan).put_fails → res ≡ Err HttpFault.ReadFault)
+        → IfSome (course l) (λ c. 0 < length request → IsTrue (next_start c.plan).put_fails → res ≡ Err HttpFault.ReadFault)
         → ReadsBy (faults l) (faults m) res → stands_on m ≡ stands_on l → n.limit ≡ k.limit
         → IsWorked exchanges course faults stands_on body id (lane_of p l k before) (lane_of p m n now) (outcome_of (answer_of res))
-    worked_by p l m k n before now res host head host_is head_is talk answer front heard starts puts cause same limit =
+    worked_by p l m k n before now res host request host_is request_is talk answer front heard starts puts cause same limit =
         let h : HeardOf id res = heard_of res heard in
         let talk_so : WhereTold (exchanges l) (exchanges m) (Exchanged p.host p.port (request_bytes p body) res) =
         subst (λ (t : List ℕ). WhereTold (exchanges l) (exchanges m) (Exchanged t p.port (request_bytes p body) res)) host_is
-        (subst (λ (t : List ℕ). WhereTold (exchanges l) (exchanges m) (Exchanged host p.port (t ++ body) res)) head_is talk) in
+        (subst (λ (t : List ℕ). WhereTold (exchanges l) (exchanges m) (Exchanged host p.port t res)) request_is talk) in
         record {
           place = refl;
           limit = limit;
@@ -226,7 +227,7 @@ module _ {L : Type 0} (exchanges : L → Option Exchanges) (course : L → Optio
           follows = told_as (course l) (course m) (Answered hears auction k.limit res) (Follows k.limit id (outcome_of (answer_of res)))
               (λ x y w. follows id hears auction as_heard k.limit res x y w) answer;
           front = front;
-          planned = planned res (course l) starts (put_so p head res (course l) head_is puts);
+          planned = planned res (course l) starts (put_so p request res (course l) request_is puts);
           cause = caused id (faults l) (faults m) res h cause;
           same = same;
           own = own id res h;

@@ -4,7 +4,7 @@ use Rattle.std.specs.Borrow.{GName}
 use Rattle.adx_units.specs.declared.memory.OutOfMemory.{OutOfMemory}
 use Rattle.adx_io.specs.Streams.{WhereTold, Rises}
 use Rattle.adx_links.specs.Links.{Course, Exchanges, FailsStart, after_start, exchanges_in, next_start}
-use Rattle.link_exchange.specs.Exchanging.{OneMore, AnswersFront}
+use Rattle.adx_http.specs.Exchanging.{OneMore, AnswersFront}
 use Rattle.deal_floor.specs.declared.place.Place.{Place}
 use Rattle.fan_out.specs.declared.answer.BidderAnswer.{BidderAnswer}
 use Rattle.fan_out.specs.declared.lane.Lane.{Lane}
@@ -15,6 +15,7 @@ use Rattle.fan_out.specs.Answers.{Said, said_by, bids, no_bid, refused, link_fau
 abbrev pub Outcome : Type 0
 Outcome = Result Said OutOfMemory
 
+-- what a lane's work came to: what the bidder said, or that memory ran out
 abbrev pub outcome_of : Result BidderAnswer OutOfMemory → Outcome
 outcome_of (Ok a) = Ok (said_by a)
 outcome_of (Err e) = Err e

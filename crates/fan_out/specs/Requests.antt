@@ -5,6 +5,7 @@ use Rattle.httparse.specs.Ascii.{crlf_bytes}
 use Rattle.adx_http.specs.Replies.{field_line}
 use Rattle.deal_floor.specs.declared.place.Place.{Place}
 
+-- the first line of what a bidder is sent
 abbrev pub request_line : List ℕ → List ℕ
 request_line path = codes "POST " ++ path ++ codes " HTTP/1.1" ++ crlf_bytes
 
@@ -21,6 +22,8 @@ abbrev pub last_lines : List ℕ
 last_lines = field_line (codes "Connection") (codes "close") ++ crlf_bytes
 
 -- the head of a request to a bidder whose body has that length
+-- Example: `POST /bid HTTP/1.1`, `Host: bidder.example:8080`, the type `application/json`, `x-openrtb-version:
+-- 2.6`, `Content-Length: 17`, `Connection: close`, an empty line, and 17 bytes.
 abbrev pub request_head : Place → ℕ → List ℕ
 request_head p len =
     request_line p.path
@@ -29,5 +32,6 @@ request_head p len =
     ++ field_line (codes "Content-Length") (decimal len)
     ++ last_lines
 
+-- all that it is sent
 abbrev pub request_bytes : Place → List ℕ → List ℕ
 request_bytes p body = request_head p (length body) ++ body

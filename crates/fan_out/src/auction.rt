@@ -5,9 +5,9 @@ ghost use Rattle.rtb_response.specs.Seen.{seen_answer};
 ghost use Rattle.fan_out.specs.Answers.{SaysBody, has_bid, said_by};
 
 use crate::answer::{BidderAnswer, Refusal};
+use adx_http::Hearer;
 use adx_json::{JsonFault, read};
 use adx_units::{Id, OutOfMemory};
-use link_exchange::Hearer;
 use rtb_response::{AnswerFault, BidAnswer, SeatBid};
 use std::alloc::Global;
 

@@ -1,7 +1,7 @@
-//! The head of a request to a bidder.
+//! A request to a bidder.
 ghost use Rattle.std.specs.Prelude.{◌≡◌, ◌++◌, IfOk, OnOk, string_bytes, decimal, codes};
 ghost use Rattle.adx_http.specs.Replies.{field_line};
-ghost use Rattle.fan_out.specs.Requests.{host_and_port, request_head, request_line};
+ghost use Rattle.fan_out.specs.Requests.{host_and_port, request_bytes, request_head, request_line};
 
 use adx_units::OutOfMemory;
 use deal_floor::Place;
@@ -41,7 +41,7 @@ fn push_length(out: &mut String, length: usize) -> Result<(), OutOfMemory>
 }
 
 /// The head of a request to a bidder whose body has that many bytes.
-pub(crate) fn head_of(alloc: Global, place: &Place, length: usize) -> Result<String, OutOfMemory>
+fn head_of(alloc: Global, place: &Place, length: usize) -> Result<String, OutOfMemory>
     ensures { IfOk result (λ h. string_bytes h ≡ request_head place.now length) }
 {
     let mut head = String::new(alloc);
@@ -51,4 +51,15 @@ pub(crate) fn head_of(alloc: Global, place: &Place, length: usize) -> Result<Str
     push_length(&mut head, length)?;
     head.push_str("Connection: close\r\n\r\n")?;
     Ok(head)
+}
+
+/// A request to a bidder in one piece, so that one write sends it.
+pub(crate) fn request_of(alloc: Global, place: &Place, body: &[u8]) -> Result<Vec<u8>, OutOfMemory>
+    ensures { IfOk result (λ r. r.items ≡ request_bytes place.now body.now) }
+{
+    let head = head_of(alloc, place, body.len())?;
+    let mut request = Vec::with_capacity(alloc, head.len() + body.len())?;
+    request.extend_from_slice(head.as_bytes())?;
+    request.extend_from_slice(body)?;
+    Ok(request)
 }

@@ -7,12 +7,11 @@ ghost use Rattle.fan_out.specs.Lasts.{Leaves, answer_of, lane_of};
 
 use crate::answer::{BidderAnswer, Refusal};
 use crate::auction::Auction;
-use crate::head::head_of;
-use adx_http::{Conn, HttpFault};
+use crate::head::request_of;
+use adx_http::{Conn, HttpFault, exchange};
 use adx_links::Link;
 use adx_units::{Id, OutOfMemory};
 use deal_floor::Place;
-use link_exchange::exchange;
 use std::alloc::Global;
 
 /// A bidder, where it is asked, and what it answered.
@@ -53,14 +52,13 @@ fn asked<L: Link>(
     ensures { (before now : Option (Result BidderAnswer OutOfMemory)) → IsWorked L.exchanges L.course L.faults L.place body.now id.now
         (lane_of place.now link.old conn.old before) (lane_of place.now link.new conn.new now) (outcome_of result) }
 {
-    match head_of(alloc, place, body.len()) {
-        Ok(head) => answer_of(exchange(
+    match request_of(alloc, place, body) {
+        Ok(request) => answer_of(exchange(
             link,
             conn,
             place.host.as_str(),
             place.port,
-            head.as_bytes(),
-            body,
+            request.as_slice(),
             Auction { alloc, id },
         )),
         Err(wanting) => Err(wanting),

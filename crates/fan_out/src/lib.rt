@@ -1,9 +1,10 @@
 //! Bidders that are asked at the same time, and what each of them answered.
 //!
-//! `gather` sends one request to every lane's bidder and gives one answer per lane, in their order, each
-//! a function of the bytes that its own bidder answered; `gather_in_turn` does the same without threads.
-//! A fault of one bidder takes out that bidder alone.
-//! Stands on link_exchange, adx_links, adx_http, rtb_response and deal_floor.
+//! `gather` sends one request to every lane's bidder and gives one answer per lane, in their order, each a function of
+//! the bytes that its own bidder answered; `gather_in_turn` does the same without threads. A fault of one bidder takes
+//! out that bidder alone.
+//!
+//! Stands on `adx_links` for links, on `adx_http` for an exchange with a host, and on `rtb_response` for answers.
 #![tactic(auto)]
 
 mod answer;

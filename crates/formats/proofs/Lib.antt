@@ -14,3 +14,4 @@ pub mod Documents
 pub mod Numbered
 pub mod SevenBits
 pub mod Lengths
+pub mod Days

@@ -5,6 +5,7 @@ use Rattle.formats.specs.Parts.{◌>>=◌, ended}
 use Rattle.formats.specs.Following.{Leads, FailsAt, IsCut}
 use Rattle.formats.specs.Formats.{Format, whole_reads}
 
+-- a document: the format of its lines, and which line may follow which
 pub record Document (Row Told : Type 0) : Type 1 where
   -- a line
   pub row : Format Row

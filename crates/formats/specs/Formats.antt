@@ -9,6 +9,8 @@ use Rattle.formats.specs.Parts.{◌>>=◌, behind_word, behind_byte, none_left}
 abbrev pub Reads : Type 0 → Type 0
 Reads X = List ℕ → Option (X × List ℕ)
 
+-- a format as a value: which values have a spelling, which one, what is read, and what may follow a spelling so
+-- that its end is seen
 pub record Format (X : Type 0) : Type 1 where
   -- the values that have a spelling
   pub Fits : X → Type 0
@@ -59,6 +61,7 @@ nothing = record { Fits = λ x. Unit {0}; write = λ x. []; reads = λ bytes. So
 
 -- two parts, one behind the other
 infixr 5 ◌⊗◌
+-- one format after the other
 abbrev pub ◌⊗◌ : {X Y : Type 0} → Format X → Format Y → Format (X × Y)
 f ⊗ g = record {
   Fits = λ p. f.Fits p.0 × g.Fits p.1;
@@ -87,17 +90,21 @@ such P test f = record {
 
 -- ---- choices
 
+-- one of two properties, by which of two kinds of value it is
 abbrev pub either_fits : {X Y : Type 0} → (X → Type 0) → (Y → Type 0) → X ⊎ Y → Type 0
 either_fits P Q (inl x) = P x
 either_fits P Q (inr y) = Q y
 
+-- one of two spellings, in the same way
 abbrev pub either_bytes : {X Y : Type 0} → (X → List ℕ) → (Y → List ℕ) → X ⊎ Y → List ℕ
 either_bytes s t (inl x) = s x
 either_bytes s t (inr y) = t y
 
+-- what was read, as the first kind
 abbrev pub on_left : {X Y : Type 0} → Option (X × List ℕ) → Option ((X ⊎ Y) × List ℕ)
 on_left o = o >>= λ x. Some (inl x.0, x.1)
 
+-- what was read, as the second kind
 abbrev pub on_right : {X Y : Type 0} → Option (Y × List ℕ) → Option ((X ⊎ Y) × List ℕ)
 on_right o = o >>= λ y. Some (inr y.0, y.1)
 
@@ -119,6 +126,7 @@ abbrev pub last_kind_reads : {X : Type 0} → ℕ → Reads X → Reads X
 last_kind_reads tag f [] = None
 last_kind_reads tag f (b ∷ bytes) = if b == tag then f bytes else None
 
+-- a value after a byte that says its kind, with no further kind
 abbrev pub last_kind : {X : Type 0} → ℕ → Format X → Format X
 last_kind tag f = record {
   Fits = f.Fits;
@@ -146,6 +154,7 @@ worded word f g = record {
 abbrev pub bytes_reads : ℕ → Reads (List ℕ)
 bytes_reads n bytes = if nat_lt (length bytes) n then None else Some (take n bytes, drop n bytes)
 
+-- n bytes, as they are
 abbrev pub bytes_of : ℕ → Format (List ℕ)
 bytes_of n = record { Fits = λ l. length l ≡ n; write = λ l. l; reads = bytes_reads n; Ends = λ rest. Unit {0} }
 

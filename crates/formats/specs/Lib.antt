@@ -3,3 +3,4 @@ pub mod Following
 pub mod Formats
 pub mod Numbers
 pub mod Documents
+pub mod Days

@@ -11,11 +11,13 @@ use Rattle.formats.specs.Formats.{Format, Reads, bytes_reads}
 abbrev pub is_byte : ℕ → Bool
 is_byte b = nat_lt b 256
 
+-- the first byte, and the rest
 abbrev pub byte_reads : Reads ℕ
 byte_reads [] = None
 byte_reads (b ∷ rest) = if is_byte b then Some (b, rest) else None
 
 -- one byte
+-- Example: 300 is the bytes 172 and 2.
 abbrev pub byte : Format ℕ
 byte = record { Fits = λ n. n < 256; write = λ n. n ∷ []; reads = byte_reads; Ends = λ rest. Unit {0} }
 
@@ -25,6 +27,7 @@ fixed_reads w bytes = do
   front ← bytes_reads (byte_len w) bytes
   if list_all is_byte front.0 then Some (from_le_bytes w front.0, front.1) else None
 
+-- a number of a width, least byte first
 abbrev pub fixed : Width → ℕ → Format ℕ
 fixed w limit = record { Fits = λ n. n < limit; write = to_le_bytes w; reads = fixed_reads w; Ends = λ rest. Unit {0} }
 

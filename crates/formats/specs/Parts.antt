@@ -19,6 +19,7 @@ part bytes = 32 ∷ bytes
 
 -- a step of reading, and the next one where it found something
 infixl 10 ◌>>=◌
+-- what is made of a value, if there is one
 abbrev pub ◌>>=◌ : {A B : Type 0} → Option A → (A → Option B) → Option B
 o >>= f = option_and_then f o
 

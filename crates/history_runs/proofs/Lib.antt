@@ -3,3 +3,9 @@ pub mod Printed
 pub mod Putting
 pub mod Opened
 pub mod DiskCounts
+pub mod FirstLines
+pub mod OneMeaning
+pub mod AnswerLaws
+pub mod AnsweredCalls
+pub mod Rosters
+pub mod PutLines

@@ -9,7 +9,7 @@ use Rattle.adx_io.proofs.Moved.{took_none}
 use Rattle.command_runs.specs.Meanings.{PutsEnd, Wrote}
 use Rattle.command_runs.specs.declared.outcome.Outcome.{Outcome}
 use Rattle.command_runs.proofs.Told.{told_ahead}
-use Rattle.script_day.specs.Output.{unopened_line}
+use Rattle.history_runs.specs.Output.{unopened_line}
 use Rattle.history_runs.specs.Unopened.{GivesUpBy, MayEndAs, PutsUnopened, PutsWhy, not_opened, unopened_end}
 
 -- how a run may end whose last bytes were put so

@@ -8,7 +8,7 @@ use Rattle.command_runs.specs.Documents.{document}
 use Rattle.command_runs.specs.Firsts.{LeavesFirst, by_first}
 use Rattle.command_runs.specs.Meanings.{Meaning}
 use Rattle.command_runs.specs.Runs.{Runs}
-use Rattle.command_runs.specs.declared.limits.TheConstants.{INPUT_LIMIT}
+use Rattle.command_runs.specs.Limits.{input_limit}
 use Rattle.command_runs.specs.declared.outcome.Outcome.{Outcome}
 use Rattle.deal_floor.specs.declared.roster.Roster.{Roster}
 use Rattle.history_runs.specs.Histories.{LeavesDay, Opening, Prints, tells}
@@ -16,7 +16,7 @@ use Rattle.history_runs.specs.Rosters.{roster_heads}
 
 -- What a command means that prints of a history: by the roster of the first line, if there is one, and what came of its day.
 abbrev pub history_command : Prints → Option (Roster × Opening) → Meaning
-history_command prints = by_first roster_heads INPUT_LIMIT (λ r allowed o. document allowed (tells prints r o))
+history_command prints = by_first roster_heads input_limit (λ r allowed o. document allowed (tells prints r o))
 
 -- Such a command ran so.
 pub record RunsHistory {S K D : Type 0} (s : source.Ghosts S) (k : sink.Ghosts K) (d : disk.Ghosts D) (prints : Prints)

@@ -5,7 +5,7 @@ use Rattle.adx_io.specs.declared.line_buffer.TheConstants.{CHUNK}
 use Rattle.adx_io.specs.declared.stop.Stop.{Stop}
 use Rattle.command_runs.specs.Meanings.{Meaning, PutsEnd}
 use Rattle.command_runs.specs.declared.outcome.Outcome.{Outcome}
-use Rattle.script_day.specs.Output.{unopened_line}
+use Rattle.history_runs.specs.Output.{unopened_line}
 
 -- how a run ends whose day wasn't opened for this cause
 abbrev pub unopened_end : DeskFault → Result Outcome Stop
@@ -32,6 +32,7 @@ GivesUpBy (DeskFault.BadLength at) result = MayEndAs (Ok Outcome.NoHistory) resu
 GivesUpBy DeskFault.OutOfMemory result = result ≡ Err Stop.OutOfMemory
 
 -- a day that wasn't opened: why is said, and nothing is read
+-- Example: a file that is no journal: its line, and the run ends `NoHistory`.
 abbrev pub not_opened : DeskFault → Meaning
 not_opened why = record {
   ends = λ outcome taken left out. (unopened_end why ≡ Ok outcome) × (length taken ≤ CHUNK) × (out ≡ unopened_line why);

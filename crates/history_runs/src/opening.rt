@@ -4,10 +4,10 @@ ghost use Rattle.adx_io.specs.Talk.{HasCauses};
 ghost use Rattle.adx_io.specs.TalkState.{place_of, state_of};
 ghost use Rattle.history_runs.specs.Unopened.{PutsUnopened, unopened_end};
 
+use crate::unopened_lines::push_unopened;
 use adx_desk::DeskFault;
 use adx_io::{Sink, Source, Stop, Talk};
 use command_runs::{Outcome, put_end};
-use script_day::push_unopened;
 
 /// How a run ends whose day couldn't be opened for this cause.
 pub fn unopened_outcome(fault: &DeskFault) -> Result<Outcome, Stop>

@@ -1,13 +1,13 @@
 //! The roster's line, which is first in an input.
 ghost use Rattle.std.specs.Prelude.{◌≡◌, ◌++◌, IfOk, OnOk, string_bytes};
 ghost use Rattle.command_runs.specs.Firsts.{FindsHead};
-ghost use Rattle.command_runs.specs.declared.limits.TheConstants.{INPUT_LIMIT as input_limit};
+ghost use Rattle.command_runs.specs.Limits.{input_limit};
 ghost use Rattle.history_runs.specs.Rosters.{lack_line, roster_heads};
 
+use crate::refusals::push_roster_refused;
 use adx_units::OutOfMemory;
 use command_runs::NoLine;
 use deal_floor::Roster;
-use script_day::push_roster_refused;
 use script_lines::{RosterLineFault, RosterRefusal, read_roster};
 use std::alloc::Global;
 

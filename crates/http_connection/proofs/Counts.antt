@@ -8,9 +8,9 @@ use Rattle.httparse.specs.Ascii.{colon}
 use Rattle.httparse.specs.Grammar.{LineEnd, print_end, print_blank, print_field, print_section, print_version, print_reason, Field, RequestHead, ResponseHead, ReadsRequest, ReadsResponse, IsRequestHead, IsToken, is_token_byte}
 use Rattle.httparse.specs.Grammar.LineEnd.{crlf, lf}
 use Rattle.httparse.proofs.GrammarLemmas.{cons-append, print_request-append, print_response-append}
-use Rattle.http_buffer.specs.Lines.{IsLine, ended}
-use Rattle.http_buffer.specs.HeadEnds.{IsEmpty, BeginsWithHead}
-use Rattle.http_buffer.proofs.HeadWalk.{empty_is_line, fulls_are_lines}
+use Rattle.http_connection.specs.Lines.{IsLine, ended}
+use Rattle.http_connection.specs.HeadEnds.{IsEmpty, BeginsWithHead}
+use Rattle.http_connection.proofs.HeadWalk.{empty_is_line, fulls_are_lines}
 
 -- how many line feeds stand in the bytes
 abbrev feeds : List ℕ → ℕ

@@ -5,15 +5,15 @@ use Rattle.adx_io.specs.Streams.{Tape}
 use Rattle.httparse.specs.Spans.{span_bytes}
 use Rattle.httparse.specs.declared.spans.Span.{Span}
 use Rattle.httparse.specs.Grammar.{ReadsRequest, print_request, RequestHead}
-use Rattle.http_buffer.specs.State.{BufferState}
-use Rattle.http_buffer.specs.declared.head.TheConstants.{HEAD_LIMIT}
+use Rattle.http_connection.specs.BufferState.{BufferState}
+use Rattle.http_connection.specs.declared.head.TheConstants.{HEAD_LIMIT}
 use Rattle.http_grammar.specs.Requests as grammar
 use Rattle.http_grammar.specs.Judged.{FailsRequest}
 use Rattle.http_grammar.specs.declared.fault.HttpFault.{HttpFault}
 use Rattle.http_grammar.specs.declared.parts.FirstRequest.{FirstRequest}
 use Rattle.http_grammar.specs.declared.parts.RequestParts.{RequestParts}
-use Rattle.http_bodies.specs.declared.chunks.TheConstants.{LINE_COUNT_LIMIT}
-use Rattle.http_bodies.specs.Steps.{ReadsBy}
+use Rattle.http_connection.specs.declared.chunks.TheConstants.{LINE_COUNT_LIMIT}
+use Rattle.http_connection.specs.Steps.{ReadsBy}
 use Rattle.http_connection.specs.Messages.{RefusesRequest, IsUnfinishedRequest}
 use Rattle.http_connection.specs.Found.{HasHead, HasRequestHead, FaultGives}
 use Rattle.http_connection.proofs.Printed.{request_ends, request_front}

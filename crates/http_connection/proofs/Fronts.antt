@@ -3,16 +3,16 @@ use Rattle.std.proofs.Common.{◌≡◌, ◌≢◌, ℕ, ◌≤◌, List, ◌∷
 use Rattle.std.specs.List.{flat_map}
 use Rattle.std.proofs.lemmas.List.{take-append-le, take-append-drop, take_at}
 use Rattle.httparse.specs.Grammar.{print_chunk_line}
-use Rattle.http_buffer.specs.Lines.{ended}
-use Rattle.http_buffer.specs.declared.head.TheConstants.{HEAD_LIMIT}
+use Rattle.http_connection.specs.Lines.{ended}
+use Rattle.http_connection.specs.declared.head.TheConstants.{HEAD_LIMIT}
 use Rattle.http_grammar.specs.declared.framing.Framing.{Framing}
 use Rattle.http_grammar.specs.declared.fault.HttpFault.{HttpFault}
-use Rattle.http_bodies.specs.Chunks.{Chunk, print_chunk, HasChunks, BeginsChunk, IsTrailer, HasNoTrailer, IsChunkedThen, IsBadLine, IsBadTrailer, EndsBadly, ChunkFault, FailsAt, FailsChunks}
-use Rattle.http_bodies.specs.BodyForms.{body_of_request, body_of_response, IsBodyThen, FailsBody}
-use Rattle.http_bodies.specs.declared.bodies.Body.{Body}
+use Rattle.http_connection.specs.Chunks.{Chunk, print_chunk, HasChunks, BeginsChunk, IsTrailer, HasNoTrailer, IsChunkedThen, IsBadLine, IsBadTrailer, EndsBadly, ChunkFault, FailsAt, FailsChunks}
+use Rattle.http_connection.specs.BodyForms.{body_of_request, body_of_response, IsBodyThen, FailsBody}
+use Rattle.http_connection.specs.declared.bodies.Body.{Body}
 use Rattle.http_connection.specs.Messages.{FailsRequestAt, FailsWithoutHead, FailsResponseAt}
 use Rattle.http_connection.specs.Laws.{RequestStays, RequestFaultStays, ResponseStays, ResponseFaultStays}
-use Rattle.http_buffer.proofs.OneHead.{begins_more, no_head_more}
+use Rattle.http_connection.proofs.OneHead.{begins_more, no_head_more}
 
 -- more behind a front and a rest is more behind the rest
 behind : (bytes front rest more : List ℕ) → bytes ≡ front ++ rest → bytes ++ more ≡ front ++ (rest ++ more)

@@ -2,9 +2,9 @@
 use Rattle.std.proofs.Common.{◌≡◌, ℕ, List, [], ◌++◌, true, false, subst, take, drop, Option, Some, Ok, Err, refl, sym, ◌∙◌}
 use Rattle.adx_io.specs.Streams.{Tape, WhereTold}
 use Rattle.httparse.specs.Spans.{span_bytes}
-use Rattle.http_buffer.specs.State.{BufferState, Passes}
+use Rattle.http_connection.specs.BufferState.{BufferState, Passes}
 use Rattle.http_grammar.specs.declared.fault.HttpFault.{HttpFault}
-use Rattle.http_bodies.specs.Steps.{coming, Advances}
+use Rattle.http_connection.specs.Steps.{coming, Advances}
 use Rattle.http_connection.specs.Messages.{Request, IsRequestThen, RefusesRequest, IsUnfinishedRequest, ResponseRead, IsResponseThen, RefusesResponse, IsUnfinishedResponse}
 use Rattle.http_connection.specs.State.{ConnState}
 use Rattle.http_connection.specs.Answers.{GivesMessage, GivesResponse, AnswersMessage, AnswersResponse}
@@ -12,7 +12,7 @@ use Rattle.http_connection.specs.Found.{FoundShows, StatusShows, FaultGives, Req
 use Rattle.http_connection.specs.declared.conn.Found.{Found}
 use Rattle.http_connection.specs.declared.conn.Message.{Message}
 use Rattle.http_connection.specs.declared.conn.Response.{Response}
-use Rattle.http_bodies.proofs.Told.{told_map}
+use Rattle.http_connection.proofs.Told.{told_map}
 
 pub message_given : (limit : ℕ) (start now : BufferState) (old new : Option Tape) (f : Found) (m : Message) → m.verb ≡ f.verb → m.target.now ≡ span_bytes (take f.head now.kept) f.target → m.body.now ≡ drop f.head now.kept → m.keep ≡ f.keep
     → RequestGives limit start now old new (Ok (Some f)) → WhereTold old new (λ o n. GivesMessage limit (coming start o) (Ok (Some m)) (coming now n))

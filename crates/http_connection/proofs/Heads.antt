@@ -2,17 +2,17 @@
 use Rattle.std.proofs.Common.{◌≡◌, ℕ, ◌+◌, ◌*◌, ◌<◌, ◌≤◌, List, [], ◌++◌, length, take, drop, Option, refl, sym, ap, subst, ◌∙◌, append-nil, arith, length-append}
 use Rattle.std.proofs.lemmas.List.{length-take-le, take_at, drop_at}
 use Rattle.adx_io.specs.Streams.{Tape, WhereTold}
-use Rattle.http_buffer.specs.State.{BufferState, Takes, IsAtEnd}
-use Rattle.http_buffer.specs.declared.head.TheConstants.{HEAD_LIMIT}
-use Rattle.http_buffer.specs.HeadEnds.{BeginsWithHead, HeadEndsAt, NeverHasHead, HasNoHeadYet, HasNoHead}
+use Rattle.http_connection.specs.BufferState.{BufferState, Takes, IsAtEnd}
+use Rattle.http_connection.specs.declared.head.TheConstants.{HEAD_LIMIT}
+use Rattle.http_connection.specs.HeadEnds.{BeginsWithHead, HeadEndsAt, NeverHasHead, HasNoHeadYet, HasNoHead}
 use Rattle.http_grammar.specs.declared.fault.HttpFault.{HttpFault}
-use Rattle.http_bodies.specs.declared.chunks.TheConstants.{LINE_COUNT_LIMIT}
-use Rattle.http_bodies.specs.Steps.{coming}
+use Rattle.http_connection.specs.declared.chunks.TheConstants.{LINE_COUNT_LIMIT}
+use Rattle.http_connection.specs.Steps.{coming}
 use Rattle.http_connection.specs.declared.conn.TheConstants.{PIECE}
 use Rattle.http_connection.specs.Messages.{FailsWithoutHead}
 use Rattle.http_connection.specs.Found.{HasHead, FaultGives}
-use Rattle.http_bodies.proofs.Told.{told_map, told_then, told_end, flow, given_carried}
-use Rattle.http_bodies.proofs.BodyParts.{keeping, parts_of}
+use Rattle.http_connection.proofs.Told.{told_map, told_then, told_end, flow, given_carried}
+use Rattle.http_connection.proofs.BodyParts.{keeping, parts_of}
 
 -- what begins the bytes at hand begins all that come
 abbrev pub begins_at : (bytes p left : List ℕ) (end lines : ℕ) → (h : HeadEndsAt p end lines) → bytes ≡ p ++ left → BeginsWithHead bytes (take end p) (drop end p ++ left)

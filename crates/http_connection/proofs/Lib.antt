@@ -11,3 +11,14 @@ pub mod Fronts
 pub mod Readies
 pub mod Printed
 pub mod First
+pub mod Ranges
+pub mod Taking
+pub mod Seen
+pub mod HeadWalk
+pub mod OneHead
+pub mod Told
+pub mod BodyParts
+pub mod ChunkParts
+pub mod Trailers
+pub mod Joins
+pub mod AtHand

@@ -2,17 +2,17 @@
 use Rattle.std.proofs.Common.{◌≡◌, ℕ, ◌<◌, List, [], length, Option, refl, sym, ap, subst, ◌∙◌, arith, inl, inr}
 use Rattle.httparse.specs.Grammar.{RequestHead, ReadsRequest, ResponseHead, ReadsResponse, status_code}
 use Rattle.httparse.proofs.GrammarLemmas.{request_unique, response_unique}
-use Rattle.http_buffer.specs.HeadEnds.{BeginsWithHead, HasNoHead}
+use Rattle.http_connection.specs.HeadEnds.{BeginsWithHead, HasNoHead}
 use Rattle.http_grammar.specs.Judged.{IsSoundRequest, FailsRequest, IsSoundResponse, FailsResponse}
 use Rattle.http_grammar.specs.Requests.{pairs, response_pairs, is_post}
 use Rattle.http_grammar.specs.declared.framing.Framing.{Framing}
 use Rattle.http_grammar.specs.declared.fault.HttpFault.{HttpFault}
-use Rattle.http_bodies.specs.BodyForms.{body_of_request, body_of_response, IsBodyThen, FailsBody}
+use Rattle.http_connection.specs.BodyForms.{body_of_request, body_of_response, IsBodyThen, FailsBody}
 use Rattle.http_connection.specs.Messages.{Request, IsRequestThen, RefusesRequest, FailsRequestAt, FailsWithoutHead, ResponseRead, IsResponseThen, RefusesResponse, FailsResponseAt}
 use Rattle.http_connection.specs.Laws.{HasOneRequest, HasOneResponse}
 use Rattle.http_connection.specs.Laws.RequestAnswer.{request, refusal, ending}
 use Rattle.http_connection.specs.Laws.ResponseAnswer.{response, refused}
-use Rattle.http_buffer.proofs.OneHead.{one_head, head_some}
+use Rattle.http_connection.proofs.OneHead.{one_head, head_some}
 use Rattle.http_connection.proofs.OneBody.{one_body, body_not_fault, one_body_fault}
 use Rattle.http_connection.proofs.OneFraming.{one_framing, sound_not_fault, one_request_fault, one_response_framing, response_not_fault, one_response_fault}
 

@@ -2,9 +2,9 @@
 use Rattle.std.proofs.Common.{◌≡◌, ◌⊎◌, ℕ, ◌+◌, ◌<◌, ◌≤◌, List, [], ◌∷◌, ◌++◌, length, All, refl, sym, ap, subst, ◌∙◌, append_assoc, append-nil, arith, length-append, inl, inr}
 use Rattle.std.specs.List.{flat_map}
 use Rattle.std.proofs.lemmas.List.Elements.{All-head, All-tail}
-use Rattle.http_bodies.specs.Chunks.{Chunk, IsChunk, print_chunk, joined, HasChunks, BeginsChunk, IsChunkedThen, ChunkFault, FailsAt, FailsChunks}
-use Rattle.http_bodies.specs.BodyForms.{IsBodyThen, FailsBody}
-use Rattle.http_bodies.specs.declared.bodies.Body.{Body}
+use Rattle.http_connection.specs.Chunks.{Chunk, IsChunk, print_chunk, joined, HasChunks, BeginsChunk, IsChunkedThen, ChunkFault, FailsAt, FailsChunks}
+use Rattle.http_connection.specs.BodyForms.{IsBodyThen, FailsBody}
+use Rattle.http_connection.specs.declared.bodies.Body.{Body}
 use Rattle.http_grammar.specs.declared.fault.HttpFault.{HttpFault}
 use Rattle.http_connection.proofs.OneChunk.{one_line, one_chunk, one_trailer, one_fault, same_front, begins_chunk, end_not_fault, chunk_not_fault}
 

@@ -8,13 +8,13 @@ use Rattle.httparse.specs.Ascii.{crlf_bytes}
 use Rattle.httparse.specs.Grammar.{ChunkLine, IsChunkLine, print_chunk_line, print_extension, IsExtension, AllPass, chunk_size, is_ows, is_extension_byte}
 use Rattle.std.specs.Char.{is_ascii_hexdigit}
 use Rattle.httparse.proofs.ChunkLemmas.{chunk_line_unique}
-use Rattle.http_buffer.specs.Lines.{IsLine, ended}
-use Rattle.http_buffer.specs.HeadEnds.{IsFull}
-use Rattle.http_buffer.proofs.HeadWalk.{among, cut, reach, fulls_are_lines}
-use Rattle.http_bodies.specs.Chunks.{Chunk, IsChunk, print_chunk, BeginsChunk, IsTrailer, IsBadLine, IsOpenLine, IsBadTrailer, EndsBadly, ChunkFault, FailsAt}
-use Rattle.http_bodies.specs.declared.chunks.TheConstants.{LINE_COUNT_LIMIT}
-use Rattle.http_bodies.proofs.Trailers.{all_front, all_last, trailer_lines}
-use Rattle.http_buffer.proofs.OneHead.{before_last}
+use Rattle.http_connection.specs.Lines.{IsLine, ended}
+use Rattle.http_connection.specs.HeadEnds.{IsFull}
+use Rattle.http_connection.proofs.HeadWalk.{among, cut, reach, fulls_are_lines}
+use Rattle.http_connection.specs.Chunks.{Chunk, IsChunk, print_chunk, BeginsChunk, IsTrailer, IsBadLine, IsOpenLine, IsBadTrailer, EndsBadly, ChunkFault, FailsAt}
+use Rattle.http_connection.specs.declared.chunks.TheConstants.{LINE_COUNT_LIMIT}
+use Rattle.http_connection.proofs.Trailers.{all_front, all_last, trailer_lines}
+use Rattle.http_connection.proofs.OneHead.{before_last}
 
 -- each byte of a class that the line feed isn't of is no line feed
 no_feed : (test : ℕ → Bool) → test 10 ≡ false → (xs : List ℕ) → AllPass test xs → IsLine xs

@@ -8,9 +8,9 @@ use Rattle.httparse.specs.Ascii.{space, colon, digit_zero}
 use Rattle.httparse.specs.Grammar.{LineEnd, print_end, print_blank, print_field, print_section, print_version, print_request, Field, IsField, RequestHead, ReadsRequest, IsRequestHead, IsToken, is_token_byte, is_uri_byte, is_value_byte, AllPass}
 use Rattle.httparse.specs.Grammar.LineEnd.{crlf, lf}
 use Rattle.httparse.proofs.GrammarLemmas.{cons-append, print_request-append}
-use Rattle.http_buffer.specs.Lines.{IsLine, ended}
-use Rattle.http_buffer.specs.declared.head.TheConstants.{HEAD_LIMIT}
-use Rattle.http_buffer.specs.HeadEnds.{IsEmpty, IsFull, is_empty_line, HeadEndsAt}
+use Rattle.http_connection.specs.Lines.{IsLine, ended}
+use Rattle.http_connection.specs.declared.head.TheConstants.{HEAD_LIMIT}
+use Rattle.http_connection.specs.HeadEnds.{IsEmpty, IsFull, is_empty_line, HeadEndsAt}
 use Rattle.http_connection.proofs.Counts.{flat_both}
 
 -- each byte of a class that the line feed isn't of is no line feed

@@ -3,15 +3,15 @@ use Rattle.std.proofs.Common.{◌≡◌, ℕ, ◌<◌, ◌≤◌, List, [], ◌�
 use Rattle.adx_io.specs.Streams.{Tape}
 use Rattle.httparse.specs.Grammar.{ReadsRequest, print_request}
 use Rattle.httparse.proofs.GrammarLemmas.{request_unique}
-use Rattle.http_buffer.specs.HeadEnds.{BeginsWithHead, HeadEndsAt}
-use Rattle.http_buffer.specs.State.{BufferState, Passes}
-use Rattle.http_buffer.specs.declared.head.TheConstants.{HEAD_LIMIT}
+use Rattle.http_connection.specs.HeadEnds.{BeginsWithHead, HeadEndsAt}
+use Rattle.http_connection.specs.BufferState.{BufferState, Passes}
+use Rattle.http_connection.specs.declared.head.TheConstants.{HEAD_LIMIT}
 use Rattle.http_grammar.specs.Requests as grammar
 use Rattle.http_grammar.specs.declared.fault.HttpFault.{HttpFault}
 use Rattle.http_grammar.specs.declared.parts.FirstRequest.{FirstRequest}
 use Rattle.http_grammar.specs.declared.parts.RequestParts.{RequestParts}
-use Rattle.http_bodies.specs.declared.chunks.TheConstants.{LINE_COUNT_LIMIT}
-use Rattle.http_bodies.specs.BodyForms.{body_of_request, LacksBody}
+use Rattle.http_connection.specs.declared.chunks.TheConstants.{LINE_COUNT_LIMIT}
+use Rattle.http_connection.specs.BodyForms.{body_of_request, LacksBody}
 use Rattle.http_connection.specs.Messages.{IsRequestThen, RefusesRequest, IsUnfinishedRequest}
 use Rattle.http_connection.specs.Laws.RequestAnswer.{request, ending}
 use Rattle.http_connection.specs.Found.{FaultGives, HasHead, HasRequestHead, IsWhole}

@@ -3,21 +3,21 @@ use Rattle.std.proofs.Common.{◌≡◌, ℕ, ◌≤◌, List, [], ◌∷◌, �
 use Rattle.adx_io.specs.Streams.{Tape, WhereTold}
 use Rattle.httparse.specs.Spans.{span_bytes}
 use Rattle.httparse.specs.Grammar.{RequestHead}
-use Rattle.http_buffer.specs.State.{BufferState, Passes, Takes, IsAtEnd}
-use Rattle.http_buffer.specs.HeadEnds.{HeadEndsAt, HasNoHeadYet}
+use Rattle.http_connection.specs.BufferState.{BufferState, Passes, Takes, IsAtEnd}
+use Rattle.http_connection.specs.HeadEnds.{HeadEndsAt, HasNoHeadYet}
 use Rattle.http_grammar.specs.Requests as grammar
 use Rattle.http_grammar.specs.Judged.{FailsRequest, FitsLimit}
 use Rattle.http_grammar.specs.declared.fault.HttpFault.{HttpFault}
 use Rattle.http_grammar.specs.declared.framing.Framing.{Framing}
 use Rattle.http_grammar.specs.declared.parts.RequestParts.{RequestParts}
-use Rattle.http_bodies.specs.declared.chunks.TheConstants.{LINE_COUNT_LIMIT}
-use Rattle.http_bodies.specs.BodyForms.{body_of_request, IsBodyThen, FailsBody}
-use Rattle.http_bodies.specs.Steps.{HasGiven, IsOpenBody, coming, BodyGives, FitsBody}
+use Rattle.http_connection.specs.declared.chunks.TheConstants.{LINE_COUNT_LIMIT}
+use Rattle.http_connection.specs.BodyForms.{body_of_request, IsBodyThen, FailsBody}
+use Rattle.http_connection.specs.Steps.{HasGiven, IsOpenBody, coming, BodyGives, FitsBody}
 use Rattle.http_connection.specs.Messages.{Request, IsRequestThen, RefusesRequest, IsUnfinishedRequest, FailsWithoutHead}
 use Rattle.http_connection.specs.Found.{HasHead, HasRequestHead, HeadGives, FoundShows, FaultGives, RequestGives}
 use Rattle.http_connection.specs.declared.conn.Found.{Found}
-use Rattle.http_bodies.proofs.Told.{told_map, told_then, told_same, flow, given}
-use Rattle.http_bodies.proofs.BodyParts.{keeping}
+use Rattle.http_connection.proofs.Told.{told_map, told_then, told_same, flow, given}
+use Rattle.http_connection.proofs.BodyParts.{keeping}
 use Rattle.http_connection.proofs.Counts.{request_fields}
 use Rattle.http_connection.proofs.Heads.{begins, few_lines, kept_parts, refused, fault_carried, never_head, cut_head, HasManyLines, many_lines}
 

@@ -6,7 +6,7 @@ use Rattle.http_grammar.specs.declared.fault.HttpFault.{HttpFault}
 use Rattle.httparse.specs.Grammar.{status_code}
 use Rattle.http_connection.specs.State.{ConnState, room_of}
 use Rattle.http_connection.specs.Ready.{IsReady}
-use Rattle.http_bodies.specs.Steps.{Advances}
+use Rattle.http_connection.specs.Steps.{Advances}
 use Rattle.http_connection.specs.Messages.{Request, IsRequestThen, RefusesRequest, IsUnfinishedRequest, ResponseRead, IsResponseThen, RefusesResponse, IsUnfinishedResponse}
 use Rattle.http_connection.specs.declared.conn.Message.{Message}
 use Rattle.http_connection.specs.declared.conn.Response.{Response}
@@ -19,6 +19,7 @@ pub record Shows (m : Message) (r : Request) : Type 0 where
   pub keep : m.keep ≡ is_kept r.head
 
 -- all bytes that come give this answer, and the rest is still to come
+-- Example: `GET / HTTP/1.1`, `Host: x`, an empty line, then `G`: the request, and `G` is the rest.
 abbrev pub GivesMessage : ℕ → List ℕ → Result (Option Message) HttpFault → List ℕ → Type 0
 GivesMessage limit bytes (Ok (Some m)) rest = (r : Request) × IsRequestThen limit bytes r rest × Shows m r
 GivesMessage limit bytes (Ok None) rest = (bytes ≡ []) × (rest ≡ [])

@@ -3,14 +3,14 @@ use Rattle.std.specs.Prelude.{◌≡◌, ◌⊎◌, ℕ, ◌<◌, ◌≤◌, Lis
 use Rattle.adx_io.specs.Streams.{Tape, WhereTold}
 use Rattle.httparse.specs.Spans.{span_bytes}
 use Rattle.httparse.specs.Grammar.{status_code}
-use Rattle.http_buffer.specs.State.{BufferState}
+use Rattle.http_connection.specs.BufferState.{BufferState}
 use Rattle.http_grammar.specs.Requests.{verb_of_method, is_kept, SaysRequest}
 use Rattle.http_grammar.specs.declared.parts.RequestParts.{RequestParts}
 use Rattle.http_grammar.specs.declared.fault.HttpFault.{HttpFault}
-use Rattle.http_buffer.specs.HeadEnds.{HeadEndsAt, NeverHasHead, HasNoHeadYet}
-use Rattle.http_bodies.specs.declared.chunks.TheConstants.{LINE_COUNT_LIMIT}
-use Rattle.http_bodies.specs.BodyForms.{HasBody, body_of_request}
-use Rattle.http_bodies.specs.Steps.{HasGiven, coming}
+use Rattle.http_connection.specs.HeadEnds.{HeadEndsAt, NeverHasHead, HasNoHeadYet}
+use Rattle.http_connection.specs.declared.chunks.TheConstants.{LINE_COUNT_LIMIT}
+use Rattle.http_connection.specs.BodyForms.{HasBody, body_of_request}
+use Rattle.http_connection.specs.Steps.{HasGiven, coming}
 use Rattle.http_connection.specs.Messages.{Request, IsRequestThen, RefusesRequest, IsUnfinishedRequest, ResponseRead, IsResponseThen, RefusesResponse, IsUnfinishedResponse}
 use Rattle.http_connection.specs.declared.conn.Found.{Found}
 use Rattle.http_connection.specs.declared.whole.Whole.{Whole}

@@ -2,8 +2,8 @@
 -- gives stays so whatever follows.
 use Rattle.std.specs.Prelude.{◌≡◌, ◌≢◌, ℕ, List, [], ◌++◌}
 use Rattle.http_grammar.specs.declared.fault.HttpFault.{HttpFault}
-use Rattle.http_bodies.specs.declared.bodies.Body.{Body}
-use Rattle.http_bodies.specs.BodyForms.{body_of_response}
+use Rattle.http_connection.specs.declared.bodies.Body.{Body}
+use Rattle.http_connection.specs.BodyForms.{body_of_response}
 use Rattle.http_connection.specs.Messages.{Request, IsRequestThen, RefusesRequest, ResponseRead, IsResponseThen, RefusesResponse}
 
 -- a request and the bytes behind it, a fault, or the end, where there is no byte
@@ -30,6 +30,7 @@ GivesAnswer limit bytes (refused fault) = RefusesResponse limit bytes fault
 abbrev pub HasOneRequest : Type 0
 HasOneRequest = (limit : ℕ) (bytes : List ℕ) (a b : RequestAnswer) → AnswersRequest limit bytes a → AnswersRequest limit bytes b → a ≡ b
 
+-- of the same bytes a reader gives one answer
 abbrev pub HasOneResponse : Type 0
 HasOneResponse = (limit : ℕ) (bytes : List ℕ) (a b : ResponseAnswer) → GivesAnswer limit bytes a → GivesAnswer limit bytes b → a ≡ b
 
@@ -50,6 +51,7 @@ ResponseStays =
     → (body_of_response (IsResponseThen.framing r) ≢ Body.ToEnd)
     → IsResponseThen limit (front ++ more) m (rest ++ more)
 
+-- what refuses a response refuses it whatever bytes come after it, unless it was cut
 abbrev pub ResponseFaultStays : Type 0
 ResponseFaultStays =
     (limit : ℕ) (front more : List ℕ) (fault : HttpFault) → (fault ≢ HttpFault.Cut)

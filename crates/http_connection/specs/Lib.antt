@@ -4,3 +4,11 @@ pub mod Answers
 pub mod Found
 pub mod Laws
 pub mod Ready
+pub mod Order
+pub mod BufferState
+pub mod Lines
+pub mod HeadEnds
+pub mod Walks
+pub mod Chunks
+pub mod BodyForms
+pub mod Steps

@@ -2,15 +2,15 @@
 -- of the tests and the bounds are this project's own; the grammar of heads is that of `httparse`.
 use Rattle.std.specs.Prelude.{◌≡◌, ◌⊎◌, ℕ, ◌<◌, ◌≤◌, List, [], ◌∷◌, length, Option}
 use Rattle.httparse.specs.Grammar.{RequestHead, ResponseHead, ReadsRequest, ReadsResponse, status_code}
-use Rattle.http_buffer.specs.HeadEnds.{BeginsWithHead, HasNoHead}
-use Rattle.http_buffer.specs.declared.head.TheConstants.{HEAD_LIMIT}
+use Rattle.http_connection.specs.HeadEnds.{BeginsWithHead, HasNoHead}
+use Rattle.http_connection.specs.declared.head.TheConstants.{HEAD_LIMIT}
 use Rattle.http_grammar.specs.Judged.{IsSoundRequest, FailsRequest, IsSoundResponse, FailsResponse}
 use Rattle.http_grammar.specs.Requests.{pairs, response_pairs, is_post}
 use Rattle.http_grammar.specs.declared.framing.Framing.{Framing}
 use Rattle.http_grammar.specs.declared.fault.HttpFault.{HttpFault}
-use Rattle.http_bodies.specs.declared.chunks.TheConstants.{LINE_COUNT_LIMIT}
-use Rattle.http_bodies.specs.BodyForms.{body_of_request, body_of_response, IsBodyThen, FailsBody}
-use Rattle.http_bodies.specs.declared.bodies.Body.{Body}
+use Rattle.http_connection.specs.declared.chunks.TheConstants.{LINE_COUNT_LIMIT}
+use Rattle.http_connection.specs.BodyForms.{body_of_request, body_of_response, IsBodyThen, FailsBody}
+use Rattle.http_connection.specs.declared.bodies.Body.{Body}
 
 -- no head ends in the bytes: they are too long for one, or cut
 abbrev pub FailsWithoutHead : List ℕ → HttpFault → Type 0
@@ -51,6 +51,7 @@ RefusesRequest limit bytes fault =
     ⊎ ((head behind : List ℕ) × (begins : BeginsWithHead bytes head behind) × FailsRequestAt limit (length begins.lines) head behind fault)
 
 -- no byte, or the front of a request: the bytes would be cut if none followed
+-- Example: `GET / HT`.
 abbrev pub IsUnfinishedRequest : ℕ → List ℕ → Type 0
 IsUnfinishedRequest limit bytes = (bytes ≡ []) ⊎ RefusesRequest limit bytes HttpFault.Cut
 
@@ -70,6 +71,7 @@ pub record IsResponseThen (limit : ℕ) (bytes : List ℕ) (m : ResponseRead) (r
   pub sound : IsSoundResponse limit (status_code m.head) (response_pairs m.head) framing
   pub body : IsBodyThen limit (body_of_response framing) behind m.body rest
 
+-- the fault of a response whose head is this and has so many lines
 abbrev pub FailsResponseAt : ℕ → ℕ → List ℕ → List ℕ → HttpFault → Type 0
 FailsResponseAt limit count head behind fault =
     ((LINE_COUNT_LIMIT < count) × (fault ≡ HttpFault.HeadTooLong))

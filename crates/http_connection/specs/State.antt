@@ -1,6 +1,6 @@
 -- What a connection stands for. This project's own.
 use Rattle.std.specs.Prelude.{ℕ, ◌+◌, ◌*◌, List, Bool}
-use Rattle.http_buffer.specs.declared.head.TheConstants.{HEAD_LIMIT}
+use Rattle.http_connection.specs.declared.head.TheConstants.{HEAD_LIMIT}
 use Rattle.http_connection.specs.declared.conn.TheConstants.{PIECE}
 
 -- how many bytes a connection has room for, by the limit of a body: two heads, a body and one piece

@@ -2,18 +2,20 @@
 ghost use Rattle.std.specs.Prelude.{◌≡◌, ◌≤◌, ◌<◌, ◌+◌, ◌*◌, ◌-◌, ℕ, List, [], None, Ok, Err, length, take, drop, IfOk, true, false};
 ghost use Rattle.std.specs.Borrow.{sem};
 ghost use Rattle.std.specs.Io.BufRead.{Rests};
-ghost use Rattle.http_bodies.specs.Steps.{Advances, ReadsBy};
+ghost use Rattle.http_connection.specs.Steps.{Advances, ReadsBy};
 ghost use Rattle.http_grammar.specs.declared.fault.HttpFault.{HttpFault};
 ghost use Rattle.http_connection.specs.Found.{HeadGives, HasHead, IsWithin, ResponseGives};
-ghost use Rattle.http_buffer.specs.State.{Takes, IsAtEnd};
+ghost use Rattle.http_connection.specs.BufferState.{Takes, IsAtEnd};
 ghost use Rattle.httparse.specs.Spans.{span_bytes};
 
+use crate::bodies::{body_of_response, read_body};
+use crate::buffer::Buffer;
+use crate::chunks::LINE_COUNT_LIMIT;
+use crate::head::{HEAD_LIMIT, HeadEnd, head_end};
 use crate::request::advance;
 use crate::whole::{join_whole, whole_in};
 use adx_io::Source;
 use adx_units::OutOfMemory;
-use http_bodies::{LINE_COUNT_LIMIT, body_of_response, read_body};
-use http_buffer::{Buffer, HEAD_LIMIT, HeadEnd, head_end};
 use http_grammar::{HttpFault, Verb, response_parts};
 use httparse::spans::{EMPTY_HEADER_SPAN, HeaderSpan, Span};
 use std::alloc::Global;
@@ -84,8 +86,8 @@ pub struct Conn {
 
 impl Model for Conn {
     ghost use Rattle.std.specs.Prelude.{◌≡◌, ◌+◌, ◌*◌, length, vec_len};
-    ghost use Rattle.http_buffer.specs.declared.head.TheConstants.{HEAD_LIMIT};
-    ghost use Rattle.http_bodies.specs.declared.chunks.TheConstants.{LINE_COUNT_LIMIT};
+    ghost use Rattle.http_connection.specs.declared.head.TheConstants.{HEAD_LIMIT};
+    ghost use Rattle.http_connection.specs.declared.chunks.TheConstants.{LINE_COUNT_LIMIT};
     ghost use Rattle.http_connection.specs.declared.conn.TheConstants.{PIECE};
     ghost use Rattle.http_connection.specs.State.{ConnState};
 

@@ -1,14 +1,16 @@
 //! The steps of a request: its head, what the head says, its body.
 ghost use Rattle.std.specs.Prelude.{◌≡◌, ◌≤◌, ◌<◌, ◌+◌, ◌*◌, [], length, OnErr, Ok, false};
 ghost use Rattle.adx_io.specs.Streams.{HasCause};
-ghost use Rattle.http_buffer.specs.State.{Takes, IsAtEnd};
-ghost use Rattle.http_bodies.specs.Steps.{Advances, ReadsBy};
+ghost use Rattle.http_connection.specs.BufferState.{Takes, IsAtEnd};
+ghost use Rattle.http_connection.specs.Steps.{Advances, ReadsBy};
 ghost use Rattle.http_connection.specs.Found.{HasHead, HasRequestHead, RequestGives};
 
+use crate::bodies::{body_of_request, read_body};
+use crate::buffer::Buffer;
+use crate::chunks::LINE_COUNT_LIMIT;
 use crate::conn::{Found, PIECE, front, read_head};
+use crate::head::HEAD_LIMIT;
 use adx_io::{Failed, Source};
-use http_bodies::{LINE_COUNT_LIMIT, body_of_request, read_body};
-use http_buffer::{Buffer, HEAD_LIMIT};
 use http_grammar::{HttpFault, RequestParts, first_request, request_parts};
 use httparse::spans::HeaderSpan;
 

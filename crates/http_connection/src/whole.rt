@@ -4,10 +4,13 @@ ghost use Rattle.http_connection.specs.Found.{IsWhole, GivesWhole};
 ghost use Rattle.http_connection.specs.Ready.{HasRequest};
 
 use crate::at_end::AtEnd;
+use crate::bodies::body_of_request;
+use crate::buffer::Buffer;
+use crate::chunks::LINE_COUNT_LIMIT;
 use crate::conn::{Found, PIECE};
+use crate::head::HEAD_LIMIT;
 use crate::request::request_behind;
-use http_bodies::{LINE_COUNT_LIMIT, body_of_request, has_body};
-use http_buffer::{Buffer, HEAD_LIMIT};
+use crate::whole_bodies::has_body;
 use http_grammar::{RequestParts, first_request};
 use httparse::spans::HeaderSpan;
 

@@ -14,6 +14,7 @@ use Rattle.http_grammar.specs.declared.framing.Framing.{Framing}
 abbrev pub values_of : List ℕ → List (List ℕ × List ℕ) → List (List ℕ)
 values_of name fields = map (λ (f : List ℕ × List ℕ). f.1) (filter (λ (f : List ℕ × List ℕ). str_eq_ignore_ascii_case f.0 name) fields)
 
+-- the byte between the elements of a list
 abbrev pub is_comma : ℕ → Bool
 is_comma b = b == comma
 
@@ -28,12 +29,15 @@ names_word word value = list_any (is_element word) (slice_split is_comma value)
 abbrev pub names_only : List ℕ → List ℕ → Bool
 names_only word value = list_all (is_element word) (slice_split is_comma value)
 
+-- the values of the fields Host
 abbrev pub hosts : List (List ℕ × List ℕ) → List (List ℕ)
 hosts fields = values_of (codes "host") fields
 
+-- the values of the fields Content-Length
 abbrev pub lengths : List (List ℕ × List ℕ) → List (List ℕ)
 lengths fields = values_of (codes "content-length") fields
 
+-- the values of the fields Transfer-Encoding
 abbrev pub transfer_codings : List (List ℕ × List ℕ) → List (List ℕ)
 transfer_codings fields = values_of (codes "transfer-encoding") fields
 
@@ -67,6 +71,7 @@ Frames fields (Framing.Sized n) = HasLength fields n × (transfer_codings fields
 abbrev pub is_mark : ℕ → Bool
 is_mark b = is_ascii_alphanumeric b || list_any (λ m. m == b) (codes "-._~!$&'()*+,;=")
 
+-- the byte `%`
 abbrev pub percent : ℕ
 percent = 37
 
@@ -77,12 +82,15 @@ IsHostByte host k =
     ⊎ ((slice_index host k ≡ percent) × (k + 2 < length host)
     × IsTrue (is_ascii_hexdigit (slice_index host (k + 1))) × IsTrue (is_ascii_hexdigit (slice_index host (k + 2))))
 
+-- the byte `[`
 abbrev pub left_bracket : ℕ
 left_bracket = 91
 
+-- the byte `]`
 abbrev pub right_bracket : ℕ
 right_bracket = 93
 
+-- only bytes of a host's name
 abbrev pub IsHostName : List ℕ → Type 0
 IsHostName host = EachIndex host (IsHostByte host)
 

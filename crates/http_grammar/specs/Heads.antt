@@ -6,6 +6,7 @@ use Rattle.httparse.specs.Spans.{IsResponseAt, IsHeaderWithin, header_bytes}
 use Rattle.httparse.specs.declared.spans.HeaderSpan.{HeaderSpan}
 use Rattle.httparse.specs.declared.spans.ResponseSpans.{ResponseSpans}
 
+-- what a reader with room for so many fields gives of a response's head: the one reading, or that there is none
 abbrev pub ReadsResponseAlone : ℕ → List ℕ → List HeaderSpan → Option ResponseSpans → Type 0
 ReadsResponseAlone room head spans None = (h : ResponseHead) → ReadsResponse head h [] → length h.fields ≤ room → ⊥
 ReadsResponseAlone room head spans (Some r) = (h : ResponseHead) × ReadsResponse head h [] × IsResponseAt head spans r h

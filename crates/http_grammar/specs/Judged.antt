@@ -13,6 +13,7 @@ use Rattle.http_grammar.specs.declared.fault.HttpFault.{HttpFault}
 abbrev pub IsSound : List (List ℕ × List ℕ) → Type 0
 IsSound fields = (framing : Framing) × Frames fields framing
 
+-- the body's length, if it is said, is within the limit
 abbrev pub FitsLimit : ℕ → Framing → Type 0
 FitsLimit limit Framing.Unframed = ⊤
 FitsLimit limit Framing.Chunked = ⊤

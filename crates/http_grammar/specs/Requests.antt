@@ -11,6 +11,7 @@ use Rattle.http_grammar.specs.declared.parts.FirstRequest.{FirstRequest}
 use Rattle.http_grammar.specs.declared.parts.RequestParts.{RequestParts}
 use Rattle.http_grammar.specs.declared.parts.ResponseParts.{ResponseParts}
 
+-- the method that a name is; any other name is `Other`
 abbrev pub verb_of_method : List ℕ → Verb
 verb_of_method method =
     if bytes_eq method (codes "GET") then Verb.Get else (
@@ -24,6 +25,7 @@ pairs h = map name_and_value h.fields
 abbrev pub response_pairs : ResponseHead → List (List ℕ × List ℕ)
 response_pairs h = map name_and_value h.fields
 
+-- the method is POST
 abbrev pub is_post : RequestHead → Bool
 is_post h = bytes_eq h.method (codes "POST")
 
@@ -73,6 +75,7 @@ pub record SaysResponse (limit : ℕ) (head : List ℕ) (parts : ResponseParts) 
   pub sound : IsSoundResponse limit (status_code h) (response_pairs h) parts.framing
   pub status : parts.status ≡ status_code h
 
+-- the first fault of a response's head
 abbrev pub RefusesResponse : ℕ → ℕ → List ℕ → HttpFault → Type 0
 RefusesResponse room limit head fault =
     ((fault ≡ HttpFault.BadHead) × ((h : ResponseHead) → ReadsResponse head h [] → length h.fields ≤ room → ⊥))

@@ -3,8 +3,8 @@ use Rattle.std.proofs.Common.{◌≡◌, ℕ, List, [], ◌∷◌, ◌++◌, ref
 use Rattle.std.specs.List.{flat_map}
 use Rattle.httparse.specs.Grammar.{print_chunk_line}
 use Rattle.http_grammar.specs.declared.framing.Framing.{Framing}
-use Rattle.http_bodies.specs.BodyForms.{body_of_request, IsBodyThen}
-use Rattle.http_bodies.specs.Chunks.{print_chunk}
+use Rattle.http_connection.specs.BodyForms.{body_of_request, IsBodyThen}
+use Rattle.http_connection.specs.Chunks.{print_chunk}
 use Rattle.http_connection.specs.Messages.{Request, IsRequestThen, AreRequests}
 
 -- a request's body

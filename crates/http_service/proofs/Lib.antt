@@ -4,3 +4,5 @@ pub mod Written
 pub mod Steps
 pub mod Running
 pub mod Seen
+pub mod Ended
+pub mod OneConnection

@@ -3,7 +3,7 @@ use Rattle.std.proofs.Common.{◌≡◌, ◌≢◌, inl, inr, ℕ, ◌+◌, ◌<
 use Rattle.std.proofs.lemmas.List.Elements.{All-nil}
 use Rattle.adx_io.specs.Streams.{Tape, WhereTold, Took}
 use Rattle.adx_io.proofs.Moved.{took_none, took_both}
-use Rattle.http_bodies.proofs.Told.{told_map, told_same, told_then}
+use Rattle.http_connection.proofs.Told.{told_map, told_same, told_then}
 use Rattle.http_connection.specs.Messages.{Request, IsRequestThen, AreRequests, RefusesRequest, IsUnfinishedRequest}
 use Rattle.http_connection.specs.State.{room_of}
 use Rattle.http_connection.specs.declared.conn.ConnEnd.{ConnEnd}

@@ -1,8 +1,8 @@
 -- What one step of a connection gives, of what its calls say.
 use Rattle.std.proofs.Common.{◌≡◌, ◌≤◌, inl, inr, ℕ, List, [], ◌++◌, length, Bool, true, false, Option, Some, None, Result, Ok, Err, refl, sym, ap, ◌∙◌, subst}
 use Rattle.adx_io.specs.Streams.{Tape, WhereTold}
-use Rattle.http_buffer.specs.State.{Passes}
-use Rattle.http_bodies.specs.Steps.{Advances}
+use Rattle.http_connection.specs.BufferState.{Passes}
+use Rattle.http_connection.specs.Steps.{Advances}
 use Rattle.http_connection.specs.Answers.{AnswersMessage, GivesMessage, Shows}
 use Rattle.http_connection.specs.Messages.{Request, RefusesRequest}
 use Rattle.http_connection.specs.State.{ConnState, room_of}

@@ -2,7 +2,7 @@
 use Rattle.std.proofs.Common.{◌≡◌, ℕ, List, take, drop, Bool, not, Option, Some, Err, sym, ap, ◌∙◌, subst}
 use Rattle.std.proofs.lemmas.List.{take-append-drop}
 use Rattle.adx_io.specs.Streams.{Took}
-use Rattle.http_bodies.specs.Steps.{ReadsBy}
+use Rattle.http_connection.specs.Steps.{ReadsBy}
 use Rattle.http_connection.specs.Answers.{Shows}
 use Rattle.http_connection.specs.Messages.{Request}
 use Rattle.http_connection.specs.declared.conn.ConnEnd.{ConnEnd}

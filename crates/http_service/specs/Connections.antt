@@ -53,12 +53,16 @@ Brings limit tape tape_now ms Rest =
 
 -- the bytes that come, where the source tells them, begin with these messages; what was taken beyond them is at most what
 -- a connection has room for
+-- Example: a message that says `close`, and a gigabyte behind it: at most 163,840 bytes of that were taken (limit
+-- 65,536).
 abbrev pub BringsLast : ℕ → Option Tape → Option Tape → List Request → Type 0
 BringsLast limit tape tape_now ms =
     WhereTold tape tape_now (λ before now. (beyond : List ℕ) × (length beyond ≤ room_of limit) × AreRequests limit before.left ms (beyond ++ now.left))
 
 -- the bytes that the source gave, where it tells them, are these messages, and then a rest of which this is so; what is
 -- left comes behind that
+-- Example: the source gives a message and `GET`, and fails: the message is replied, and the rest is `GET`, which
+-- is unfinished.
 abbrev pub Gave : ℕ → Option Tape → Option Tape → List Request → (List ℕ → Type 0) → Type 0
 Gave limit tape tape_now ms Rest =
     WhereTold tape tape_now (λ before now. (given : List ℕ) × (rest : List ℕ) × (before.left ≡ given ++ now.left) × AreRequests limit given ms rest × Rest rest)
@@ -123,6 +127,8 @@ GaveUp gives_up limit tape tape_now ms s now =
 -- How a connection ended, what its source brought, what its sink took, and in which state the service was left. Where the
 -- source failed, all whole messages that it gave were answered, and what it gave behind them is the front of one or nothing.
 -- Where the sink failed, it took all replies but the last, and a front of that one.
+-- Example: two messages of which the second says `close`, and more bytes: both are replied, the end is `Closed`,
+-- and at most a connection's room was taken of the bytes beyond.
 abbrev pub EndsWith : {S : Type 0} → Answering S → GivingUp S → ℕ → Option Tape → Option Tape → Option (List ℕ) → Option (List ℕ) → S → S → ConnEnd → Type 0
 EndsWith answers gives_up limit tape tape_now held held_now s now ConnEnd.Closed =
     (ms : List Request) × Served answers ms held held_now s now

@@ -3,3 +3,4 @@ pub mod Replies
 pub mod Connections
 pub mod Behind
 pub mod Steps
+pub mod ConnectionRuns

@@ -18,6 +18,7 @@ methods_text Methods.Get = codes "GET"
 methods_text Methods.GetAndPost = codes "GET, POST"
 
 -- the status by which a message is refused; none where the bytes end or the source fails
+-- Example: a POST that says no length is refused with 411.
 abbrev pub fault_status : HttpFault → Option ℕ
 fault_status HttpFault.BadHead = Some 400
 fault_status HttpFault.HeadTooLong = Some 431
@@ -45,6 +46,7 @@ answer_bytes close head a body =
       body = lent body;
     })
 
+-- the method is HEAD, whose reply has no body
 abbrev pub is_head : Verb → Bool
 is_head Verb.Get = false
 is_head Verb.Head = true

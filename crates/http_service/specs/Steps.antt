@@ -1,7 +1,7 @@
 -- What one step of serving a connection does; private clauses alone cite this file.
 use Rattle.std.specs.Prelude.{◌≡◌, ◌⊎◌, ℕ, ◌≤◌, List, [], ◌++◌, length, All, true, false, Option, Some, None, Err}
 use Rattle.adx_io.specs.Streams.{Tape, WhereTold, Took}
-use Rattle.http_bodies.specs.Steps.{ReadsBy}
+use Rattle.http_connection.specs.Steps.{ReadsBy}
 use Rattle.http_connection.specs.State.{room_of}
 use Rattle.http_connection.specs.declared.conn.Message.{Message}
 use Rattle.http_connection.specs.Messages.{Request, IsRequestThen, AreRequests, RefusesRequest, IsUnfinishedRequest}

@@ -3,11 +3,18 @@
 //! `serve_messages` reads the messages of a source and puts what a service answers to each into a sink before it reads
 //! the next. A contract names the messages, what they were replied, the state that the service is left in, and why no
 //! more were read; it speaks of any service, whose answers are a relation of its own.
-//! Stands on `adx_io` for sources and sinks, on `adx_http` for messages and replies and on `adx_json` for texts.
+//!
+//! What a connection means as a run: its replies, by the bytes that came. `specs/Connections` has the meaning of a run
+//! that serves a connection, behind what it read before; `result_of` is how such a run ends by the end of its
+//! connection.
+//!
+//! Stands on `adx_units`, `adx_io`, `adx_json`, `http_connection`, `http_grammar`, `adx_http`, `httparse` and
+//! `command_runs`.
 #![tactic(auto)]
 
 mod answer;
 mod bodies;
+mod ends;
 mod limits;
 mod refusal;
 mod reply;
@@ -16,6 +23,7 @@ mod serving;
 
 pub use answer::{Answer, Methods};
 pub use bodies::{disallowed, plain, push_body, push_refused};
+pub use ends::result_of;
 pub use limits::{MESSAGE_LIMIT, REQUEST_LIMIT};
 pub use refusal::write_refusal;
 pub use reply::{asks_no_body, write_answer};

@@ -3,10 +3,10 @@ use Rattle.std.proofs.Common.{◌≡◌, ℕ, ◌+◌, ◌≤◌, List, [], ◌�
 use mathlib.Core.List.{IsPrefix}
 use Rattle.std.proofs.Math.Seq.{take-length}
 use Rattle.std.proofs.lemmas.List.{length-take, take-append-le, take-append-drop}
-use Rattle.meter_steps.specs.declared.meters.Meters.{Meters}
-use Rattle.meter_steps.specs.declared.step.MeterStep.{MeterStep}
-use Rattle.meter_steps.specs.declared.step.StepKind.{StepKind}
-use Rattle.meter_steps.specs.Steps.{after, after_kind, no_meters, meters_of}
+use Rattle.day_rules.specs.declared.meters.Meters.{Meters}
+use Rattle.day_rules.specs.declared.step.MeterStep.{MeterStep}
+use Rattle.day_rules.specs.declared.step.StepKind.{StepKind}
+use Rattle.day_rules.specs.Steps.{after, after_kind, no_meters, meters_of}
 
 -- each list begins with itself
 pub prefix_self : {A : Type 0} (xs : List A) → IsPrefix xs xs

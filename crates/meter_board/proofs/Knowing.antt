@@ -6,7 +6,7 @@ use Rattle.crossbeam_utils.specs.Register.{Admits, TurnsAt, Forks, Merges}
 use Rattle.atomic_table.proofs.Lists.{at_set, at_snoc}
 use Rattle.logbook.specs.Pages.{Book}
 use Rattle.logbook.specs.declared.tokens.Seen.{Seen}
-use Rattle.meter_steps.specs.declared.step.MeterStep.{MeterStep}
+use Rattle.day_rules.specs.declared.step.MeterStep.{MeterStep}
 use Rattle.meter_board.specs.declared.book.Law.{Law}
 use Rattle.meter_board.specs.declared.shown.Shown.{Shown}
 use Rattle.meter_board.specs.Knowing.{book_of, IsKnown, Looks, Shows}

@@ -1,11 +1,12 @@
 -- What clauses read of a board and of a reader. This project's own.
 use Rattle.std.specs.Prelude.{◌≡◌, List}
 use Rattle.logbook.specs.Pages.{Book}
-use Rattle.meter_steps.specs.declared.step.MeterStep.{MeterStep}
+use Rattle.day_rules.specs.declared.step.MeterStep.{MeterStep}
 use Rattle.meter_board.specs.declared.board.StepBoard.{StepBoard}
 use Rattle.meter_board.specs.declared.reader.MeterReader.{MeterReader}
 
 -- the steps that the board took in
+-- Example: a board that took in three steps and published two; a reader that was told then has seen two.
 abbrev pub taken : {R : Type 0} → StepBoard R → List MeterStep
 taken board = board.front.seen.log
 

@@ -2,7 +2,7 @@
 ghost use Rattle.std.specs.Prelude.{◌≡◌, ◌++◌, ◌≤◌, ◌⊎◌, [], ◌∷◌, Some, drop, length, IfOk, OnErr};
 ghost use mathlib.Core.List.{IsPrefix};
 ghost use Rattle.left_right.specs.Sides.{view};
-ghost use Rattle.meter_steps.specs.Steps.{meters_of, StayInRange};
+ghost use Rattle.day_rules.specs.Steps.{meters_of, StayInRange};
 ghost use Rattle.meter_board.specs.Knowing.{book_of};
 ghost use Rattle.meter_board.specs.Words.{taken, published, seen, IsOf, IsSameBoard};
 
@@ -13,9 +13,9 @@ use crate::taking::put_behind;
 use crate::views::{Introduce, Show};
 use adx_units::OutOfMemory;
 use core::mem::replace_with;
+use day_rules::{MeterStep, Meters, folded};
 use left_right::writer::Writer;
 use logbook::{Seen, Start, Word};
-use meter_steps::{MeterStep, Meters, folded};
 use std::alloc::{AllocError, Global};
 use std::marker::Brand;
 use std::sync::Wait;

@@ -2,7 +2,8 @@
 //!
 //! A `StepBoard` keeps a list of steps, of which readers see a beginning, and each reader has seen a beginning of that.
 //! The contracts say that a read gives the fold of steps that begin with all that this reader saw or was told of.
-//! Stands on adx_units and meter_steps, and on the kit's `left_right` and `logbook`.
+//!
+//! Stands on `core`, `adx_units`, `day_rules`, `left_right`, `logbook`, `crossbeam_utils` and `atomic_table`.
 #![tactic(auto)]
 
 mod board;

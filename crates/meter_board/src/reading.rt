@@ -4,7 +4,7 @@ ghost use Rattle.std.specs.Option.{ForSome};
 ghost use mathlib.Core.List.{IsPrefix};
 ghost use Rattle.logbook.specs.Pages.{Book};
 ghost use Rattle.left_right.specs.Sides.{view};
-ghost use Rattle.meter_steps.specs.Steps.{meters_of};
+ghost use Rattle.day_rules.specs.Steps.{meters_of};
 ghost use Rattle.meter_board.specs.Knowing.{book_of};
 ghost use Rattle.meter_board.specs.Words.{seen, list_read};
 
@@ -13,7 +13,7 @@ use crate::reader::{MeterReader, Sight};
 use crate::shown::Shown;
 use crate::views::Look;
 use core::mem::replace_with;
-use meter_steps::{MeterView, Meters};
+use day_rules::{MeterView, Meters};
 
 /// Takes a copy of what is shown, if the kit's reader finds anything.
 fn look(sight: Sight) -> (Sight, Option<Shown>)

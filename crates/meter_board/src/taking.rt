@@ -3,8 +3,8 @@ ghost use Rattle.std.specs.Prelude.{◌≡◌, ◌+◌, ◌++◌, ◌==◌, ◌<
 ghost use Rattle.meter_board.specs.BookRule.{head_of};
 
 use crate::book::{Add, Head, Law, Nothing, Taking, Token};
+use day_rules::{MeterStep, StepKind};
 use logbook::Offer;
-use meter_steps::{MeterStep, StepKind};
 
 /// Puts the steps behind a list of so many, and answers how many it found there.
 pub(crate) fn put_behind<K: Taking>(

@@ -52,6 +52,7 @@ value_of v MinToWin = []
 abbrev pub colon : ℕ
 colon = 58
 
+-- the byte before a macro's encoding
 abbrev pub is_colon : ℕ → Bool
 is_colon b = b == colon
 

@@ -6,10 +6,10 @@ use Rattle.std.specs.Option.{IfSome}
 use Rattle.std.specs.List.{count_by}
 use Rattle.std.specs.Prelude.{min, ◌-◌, ◌^◌}
 use Rattle.adx_io.specs.Streams.{WhereTold}
-use Rattle.http_bodies.specs.Steps.{ReadsBy}
+use Rattle.http_connection.specs.Steps.{ReadsBy}
 use Rattle.http_grammar.specs.declared.fault.HttpFault.{HttpFault}
 use Rattle.httparse.specs.Grammar.{status_code}
-use Rattle.link_exchange.specs.Exchanging.{Answered, Exchanged, MadeOf}
+use Rattle.adx_http.specs.Exchanging.{Answered, AnswersFront, Exchanged, MadeOf}
 use Rattle.outbox.specs.declared.calling.Call.{Call}
 use Rattle.outbox.specs.declared.report.Outcome.TheVariants.{Delivered, Failed, Answered as Other, Undeliverable}
 use Rattle.std.specs.Borrow.{GName}
@@ -148,21 +148,22 @@ planned_by call result (Some c) s p = record { start = λ f. ap outcome_by (s f)
 module _ {L : Type 0} (exchanges : L → Option Exchanges) (course : L → Option Course) (faults : L → ℕ) (stands_on : L → List GName) (limit : ℕ) where
   pub tried_by : {H : Type 0} (hears : H → ℕ → List ℕ → Bool → Type 0) (hearer : H) (call : Call) (host request : List ℕ) (result : Result Bool HttpFault) (old new : L)
       → host ≡ call.host → request ≡ call.request → HearsSuccess hears
-      → WhereTold (exchanges old) (exchanges new) (Exchanged host call.port (request ++ []) result)
+      → WhereTold (exchanges old) (exchanges new) (Exchanged host call.port request result)
       → WhereTold (course old) (course new) (Answered hears hearer limit result)
+      → IfSome (course old) (λ c. WhereTold (exchanges old) (exchanges new) (AnswersFront c))
       → IfSome (course old) (λ c. FailsStart c → result ≡ Err HttpFault.ReadFault)
       → IfSome (course old) (λ c. 0 < length request → IsTrue (next_start c.plan).put_fails → result ≡ Err HttpFault.ReadFault)
       → ReadsBy (faults old) (faults new) result
       → stands_on new ≡ stands_on old
       → IsTried exchanges course faults stands_on limit call old new (outcome_by result)
-  tried_by hears hearer call host request result old new called same success talk answer start put cause place =
-      let whole : request ++ [] ≡ call.request = append-nil request ∙ same in
+  tried_by hears hearer call host request result old new called same success talk answer front start put cause place =
       record {
         asks = where_told (Exchanged call.host call.port call.request result) (Asks call (outcome_by result)) (exchanges old) (exchanges new) (asks_by call result)
-            (subst (λ (bytes : List ℕ). WhereTold (exchanges old) (exchanges new) (Exchanged call.host call.port bytes result)) whole
-            (subst (λ (bytes : List ℕ). WhereTold (exchanges old) (exchanges new) (Exchanged bytes call.port (request ++ []) result)) called talk));
+            (subst (λ (bytes : List ℕ). WhereTold (exchanges old) (exchanges new) (Exchanged call.host call.port bytes result)) same
+            (subst (λ (bytes : List ℕ). WhereTold (exchanges old) (exchanges new) (Exchanged bytes call.port request result)) called talk));
         follows = where_told (Answered hears hearer limit result) (Follows limit (outcome_by result)) (course old) (course new)
             (λ a b h. record { plan = h.plan; comes = comes_by hears hearer limit (next_start a.plan).bytes result success h.made }) answer;
+        front = front;
         planned = planned_by call result (course old) start (subst (λ (bytes : List ℕ). IfSome (course old) (λ c. 0 < length bytes → IsTrue (next_start c.plan).put_fails → result ≡ Err HttpFault.ReadFault)) same put);
         cause = caused_by (faults old) (faults new) result cause;
         same = place;

@@ -19,6 +19,7 @@ pub record RowsState : Type 0 where
 abbrev pub row_in : RowsState → ℕ → Option Row
 row_in kept n = lookup (is_at (nat_cmp n)) kept.rows
 
+-- its deadline, if it is open
 abbrev pub deadline_in : RowsState → ℕ → Option ℕ
 deadline_in kept n = lookup (is_at (nat_cmp n)) kept.deadlines
 

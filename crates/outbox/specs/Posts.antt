@@ -40,6 +40,8 @@ abbrev pub post_of : ℕ → PostKind → List ℕ → List Post
 post_of place kind url = if length url == 0 then [] else record { entry = place; kind = kind; url = url } ∷ []
 
 -- what tells of a win: the nurl, with the charge
+-- Example: an award of 2,500,000 units with the nurl `http://n/w?${AUCTION_PRICE}` gives `http://n/w?2.5` when it
+-- is won.
 abbrev pub win_post : ℕ → Bid → List Post
 win_post place b = post_of place PostKind.Nurl (url_expansion (values_of b (Some b.charge) 0) b.texts.nurl)
 

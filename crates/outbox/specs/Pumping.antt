@@ -9,7 +9,7 @@ use Rattle.adx_links.specs.Links.{Course, Exchanges, FailsStart, after_start, ex
 use Rattle.http_grammar.specs.declared.fault.HttpFault.{HttpFault}
 use Rattle.httparse.specs.Grammar.{status_code}
 use Rattle.http_connection.specs.Messages.{IsResponseThen, RefusesResponse, ResponseRead}
-use Rattle.link_exchange.specs.Exchanging.{OneMore}
+use Rattle.adx_http.specs.Exchanging.{AnswersFront, OneMore}
 use Rattle.outbox.specs.declared.calling.Call.{Call}
 use Rattle.outbox.specs.declared.report.Outcome.{Outcome}
 use Rattle.outbox.specs.declared.report.Outcome.TheVariants.{Delivered, Failed, Answered, Undeliverable}
@@ -93,24 +93,28 @@ outcome_by (Err HttpFault.Coding) = Answered
 abbrev pub stays_at : List Outcome → ℕ → Bool
 stays_at outcomes n = option_map_or stays (slice_get outcomes n) true
 
+-- it answered with a status from 200 to 299
 abbrev pub is_delivered : Outcome → Bool
 is_delivered Delivered = true
 is_delivered Failed = false
 is_delivered Answered = false
 is_delivered Undeliverable = false
 
+-- the host wasn't reached, or gave no answer
 abbrev pub is_failed : Outcome → Bool
 is_failed Delivered = false
 is_failed Failed = true
 is_failed Answered = false
 is_failed Undeliverable = false
 
+-- it answered with a status outside 200 to 299
 abbrev pub is_answered : Outcome → Bool
 is_answered Delivered = false
 is_answered Failed = false
 is_answered Answered = true
 is_answered Undeliverable = false
 
+-- the notice can't be sent at all
 abbrev pub is_undeliverable : Outcome → Bool
 is_undeliverable Delivered = false
 is_undeliverable Failed = false
@@ -122,9 +126,11 @@ abbrev pub counted : (Outcome → Bool) → List Outcome → ℕ
 counted test outcomes = min (count_by test outcomes) (2 ^ 32 - 1)
 
 -- how many posts were given up, those of these outcomes too; the count stands still at its last value
+-- Example: 3 with delivered, undeliverable and failed is 4.
 abbrev pub given_up_with : ℕ → List Outcome → ℕ
 given_up_with before outcomes = before + min (count_by is_undeliverable outcomes) ((2 ^ 32 - 1) - before)
 
+-- how many outcomes of each kind, up to the greatest count
 abbrev pub report_of : List Outcome → Report
 report_of outcomes = record {
   delivered = counted is_delivered outcomes;
@@ -138,6 +144,7 @@ module _ {L : Type 0} (exchanges : L → Option Exchanges) (course : L → Optio
   pub record IsTried (c : Call) (old new : L) (o : Outcome) : Type 0 where
     pub asks : WhereTold (exchanges old) (exchanges new) (Asks c o)
     pub follows : WhereTold (course old) (course new) (Follows limit o)
+    pub front : IfSome (course old) (λ c. WhereTold (exchanges old) (exchanges new) (AnswersFront c))
     pub planned : IfSome (course old) (IsPlanned c o)
     pub cause : IsCaused (faults old) (faults new) o
     pub same : stands_on new ≡ stands_on old

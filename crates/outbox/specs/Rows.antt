@@ -93,9 +93,11 @@ pub record AreValues (v : Values) (r : Row) (sold_at : Option Units) (number : �
 abbrev pub row_win : ℕ → Row → List Post
 row_win place r = post_of place PostKind.Nurl (url_expansion (row_values r (Some r.charge) 0) r.nurl)
 
+-- the post of a row's bill
 abbrev pub row_bill : ℕ → Row → List Post
 row_bill place r = post_of place PostKind.Burl (url_expansion (row_values r (Some r.charge) 0) r.burl)
 
+-- the post of a row's loss
 abbrev pub row_loss : ℕ → ℕ → Row → List Post
 row_loss place loss r = post_of place PostKind.Lurl (url_expansion (row_values r None loss) r.lurl)
 
@@ -118,5 +120,6 @@ row_made a p = row_by a p.1 (texts_at a.kept p.0)
 abbrev pub rows_for : Ask → ℕ → List Row
 rows_for a imp = map (row_made a) (filter (is_award imp) (enumerate_from 0 a.offers))
 
+-- the rows of all that an ask awarded
 abbrev pub rows_made : Ask → List Row
 rows_made a = flat_map (rows_for a) (range_with_len 0 (length a.imps))

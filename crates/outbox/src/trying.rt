@@ -6,10 +6,10 @@ ghost use Rattle.outbox.specs.Calls.{call_of as call_of_text};
 use crate::calling::{Call, call_of};
 use crate::post::Post;
 use crate::report::Outcome;
+use adx_http::{Hearer, exchange};
 use adx_links::Link;
 use adx_units::OutOfMemory;
 use http_connection::{Conn, HttpFault};
-use link_exchange::{Hearer, exchange};
 use std::alloc::Global;
 
 /// Who hears of an answer whether it is a success (RFC 9110, section 15.3).
@@ -52,7 +52,6 @@ fn try_call<L: Link>(conn: &mut Conn, link: &mut L, call: &Call) -> Outcome
         call.host.as_str(),
         call.port,
         call.request.as_bytes(),
-        b"",
         IsSuccess,
     ))
 }

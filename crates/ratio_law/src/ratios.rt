@@ -2,6 +2,7 @@
 ghost use Rattle.std.specs.Prelude.{◌≡◌, ◌*◌, ◌^◌, ◌<◌, ◌≤◌, IfOk, IsTrue, length};
 ghost use Rattle.day_close.specs.Choosing.{IsChosenByRule};
 ghost use Rattle.day_close.specs.Closing.{IsWithinBudgets};
+ghost use Rattle.dual_cert.specs.Assignments.{Assignment, earned};
 ghost use Rattle.ratio_law.specs.SmallDays.{IsBoundOf, committed_of as committed_by, greatest_of as greatest_by, is_small as is_small_day, left_of, right_of};
 
 use crate::money::{committed_of, greatest_of};
@@ -9,8 +10,8 @@ use crate::sides::Ratio;
 use crate::small::is_small;
 use adx_units::OutOfMemory;
 use bid_record::Record;
+use campaign_book::DECLINE;
 use day_close::close;
-use discount_table::DECLINE;
 use dual_cert::WHOLE;
 use std::alloc::Global;
 
@@ -33,6 +34,10 @@ pub fn ratio(alloc: Global, day: &Record) -> Result<Ratio, OutOfMemory>
     ensures right { IfOk result (λ x. x.right ≡ right_of x.committed x.greatest x.imps) }
     // The revenue guarantee.
     ensures guarantee { IfOk result (λ x. IsChosenByRule day.now → IsTrue x.small → x.left ≤ x.right) }
+    // No assignment of the impressions earns more than the bound, so that none earns more than the right side allows.
+    ensures hindsight { IfOk result (λ x. (picks : Assignment) → earned picks day.now ≤ x.bound) }
+    ensures within { IfOk result (λ x. IsChosenByRule day.now → IsTrue x.small
+        → (picks : Assignment) → left_of (earned picks day.now) ≤ x.right) }
 {
     let bound = bound_of(alloc, day)?;
     let committed = committed_of(alloc, day)?;

@@ -11,7 +11,7 @@ use Rattle.adx_json.specs.declared.tree.Json.{Json}
 use Rattle.adx_json.specs.declared.tree.Json.TheVariants as json
 use Rattle.adx_json.specs.declared.tree.Member.{Member}
 use Rattle.adx_json.proofs.Views.{tree_of-List, tree_of-Object}
-use Rattle.tree_view.specs.Values.{given, is_number_text}
+use Rattle.adx_json.specs.Values.{given, is_number_text}
 use Rattle.rtb_request.specs.ForBidders.{changed, each, with_each, one, dollars_alone, deal_for_bidders, pmp_for_bidders, imp_for_bidders, request_for_bidders}
 use Rattle.rtb_request.specs.Asked.{item_part, member_part, gets_at, gets_cur, at_after, cur_after, changed_value, coming, asked, items_asked, members_asked}
 use Rattle.rtb_request.specs.declared.asked.Part.{Part}

@@ -4,10 +4,10 @@ use Rattle.std.specs.List.{flat_map, list_any}
 use Rattle.std.proofs.lemmas.List.{map-append}
 use Rattle.std.proofs.lemmas.List.Folds.{list_any-append}
 use Rattle.adx_json.specs.Tree.{Tree}
-use Rattle.tree_view.specs.Checks.{judged}
-use Rattle.tree_view.proofs.Judging.{judged_on, judged_off, judged_value}
+use Rattle.adx_json.specs.Checks.{judged}
+use Rattle.adx_json.proofs.Judging.{judged_on, judged_off, judged_value}
 use Rattle.rtb_request.specs.Faults.{lacks_memory}
-use Rattle.name_sets.specs.Among.{is_among}
+use Rattle.adx_units.specs.Among.{is_among}
 use Rattle.rtb_request.specs.Distinct.{all_distinct}
 use Rattle.rtb_request.specs.Deals.{DealView, deal_checks, deal_ids, with_deal, with_deals}
 use Rattle.rtb_request.specs.Met.{AreIds}

@@ -4,10 +4,10 @@ use Rattle.std.specs.List.{list_any}
 use Rattle.std.proofs.lemmas.List.{map-append}
 use Rattle.std.proofs.Math.Seq.{append_snoc}
 use Rattle.adx_json.specs.Tree.{Tree}
-use Rattle.tree_view.specs.Checks.{judged}
-use Rattle.tree_view.proofs.Judging.{judged_on, judged_off, judged_value}
+use Rattle.adx_json.specs.Checks.{judged}
+use Rattle.adx_json.proofs.Judging.{judged_on, judged_off, judged_value}
 use Rattle.rtb_request.specs.Faults.{lacks_memory}
-use Rattle.name_sets.specs.Among.{is_among}
+use Rattle.adx_units.specs.Among.{is_among}
 use Rattle.rtb_request.specs.Distinct.{all_distinct}
 use Rattle.rtb_request.specs.Imps.{ImpView, imp_checks, imps_checks, imp_view, imp_id}
 use Rattle.rtb_request.specs.Seen.{seen_imp, imp_has_id}

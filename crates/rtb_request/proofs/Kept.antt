@@ -5,7 +5,7 @@ use Rattle.adx_json.specs.Tree.{Tree, null, boolean, number, text, list, object,
 use Rattle.adx_json.specs.Named.{with_member, with_value}
 use Rattle.adx_json.specs.WellFormed.{IsWellFormed, AreWellFormed, HaveWellFormed}
 use Rattle.adx_json.proofs.PutMembers.{put_well_formed}
-use Rattle.tree_view.specs.Values.{given, is_number_text}
+use Rattle.adx_json.specs.Values.{given, is_number_text}
 use Rattle.rtb_request.specs.ForBidders.{changed, with_changed, each, with_each, one, deal_for_bidders, pmp_for_bidders, imp_for_bidders, dollars_alone, request_for_bidders}
 
 -- a change keeps trees well formed, and makes none deeper

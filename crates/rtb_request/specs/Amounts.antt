@@ -7,9 +7,10 @@ use Rattle.adx_units.specs.Money.{units, floor_of}
 use Rattle.adx_units.specs.declared.units.Units.{Units}
 use Rattle.adx_units.specs.declared.price.PriceFault.{PriceFault}
 use Rattle.adx_units.specs.declared.price.PriceFault.TheVariants.{NotNumber}
-use Rattle.tree_view.specs.Values.{text_in, number_in, whole_or_zero}
+use Rattle.adx_json.specs.Values.{text_in, number_in, whole_or_zero}
 use Rattle.rtb_request.specs.declared.imp.TheConstants.{MOST_SECONDS}
 
+-- the floor of a number's text; without one it isn't a number
 abbrev pub floor_by : Option (List ℕ) → Result Units PriceFault
 floor_by None = Err NotNumber
 floor_by (Some n) = floor_of n
@@ -32,5 +33,6 @@ abbrev pub is_id_text : Option (List ℕ) → Bool
 is_id_text None = false
 is_id_text (Some t) = nat_le 1 (length t) && nat_le (length t) LONGEST_ID
 
+-- a text of 1 to 128 bytes
 abbrev pub is_id : Option Tree → Bool
 is_id v = is_id_text (text_in v)

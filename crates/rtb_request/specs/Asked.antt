@@ -2,7 +2,7 @@
 use Rattle.std.specs.Prelude.{ℕ, List, Bool, true, false, codes, ◌&&◌, not, if◌then◌else◌}
 use Rattle.std.specs.Str.{bytes_eq}
 use Rattle.adx_json.specs.Tree.{Tree, null, boolean, number, text, list, object, Items, no_items, item, Members, no_members, member}
-use Rattle.tree_view.specs.Values.{given, is_number_text}
+use Rattle.adx_json.specs.Values.{given, is_number_text}
 use Rattle.rtb_request.specs.ForBidders.{one, dollars_alone}
 use Rattle.rtb_request.specs.declared.asked.Part.{Part}
 use Rattle.rtb_request.specs.declared.asked.Part.TheVariants as parts

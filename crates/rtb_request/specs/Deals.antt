@@ -4,10 +4,10 @@ use Rattle.std.specs.Prelude.{ℕ, List, [], ◌∷◌, ◌++◌, map, Bool, is_
 use Rattle.std.specs.List.{flat_map}
 use Rattle.adx_json.specs.Tree.{Tree}
 use Rattle.adx_units.specs.declared.units.Units.{Units}
-use Rattle.tree_view.specs.Values.{given, text_in, text_or_empty, is_text_if_given, is_absent_or, is_number_text, are_texts_if_given, texts_in}
-use Rattle.tree_view.specs.Checks.{Check, check, judged}
+use Rattle.adx_json.specs.Values.{given, text_in, text_or_empty, is_text_if_given, is_absent_or, is_number_text, are_texts_if_given, texts_in}
+use Rattle.adx_json.specs.Checks.{Check, check, judged}
 use Rattle.rtb_request.specs.Amounts.{floor_in, units_or_zero}
-use Rattle.name_sets.specs.Among.{is_among}
+use Rattle.adx_units.specs.Among.{is_among}
 use Rattle.rtb_request.specs.declared.fault.RequestFault.{RequestFault}
 use Rattle.rtb_request.specs.declared.fault.RequestFault.TheVariants.{BadField}
 use Rattle.rtb_request.specs.declared.fault.Field.TheVariants.{DealId, DealBidfloor, DealBidfloorcur, DealWseat, DealWadomain}
@@ -22,6 +22,7 @@ deal_checks t =
     ∷ check (are_texts_if_given (given (codes "wadomain") t)) (BadField DealWadomain)
     ∷ []
 
+-- what a deal says
 pub record DealView : Type 0 where
   pub id : List ℕ
   pub floor : Units
@@ -43,6 +44,7 @@ deal_view t = record {
 abbrev pub is_in_dollars : Tree → Bool
 is_in_dollars t = is_absent_or (codes "USD") (given (codes "bidfloorcur") t)
 
+-- the ids of some deals
 abbrev pub deal_ids : List DealView → List (List ℕ)
 deal_ids ds = map (λ (d : DealView). d.id) ds
 
@@ -50,6 +52,9 @@ deal_ids ds = map (λ (d : DealView). d.id) ds
 abbrev pub with_deal : List DealView → Tree → List DealView
 with_deal ds t = if is_in_dollars t && not (is_among (deal_ids ds) (deal_view t).id) then ds ++ deal_view t ∷ [] else ds
 
+-- deal by deal: left out where bidfloorcur is given and not USD, or where one that was kept before has its id
+-- Example: gold in USD, gold in USD, yen in JPY, open: gold and open are kept. A deal in EUR and then one in USD
+-- of one id: the second is kept
 abbrev pub with_deals : List DealView → List Tree → List DealView
 with_deals ds [] = ds
 with_deals ds (t ∷ ts) = with_deals (with_deal ds t) ts

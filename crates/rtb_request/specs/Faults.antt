@@ -5,6 +5,7 @@ use Rattle.rtb_request.specs.declared.fault.Field.TheVariants as fields
 use Rattle.rtb_request.specs.declared.fault.RequestFault.{RequestFault}
 use Rattle.rtb_request.specs.declared.fault.RequestFault.TheVariants.{NoId, NoImp, TooManyImps, RepeatedImp, BadField, OutOfMemory}
 
+-- the fault is that memory ran out
 abbrev pub lacks_memory : RequestFault → Bool
 lacks_memory NoId = false
 lacks_memory NoImp = false

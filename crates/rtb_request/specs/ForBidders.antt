@@ -5,7 +5,7 @@ use Rattle.std.specs.Prelude.{ℕ, List, codes, if◌then◌else◌}
 use Rattle.std.specs.Str.{bytes_eq}
 use Rattle.adx_json.specs.Tree.{Tree, null, boolean, number, text, list, object, Items, no_items, item, Members, no_members, member}
 use Rattle.adx_json.specs.Named.{with_member}
-use Rattle.tree_view.specs.Values.{given, is_number_text}
+use Rattle.adx_json.specs.Values.{given, is_number_text}
 
 -- the members, with a change of the value under a name
 abbrev pub changed : List ℕ → (Tree → Tree) → Members → Members
@@ -21,6 +21,7 @@ with_changed name f (text t) = text t
 with_changed name f (list ts) = list ts
 with_changed name f (object ms) = object (changed name f ms)
 
+-- every item, changed
 abbrev pub each : (Tree → Tree) → Items → Items
 each f no_items = no_items
 each f (item t ts) = item (f t) (each f ts)
@@ -34,6 +35,7 @@ with_each f (text t) = text t
 with_each f (list ts) = list (each f ts)
 with_each f (object ms) = object ms
 
+-- the number 1
 abbrev pub one : Tree
 one = number (codes "1")
 
@@ -41,12 +43,15 @@ one = number (codes "1")
 abbrev pub deal_for_bidders : Tree → Tree
 deal_for_bidders t = if is_number_text (codes "3") (given (codes "at") t) then t else with_member (codes "at") one t
 
+-- the deals of an impression as bidders are asked for them
 abbrev pub pmp_for_bidders : Tree → Tree
 pmp_for_bidders t = with_changed (codes "deals") (with_each deal_for_bidders) t
 
+-- an impression as bidders are asked for it: with the deals that count
 abbrev pub imp_for_bidders : Tree → Tree
 imp_for_bidders t = with_changed (codes "pmp") pmp_for_bidders t
 
+-- the list of currencies that bidders are sent
 abbrev pub dollars_alone : Tree
 dollars_alone = list (item (text (codes "USD")) no_items)
 

@@ -5,10 +5,10 @@ use Rattle.std.specs.Prelude.{ℕ, List, [], ◌∷◌, ◌++◌, Bool, true, is
 use Rattle.std.specs.List.{flat_map}
 use Rattle.adx_json.specs.Tree.{Tree}
 use Rattle.adx_units.specs.declared.units.Units.{Units}
-use Rattle.tree_view.specs.Values.{given, text_or_empty, items_in, is_text_if_given, is_list_if_given, is_object_if_given, is_absent_or, is_number_text}
-use Rattle.tree_view.specs.Checks.{Check, check}
+use Rattle.adx_json.specs.Values.{given, text_or_empty, items_in, is_text_if_given, is_list_if_given, is_object_if_given, is_absent_or, is_number_text}
+use Rattle.adx_json.specs.Checks.{Check, check}
 use Rattle.rtb_request.specs.Amounts.{floor_in, units_or_zero, seconds_in, is_id}
-use Rattle.name_sets.specs.Among.{is_among}
+use Rattle.adx_units.specs.Among.{is_among}
 use Rattle.rtb_request.specs.Deals.{DealView, deal_checks, with_deals}
 use Rattle.rtb_request.specs.declared.fault.RequestFault.{RequestFault}
 use Rattle.rtb_request.specs.declared.fault.RequestFault.TheVariants.{RepeatedImp, BadField}

@@ -1,7 +1,7 @@
 -- The ids that were met. Private: no public clause cites it.
 use Rattle.std.specs.Prelude.{◌≡◌, ℕ, List}
 use Rattle.std.specs.List.{list_any}
-use Rattle.name_sets.specs.Among.{is_among}
+use Rattle.adx_units.specs.Among.{is_among}
 use Rattle.rtb_request.specs.Seen.{deal_has_id}
 use Rattle.rtb_request.specs.declared.deal.Deal.{Deal}
 

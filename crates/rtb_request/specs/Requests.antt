@@ -5,8 +5,8 @@ use Rattle.std.specs.List.{list_any}
 use Rattle.adx_json.specs.Tree.{Tree}
 use Rattle.adx_json.specs.Spelling.{spelling}
 use Rattle.sha2.specs.Sha256.{sha256}
-use Rattle.tree_view.specs.Values.{given, text_or_empty, items_in, is_text, are_texts_if_given, texts_in}
-use Rattle.tree_view.specs.Checks.{Check, check, judged}
+use Rattle.adx_json.specs.Values.{given, text_or_empty, items_in, is_text, are_texts_if_given, texts_in}
+use Rattle.adx_json.specs.Checks.{Check, check, judged}
 use Rattle.rtb_request.specs.Amounts.{is_id}
 use Rattle.rtb_request.specs.Imps.{ImpView, imps_checks, imp_view}
 use Rattle.rtb_request.specs.declared.bid_request.TheConstants.{MOST_IMPS}
@@ -15,9 +15,11 @@ use Rattle.rtb_request.specs.declared.fault.Field.TheVariants.{Cur, Wseat, Bseat
 use Rattle.rtb_request.specs.declared.fault.RequestFault.{RequestFault}
 use Rattle.rtb_request.specs.declared.fault.RequestFault.TheVariants.{NoId, NoImp, TooManyImps, BadField}
 
+-- the impressions of a request, as they are written
 abbrev pub request_imps : Tree → List Tree
 request_imps t = items_in (given (codes "imp") t)
 
+-- the member is absent or a list of texts, and else this field is wrong
 abbrev pub texts_check : List ℕ → Field → Tree → Check RequestFault
 texts_check name field t = check (are_texts_if_given (given name t)) (BadField field)
 
@@ -34,6 +36,7 @@ request_checks t =
     ∷ texts_check (codes "badv") Badv t
     ∷ imps_checks [] (request_imps t)
 
+-- the text USD
 abbrev pub is_dollars : Tree → Bool
 is_dollars t = is_text (codes "USD") (Some t)
 
@@ -44,6 +47,7 @@ leaves_dollars ts = length ts == 0 || list_any is_dollars ts
 abbrev pub takes_dollars : Tree → Bool
 takes_dollars t = leaves_dollars (items_in (given (codes "cur") t))
 
+-- what a request says
 pub record RequestView : Type 0 where
   pub id : List ℕ
   pub imps : List ImpView

@@ -2,15 +2,14 @@
 ghost use Rattle.std.specs.Prelude.{◌≡◌, ◌≤◌, option_map, IfOk, IfSome, IfNone, Ok, false, true, is_ok};
 ghost use Rattle.adx_units.specs.declared.price.TheConstants.{PRICE_LIMIT};
 ghost use Rattle.adx_json.specs.View.{tree_of};
-ghost use Rattle.tree_view.specs.Values.{text_or_empty};
+ghost use Rattle.adx_json.specs.Values.{text_or_empty};
 ghost use Rattle.rtb_request.specs.declared.imp.TheConstants.{MOST_SECONDS};
 ghost use Rattle.rtb_request.specs.Amounts.{floor_in as floor_by, is_id, seconds_in as seconds_by};
 
 use crate::imp::MOST_SECONDS;
-use adx_json::Json;
+use adx_json::{Json, number_in, text_in, whole_or_zero};
 use adx_units::{Id, OutOfMemory, Units, floor_of};
 use std::alloc::Global;
-use tree_view::{number_in, text_in, whole_or_zero};
 
 /// The floor that a value is, 0 where it is absent. None exactly where what is given is no floor.
 pub(crate) fn floor_in(value: Option<&Json>) -> Option<Units>

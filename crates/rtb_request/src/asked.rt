@@ -7,9 +7,8 @@ ghost use Rattle.adx_json.proofs.Rows.{left_members};
 ghost use Rattle.rtb_request.specs.ForBidders.{request_for_bidders};
 ghost use Rattle.rtb_request.specs.Asked.{item_part, member_part, gets_at as gets_at_by, gets_cur as gets_cur_by, change_of, at_after, cur_after, changed_value, coming, asked, items_asked, members_asked};
 
-use adx_json::{Json, Member, push_comma, push_text, push_value};
+use adx_json::{Json, Member, given, is_number_text, push_comma, push_text, push_value};
 use adx_units::OutOfMemory;
-use tree_view::{given, is_number_text};
 
 /// A part of a request, as far as a change can stand in it.
 #[derive(Clone, Copy)]

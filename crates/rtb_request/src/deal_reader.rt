@@ -1,7 +1,7 @@
 //! The view of a deal's tree, or its first fault.
 ghost use Rattle.std.specs.Prelude.{◌≡◌, map, true, IfOk, OnOk};
 ghost use Rattle.adx_json.specs.View.{tree_of, trees_of};
-ghost use Rattle.tree_view.specs.Checks.{Gives, judged};
+ghost use Rattle.adx_json.specs.Checks.{Gives, judged};
 ghost use Rattle.rtb_request.specs.Faults.{lacks_memory};
 ghost use Rattle.rtb_request.specs.Distinct.{all_distinct};
 ghost use Rattle.rtb_request.specs.Deals.{deal_checks, deals_in, with_deal};
@@ -12,12 +12,11 @@ use crate::amount::floor_in;
 use crate::deal::Deal;
 use crate::fault::{Field, RequestFault, bad_field};
 use crate::members::deal_members;
-use adx_json::Json;
-use name_sets::NameSet;
-use std::alloc::Global;
-use tree_view::{
-    are_texts_if_given, is_absent_or, is_number_text, is_text_if_given, text_in, texts_in,
+use adx_json::{
+    Json, are_texts_if_given, is_absent_or, is_number_text, is_text_if_given, text_in, texts_in,
 };
+use adx_units::NameSet;
+use std::alloc::Global;
 
 /// The deals that count of a list, or the first fault of any deal in it.
 pub(crate) fn deals_of(alloc: Global, trees: &[Json]) -> Result<Vec<Deal>, RequestFault>

@@ -2,7 +2,7 @@
 ghost use Rattle.std.specs.Prelude.{◌≡◌, ◌+◌, ◌++◌, ◌∷◌, [], map, length, option_map, true, IfOk, OnOk};
 ghost use Rattle.std.specs.List.{list_any};
 ghost use Rattle.adx_json.specs.View.{tree_of, trees_of};
-ghost use Rattle.tree_view.specs.Checks.{Gives, judged};
+ghost use Rattle.adx_json.specs.Checks.{Gives, judged};
 ghost use Rattle.rtb_request.specs.Faults.{lacks_memory};
 ghost use Rattle.rtb_request.specs.Distinct.{all_distinct};
 ghost use Rattle.rtb_request.specs.Imps.{imp_checks, imps_checks, imp_view, is_zero_or_one_if_given as is_zero_or_one_by};
@@ -13,12 +13,12 @@ use crate::deal_reader::deals_of;
 use crate::fault::{Field, RequestFault, bad_field};
 use crate::imp::Imp;
 use crate::members::{imp_members, members_of_pmp};
-use adx_json::Json;
+use adx_json::{
+    Json, is_absent_or, is_list_if_given, is_number_text, is_object_if_given, is_text_if_given,
+    items_in,
+};
 use adx_units::{Id, Sequence};
 use std::alloc::Global;
-use tree_view::{
-    is_absent_or, is_list_if_given, is_number_text, is_object_if_given, is_text_if_given, items_in,
-};
 
 /// The impressions of a list, or the first fault of any of them. `dollars` tells whether the request takes USD.
 pub(crate) fn imps_of(

@@ -1,8 +1,10 @@
 //! Requests for bids (OpenRTB 2.6) as an exchange sees them.
 //!
-//! A request's tree has a view, which is what its members say, or a first fault; `BidRequest::of` gives
-//! just that, and `OfferedImps::of` as much of it as a bidder reads. Ranges, lengths and distinct ids are facts of the types. `push_for_bidders` writes what bidders are asked.
-//! Stands on adx_units, name_sets, adx_json, tree_view and sha2.
+//! A request's tree has a view, which is what its members say, or a first fault; `BidRequest::of` gives just that, and
+//! `OfferedImps::of` as much of it as a bidder reads. Ranges, lengths and distinct ids are facts of the types.
+//! `push_for_bidders` writes what bidders are asked.
+//!
+//! Stands on `adx_units`, `adx_json` and `sha2`.
 #![tactic(auto)]
 
 mod amount;

@@ -1,11 +1,10 @@
 //! The members that the views read, as they lie in their trees: one walk over each object.
 ghost use Rattle.std.specs.Prelude.{◌≡◌, option_map, codes};
 ghost use Rattle.adx_json.specs.View.{tree_of};
-ghost use Rattle.tree_view.specs.Values.{given as given_in};
+ghost use Rattle.adx_json.specs.Values.{given as given_in};
 ghost use Rattle.rtb_request.specs.Imps.{given_within};
 
-use adx_json::Json;
-use tree_view::{given, members_in, met};
+use adx_json::{Json, given, members_in, met};
 
 /// The members of a deal.
 #[derive(Clone, Copy)]

@@ -4,8 +4,8 @@ ghost use Rattle.std.specs.List.{list_any};
 ghost use Rattle.adx_json.specs.Spelling.{spelling};
 ghost use Rattle.adx_json.specs.View.{tree_of, trees_of};
 ghost use Rattle.sha2.specs.Sha256.{sha256};
-ghost use Rattle.tree_view.specs.Checks.{Gives};
-ghost use Rattle.tree_view.specs.Values.{given};
+ghost use Rattle.adx_json.specs.Checks.{Gives};
+ghost use Rattle.adx_json.specs.Values.{given};
 ghost use Rattle.rtb_request.specs.Faults.{lacks_memory};
 ghost use Rattle.rtb_request.specs.Requests.{request_in, offered_in, leaves_dollars as leaves_dollars_by, is_dollars};
 ghost use Rattle.rtb_request.specs.Seen.{seen_request, seen_offered};
@@ -16,11 +16,10 @@ use crate::fault::{Field, RequestFault, bad_field};
 use crate::imp_reader::imps_of;
 use crate::members::{RequestMembers, request_members};
 use crate::offered_imps::OfferedImps;
-use adx_json::{Json, push_value};
+use adx_json::{Json, are_texts_if_given, items_in, push_value, text_in, texts_in};
 use adx_units::{OutOfMemory, Sequence};
 use sha2::{Digest, Sha256};
 use std::alloc::Global;
-use tree_view::{are_texts_if_given, items_in, text_in, texts_in};
 
 /// The room with which the spelling of a request begins, in bytes: that of a short request.
 const DIGEST_ROOM: usize = 1_024;

@@ -8,8 +8,8 @@ use Rattle.adx_json.specs.Tree.{Tree, members_of}
 use Rattle.adx_json.specs.Named.{value_of, member_in}
 use Rattle.adx_json.specs.View.{members_view}
 use Rattle.adx_json.specs.declared.tree.Member.{Member}
-use Rattle.tree_view.specs.Walks.{members_by, with_member, found_or}
-use Rattle.tree_view.proofs.Meeting.{all_met}
+use Rattle.adx_json.specs.Walks.{members_by, with_member, found_or}
+use Rattle.adx_json.proofs.Meeting.{all_met}
 use Rattle.rtb_response.specs.BidNames.{bid_names, place_in}
 
 any_default : {X : Type 0} (xs : List X) (i : ℕ) (d e : X) → i < length xs → get_or xs i d ≡ get_or xs i e

@@ -4,17 +4,19 @@
 use Rattle.std.specs.Prelude.{ℕ, List, [], ◌∷◌, length, map, Bool, is_some, ◌&&◌, nat_le, codes, Result}
 use Rattle.std.specs.List.{list_all, sum_by}
 use Rattle.adx_json.specs.Tree.{Tree}
-use Rattle.tree_view.specs.Values.{given, text_in, text_or_empty, items_in, is_text, is_absent_or, is_list_if_given, is_number_text}
-use Rattle.tree_view.specs.Checks.{Check, check, judged}
+use Rattle.adx_json.specs.Values.{given, text_in, text_or_empty, items_in, is_text, is_absent_or, is_list_if_given, is_number_text}
+use Rattle.adx_json.specs.Checks.{Check, check, judged}
 use Rattle.rtb_response.specs.Bids.{BidView, bid_view}
 use Rattle.rtb_response.specs.declared.bid.TheConstants.{MOST_BIDS}
 use Rattle.rtb_response.specs.declared.fault.Field.TheVariants.{Seatbid, SeatbidBid}
 use Rattle.rtb_response.specs.declared.fault.AnswerFault.{AnswerFault}
 use Rattle.rtb_response.specs.declared.fault.AnswerFault.TheVariants.{NoId, OtherId, OtherCurrency, BadField, TooManyBids}
 
+-- the seats of an answer, as they are written
 abbrev pub seats_in : Tree → List Tree
 seats_in t = items_in (given (codes "seatbid") t)
 
+-- the bids of a seat, as they are written
 abbrev pub bids_in : Tree → List Tree
 bids_in seat = items_in (given (codes "bid") seat)
 
@@ -37,11 +39,13 @@ answer_checks auction t =
     ∷ check (nat_le (bid_count (seats_in t)) MOST_BIDS) TooManyBids
     ∷ []
 
+-- what a seat says: its name, whether all its bids have to win together, and its bids
 pub record SeatView : Type 0 where
   pub seat : List ℕ
   pub all_or_none : Bool
   pub bids : List BidView
 
+-- what a seat says
 abbrev pub seat_view : Tree → SeatView
 seat_view t = record {
   seat = text_or_empty (given (codes "seat") t);
@@ -49,6 +53,7 @@ seat_view t = record {
   bids = map bid_view (bids_in t);
 }
 
+-- what an answer says
 pub record AnswerView : Type 0 where
   pub bidid : List ℕ
   pub seats : List SeatView

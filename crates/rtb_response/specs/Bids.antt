@@ -5,11 +5,12 @@ use Rattle.std.specs.Prelude.{ℕ, List, Bool, ◌&&◌, is_some, codes, Option,
 use Rattle.adx_json.specs.Tree.{Tree}
 use Rattle.adx_units.specs.declared.units.Units.{Units}
 use Rattle.adx_units.specs.declared.price.PriceFault.{PriceFault}
-use Rattle.tree_view.specs.Values.{given, text_in, text_or_empty, texts_in, whole_or_zero}
+use Rattle.adx_json.specs.Values.{given, text_in, text_or_empty, texts_in, whole_or_zero}
 use Rattle.rtb_response.specs.Prices.{price_in}
 use Rattle.rtb_response.specs.Bodies.{body}
 use Rattle.rtb_response.specs.declared.bid.TheConstants.{MOST_SECONDS}
 
+-- what a bid says
 pub record BidView : Type 0 where
   pub whole : Bool
   pub id : List ℕ

@@ -10,9 +10,11 @@ use Rattle.adx_json.specs.Spelling.{spelling}
 abbrev pub own_names : List (List ℕ)
 own_names = codes "id" ∷ codes "impid" ∷ codes "price" ∷ codes "nurl" ∷ codes "burl" ∷ codes "lurl" ∷ []
 
+-- a member that the exchange writes itself
 abbrev pub is_own : List ℕ → Bool
 is_own name = list_any (λ own. bytes_eq name own) own_names
 
+-- all other members of a bid
 abbrev pub passed_on : Members → Members
 passed_on no_members = no_members
 passed_on (member n t ms) = if is_own n then passed_on ms else member n t (passed_on ms)

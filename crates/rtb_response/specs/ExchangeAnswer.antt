@@ -4,7 +4,7 @@ use Rattle.std.specs.Prelude.{ℕ, List, [], ◌∷◌, map, codes, decimal}
 use Rattle.adx_json.specs.Tree.{Tree, text, number, list, object, items_of, Members, no_members, member}
 use Rattle.adx_json.specs.View.{tree_of}
 use Rattle.adx_units.specs.Money.{price_text}
-use Rattle.tree_view.specs.Walks.{members_by}
+use Rattle.adx_json.specs.Walks.{members_by}
 use Rattle.rtb_response.specs.Bodies.{passed_on}
 use Rattle.rtb_response.specs.Notices.{notice_url}
 use Rattle.rtb_response.specs.declared.notice.Notice.{Notice}

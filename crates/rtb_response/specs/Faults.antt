@@ -3,6 +3,7 @@ use Rattle.std.specs.Prelude.{Bool, true, false}
 use Rattle.rtb_response.specs.declared.fault.AnswerFault.{AnswerFault}
 use Rattle.rtb_response.specs.declared.fault.AnswerFault.TheVariants.{NoId, OtherId, OtherCurrency, BadField, TooManyBids, OutOfMemory}
 
+-- the fault is that memory ran out
 abbrev pub lacks_memory : AnswerFault → Bool
 lacks_memory NoId = false
 lacks_memory OtherId = false

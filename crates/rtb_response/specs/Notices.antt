@@ -5,6 +5,7 @@ use Rattle.notice_macros.specs.Escaped.{url_byte}
 use Rattle.rtb_response.specs.declared.notice.Notice.{Notice}
 use Rattle.rtb_response.specs.declared.notice.Notice.TheVariants.{Win, Bill, Loss}
 
+-- the path of the exchange's URL of a notice, up to the auction's id
 abbrev pub path_of : Notice → List ℕ
 path_of Win = codes "/notice/win?auction="
 path_of Bill = codes "/notice/bill?auction="

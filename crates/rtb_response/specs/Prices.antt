@@ -6,8 +6,9 @@ use Rattle.adx_units.specs.declared.units.Units.{Units}
 use Rattle.adx_units.specs.declared.price.PriceFault.{PriceFault}
 use Rattle.adx_units.specs.declared.price.PriceFault.TheVariants.{NotNumber}
 use Rattle.adx_units.specs.declared.price.TheConstants.{PRICE_LIMIT}
-use Rattle.tree_view.specs.Values.{number_in}
+use Rattle.adx_json.specs.Values.{number_in}
 
+-- the price of a number's text; without one it isn't a number
 abbrev pub price_by : Option (List ℕ) → Result Units PriceFault
 price_by None = Err NotNumber
 price_by (Some n) = price_of n

@@ -6,6 +6,7 @@ use Rattle.rtb_response.specs.declared.bid.Bid.{Bid}
 use Rattle.rtb_response.specs.declared.bid_answer.SeatBid.{SeatBid}
 use Rattle.rtb_response.specs.declared.bid_answer.BidAnswer.{BidAnswer}
 
+-- what a bid of the code says
 abbrev pub seen_bid : Bid → BidView
 seen_bid b =
     record {
@@ -25,8 +26,10 @@ seen_bid b =
       body = b.body;
     }
 
+-- what a seat of the code says
 abbrev pub seen_seat : SeatBid → SeatView
 seen_seat s = record { seat = s.seat; all_or_none = s.all_or_none; bids = map seen_bid s.bids }
 
+-- what an answer of the code says
 abbrev pub seen_answer : BidAnswer → AnswerView
 seen_answer a = record { bidid = a.bidid; seats = map seen_seat a.seats }

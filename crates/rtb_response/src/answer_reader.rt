@@ -2,8 +2,8 @@
 ghost use Rattle.std.specs.Prelude.{◌≡◌, ◌+◌, map, min, option_map, codes, IfOk, IfSome, IfNone, true, false};
 ghost use Rattle.std.specs.List.{list_all};
 ghost use Rattle.adx_json.specs.View.{tree_of, trees_of};
-ghost use Rattle.tree_view.specs.Values.{given as given_in};
-ghost use Rattle.tree_view.specs.Checks.{Gives};
+ghost use Rattle.adx_json.specs.Values.{given as given_in};
+ghost use Rattle.adx_json.specs.Checks.{Gives};
 ghost use Rattle.rtb_response.specs.Bids.{bid_view};
 ghost use Rattle.rtb_response.specs.Answers.{answer_in, bid_count, bids_in, has_bids, seat_view};
 ghost use Rattle.rtb_response.specs.Faults.{lacks_memory};
@@ -14,12 +14,11 @@ use crate::bid::{Bid, MOST_BIDS};
 use crate::bid_answer::{BidAnswer, SeatBid};
 use crate::bid_reader::{bid_of, text_or_empty};
 use crate::fault::{AnswerFault, Field};
-use adx_json::Json;
+use adx_json::{
+    Json, find_given, is_absent_or, is_list_if_given, is_number_text, items_in, text_in,
+};
 use adx_units::{Id, OutOfMemory, Sequence};
 use std::alloc::Global;
-use tree_view::{
-    given, is_absent_or, is_list_if_given, is_number_text, items_in, members_in, met, text_in,
-};
 
 /// The room with which the bodies of an answer's bids begin, in bytes: that of a short body.
 const SCRATCH_ROOM: usize = 1_024;
@@ -47,21 +46,14 @@ fn answer_members(tree: &Json) -> AnswerMembers<'_>
     ensures cur { option_map (λ t. tree_of t.now) result.cur ≡ given_in (codes "cur") (tree_of tree.now) }
     ensures seatbid { option_map (λ t. tree_of t.now) result.seatbid ≡ given_in (codes "seatbid") (tree_of tree.now) }
 {
-    let mut id = None;
-    let mut bidid = None;
-    let mut cur = None;
-    let mut seatbid = None;
-    for member in members_in(tree) {
-        id = met(id, "id", member);
-        bidid = met(bidid, "bidid", member);
-        cur = met(cur, "cur", member);
-        seatbid = met(seatbid, "seatbid", member);
-    }
+    let mut found = [None; 4];
+    find_given(Some(tree), &["id", "bidid", "cur", "seatbid"], &mut found);
+    let [id, bidid, cur, seatbid] = found;
     AnswerMembers {
-        id: given(id),
-        bidid: given(bidid),
-        cur: given(cur),
-        seatbid: given(seatbid),
+        id,
+        bidid,
+        cur,
+        seatbid,
     }
 }
 
@@ -70,19 +62,10 @@ fn seat_members(tree: &Json) -> SeatMembers<'_>
     ensures group { option_map (λ t. tree_of t.now) result.group ≡ given_in (codes "group") (tree_of tree.now) }
     ensures bid { option_map (λ t. tree_of t.now) result.bid ≡ given_in (codes "bid") (tree_of tree.now) }
 {
-    let mut seat = None;
-    let mut group = None;
-    let mut bid = None;
-    for member in members_in(tree) {
-        seat = met(seat, "seat", member);
-        group = met(group, "group", member);
-        bid = met(bid, "bid", member);
-    }
-    SeatMembers {
-        seat: given(seat),
-        group: given(group),
-        bid: given(bid),
-    }
+    let mut found = [None; 3];
+    find_given(Some(tree), &["seat", "group", "bid"], &mut found);
+    let [seat, group, bid] = found;
+    SeatMembers { seat, group, bid }
 }
 
 /// The list of bids of a seat. None exactly where it isn't an object with a list of bids.

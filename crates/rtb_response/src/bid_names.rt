@@ -2,7 +2,7 @@
 ghost use Rattle.std.specs.Prelude.{◌≡◌, ◌<◌, ℕ, None, [], length, option_map};
 ghost use Rattle.std.specs.List.{slice_index_or};
 ghost use Rattle.adx_json.specs.View.{tree_of, member_of};
-ghost use Rattle.tree_view.specs.Walks.{with_member};
+ghost use Rattle.adx_json.specs.Walks.{with_member};
 ghost use Rattle.rtb_response.specs.BidNames.{bid_names, place_in};
 
 use adx_json::{Json, Member};

@@ -1,7 +1,7 @@
 //! The view of a bid's tree.
 ghost use Rattle.std.specs.Prelude.{◌≡◌, ◌≤◌, option_map, codes, IfOk, true};
 ghost use Rattle.adx_json.specs.View.{tree_of};
-ghost use Rattle.tree_view.specs.Values.{given as given_in, text_in as text_by, text_or_empty as text_or_empty_by};
+ghost use Rattle.adx_json.specs.Values.{given as given_in, text_in as text_by, text_or_empty as text_or_empty_by};
 ghost use Rattle.rtb_response.specs.Prices.{price_in as price_by, is_in_range};
 ghost use Rattle.rtb_response.specs.Bids.{bid_view};
 ghost use Rattle.rtb_response.specs.Seen.{seen_bid};
@@ -9,10 +9,9 @@ ghost use Rattle.rtb_response.specs.Seen.{seen_bid};
 use crate::bid::{Bid, MOST_SECONDS};
 use crate::bid_names::{KNOWN_NAMES, keep};
 use crate::body::body_of;
-use adx_json::Json;
+use adx_json::{Json, given, members_in, number_in, text_in, texts_in, whole_or_zero};
 use adx_units::{OutOfMemory, PriceFault, Text, Units, price_of};
 use std::alloc::Global;
-use tree_view::{given, members_in, number_in, text_in, texts_in, whole_or_zero};
 
 /// The members of a bid that its view reads, as they lie in its tree.
 #[derive(Clone, Copy)]

@@ -12,13 +12,12 @@ ghost use Rattle.rtb_response.specs.ExchangeAnswer.{answer_tree, bid_tree, notic
 use crate::body::push_passed_on;
 use crate::notice::{Addressed, Notice, push_notice};
 use crate::sold::Sold;
-use adx_json::{push_comma, push_text};
+use adx_json::{members_in, push_comma, push_text};
 use adx_units::{ArrayText, Id, OutOfMemory, Text, Units, write_price};
 use itoa::Buffer;
 use notice_macros::push_percent_encoded;
 use std::alloc::Global;
 use std::str;
-use tree_view::members_in;
 
 /// The exchange's answer to the request with that id (OpenRTB 2.6, section 4.2.1, BidResponse), as compact JSON:
 /// `{"id":A,"seatbid":[..],"cur":"USD"}` with one element for each award in the order given, each

@@ -12,7 +12,7 @@ use Rattle.rtb_request.specs.declared.bid_request.BidRequest.{BidRequest}
 use Rattle.rtb_response.specs.declared.bid_answer.BidAnswer.{BidAnswer}
 use Rattle.day_rules.specs.declared.ask.Ask.{Ask}
 use Rattle.deal_floor.specs.declared.roster.Roster.{Roster}
-use Rattle.ask_making.specs.Making.{ask_of}
+use Rattle.script_lines.specs.Making.{ask_of}
 use Rattle.script_lines.specs.Meanings.{GivesAnswer}
 use Rattle.script_lines.specs.Found.{FindsAsk, FindsRequest}
 use Rattle.script_lines.specs.declared.refusal.LineFault.{LineFault}

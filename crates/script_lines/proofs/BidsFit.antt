@@ -8,7 +8,7 @@ use Rattle.adx_units.specs.declared.offer.TheConstants.{ADMITTED}
 use Rattle.adx_units.specs.declared.price.PriceFault.{PriceFault}
 use Rattle.adx_units.specs.declared.price.TheConstants.{PRICE_LIMIT}
 use Rattle.adx_units.specs.declared.units.Units.{Units}
-use Rattle.tree_view.specs.Checks.{first_fault, judged_by}
+use Rattle.adx_json.specs.Checks.{first_fault, judged_by}
 use Rattle.rtb_request.proofs.Distinct.{and_true}
 use Rattle.rtb_request.specs.declared.bid_request.BidRequest.{BidRequest}
 use Rattle.rtb_request.specs.declared.deal.Deal.{Deal}
@@ -22,8 +22,8 @@ use Rattle.deal_floor.specs.Reasons.{number_of}
 use Rattle.deal_floor.specs.declared.campaign.Campaign.{Campaign}
 use Rattle.deal_floor.specs.declared.reason.Reason.{Reason}
 use Rattle.deal_floor.specs.declared.terms.TheConstants.{MOST_KEPT, USUAL_LIFE, NO_IMP}
-use Rattle.ask_making.specs.Making.{SeatedBid, offer_by, offer_of}
-use Rattle.ask_making.specs.Parts.{FitsDay}
+use Rattle.script_lines.specs.Making.{SeatedBid, offer_by, offer_of}
+use Rattle.script_lines.specs.Parts.{FitsDay}
 use Rattle.script_lines.proofs.Bounds.{not_zero}
 use Rattle.script_lines.proofs.Judged.{holds_at}
 

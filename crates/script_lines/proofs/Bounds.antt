@@ -11,7 +11,7 @@ use Rattle.adx_units.specs.declared.units.Units.{Units}
 use Rattle.adx_units.specs.declared.price.PriceFault.{PriceFault}
 use Rattle.adx_units.specs.declared.price.TheConstants.{PRICE_LIMIT, BUDGET_LIMIT}
 use Rattle.adx_units.proofs.Amounts.{Counts, zero_is, passes_is}
-use Rattle.tree_view.specs.Values.{number_in, text_in, or_zero, whole_by, whole_or_zero}
+use Rattle.adx_json.specs.Values.{number_in, text_in, or_zero, whole_by, whole_or_zero}
 use Rattle.rtb_request.specs.Amounts.{floor_by, floor_in, units_or_zero}
 use Rattle.rtb_response.specs.Prices.{price_by, price_in, is_in_range}
 use Rattle.deal_floor.specs.Forms.{budget_by, budget_in, whole_or, place_by_name, place_in}

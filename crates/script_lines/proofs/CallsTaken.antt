@@ -10,7 +10,7 @@ use Rattle.adx_units.specs.Money.{budget_of}
 use Rattle.adx_units.specs.declared.price.PriceFault.{PriceFault}
 use Rattle.adx_units.specs.declared.units.Units.{Units}
 use Rattle.rtb_request.specs.Amounts.{units_or_zero}
-use Rattle.tree_view.specs.Values.{list_items, number_in, text_in, whole_by}
+use Rattle.adx_json.specs.Values.{list_items, number_in, text_in, whole_by}
 use Rattle.notice_book.specs.declared.kind.NoticeKind.{NoticeKind}
 use Rattle.rtb_request.proofs.Distinct.{and_true}
 use Rattle.rtb_request.specs.declared.bid_request.BidRequest.{BidRequest}
@@ -19,10 +19,10 @@ use Rattle.day_rules.specs.Replies.{Call, ask, notice, tick, set_budget}
 use Rattle.day_rules.specs.Runs.{IsCall}
 use Rattle.deal_floor.specs.declared.campaign.Campaign.{Campaign}
 use Rattle.deal_floor.specs.declared.roster.Roster.{Roster}
-use Rattle.ask_making.specs.Making.{bids_of, all_bids, offer_of, kept_of, ask_of}
-use Rattle.ask_making.specs.Parts.{AreOf}
-use Rattle.ask_making.proofs.Formed.{well_formed, undecided}
-use Rattle.ask_making.proofs.Taking.{count_is}
+use Rattle.script_lines.specs.Making.{bids_of, all_bids, offer_of, kept_of, ask_of}
+use Rattle.script_lines.specs.Parts.{AreOf}
+use Rattle.script_lines.proofs.Formed.{well_formed, undecided}
+use Rattle.script_lines.proofs.Taking.{count_is}
 use Rattle.script_lines.specs.Changes.{change_by, change_in, pair_place}
 use Rattle.script_lines.specs.Members.{answers_in, is_null_or_object, ask_moment, change_number, from_one, moment_in}
 use Rattle.script_lines.specs.Meanings.{Meaning, calls, refused, GivesAnswer, RequestMeans, AskMeans, MeansBy, LineMeans, change_meaning, notice_meaning, tick_meaning}

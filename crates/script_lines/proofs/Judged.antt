@@ -1,6 +1,6 @@
 -- Tests that all hold, one by one.
 use Rattle.std.proofs.Common.{◌≡◌, ℕ, zero, suc, List, [], ◌∷◌, ◌++◌, Bool, true, false, cond, Option, Some, None, refl, ap, ◌∙◌}
-use Rattle.tree_view.specs.Checks.{Check, first_fault}
+use Rattle.adx_json.specs.Checks.{Check, first_fault}
 
 holds_if : {F : Type 0} (b : Bool) (f : F) (r : Option F) → cond b r (Some f) ≡ None → (b ≡ true) × (r ≡ None)
 holds_if true f r h = (refl, h)

@@ -10,3 +10,6 @@ pub mod SomeRoster
 pub mod SomeMeaning
 pub mod BidsFit
 pub mod CallsTaken
+pub mod Turned
+pub mod Taking
+pub mod Formed

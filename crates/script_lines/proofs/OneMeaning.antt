@@ -16,7 +16,7 @@ use Rattle.day_rules.specs.Replies.{ask, notice, tick, set_budget}
 use Rattle.deal_floor.specs.Rosters.{roster_in}
 use Rattle.deal_floor.specs.Seen.{seen_roster}
 use Rattle.deal_floor.specs.declared.roster.Roster.{Roster}
-use Rattle.ask_making.specs.Making.{ask_of}
+use Rattle.script_lines.specs.Making.{ask_of}
 use Rattle.script_lines.specs.Meanings.{Meaning, calls, refused, GivesAnswer, MakesAsk, RequestMeans, AskMeans, MeansBy, ValueMeans, LineMeans}
 use Rattle.script_lines.specs.Rosters.{IsRosterLine, RefusesRosterLine}
 use Rattle.script_lines.specs.declared.refusal.Refusal.TheVariants.{Json, Request}

@@ -8,7 +8,7 @@ use Rattle.adx_json.specs.Faults.{IsFault, IsFaultPlace, BeginsText, BeginsLevel
 use Rattle.adx_json.specs.Machine.{at_value}
 use Rattle.adx_json.specs.declared.fault.JsonFault.{JsonFault}
 use Rattle.adx_json.proofs.Judged.{reached_begins}
-use Rattle.tree_view.specs.Checks.{first_fault, judged_by}
+use Rattle.adx_json.specs.Checks.{first_fault, judged_by}
 use Rattle.rtb_request.specs.Requests.{request_checks, request_view}
 use Rattle.rtb_request.specs.declared.fault.RequestFault.{RequestFault}
 use Rattle.rtb_response.specs.Answers.{answer_checks, answer_view}
@@ -18,7 +18,7 @@ use Rattle.day_rules.specs.Replies.{ask}
 use Rattle.deal_floor.specs.Rosters.{roster_checks, roster_view}
 use Rattle.deal_floor.specs.declared.fault.RosterFault.{RosterFault}
 use Rattle.deal_floor.specs.declared.roster.Roster.{Roster}
-use Rattle.ask_making.specs.Making.{ask_of}
+use Rattle.script_lines.specs.Making.{ask_of}
 use Rattle.script_lines.specs.Meanings.{Meaning, calls, refused, GivesAnswer, RequestMeans, AskMeans, MeansBy, ValueMeans, LineMeans}
 use Rattle.script_lines.specs.Rosters.{IsRosterLine, RefusesRosterLine}
 use Rattle.script_lines.specs.declared.refusal.Refusal.TheVariants.{Json, NoCall, Request}

@@ -4,11 +4,11 @@ use Rattle.std.proofs.Math.Seq.{append_snoc}
 use Rattle.std.proofs.lemmas.Bool.{leb-true}
 use Rattle.std.proofs.lemmas.List.{length-map}
 use Rattle.adx_json.specs.Tree.{Tree}
-use Rattle.tree_view.specs.Checks.{first_fault}
-use Rattle.tree_view.specs.Values.{given, text_in, text_or_empty, texts_in, is_number_text}
+use Rattle.adx_json.specs.Checks.{first_fault}
+use Rattle.adx_json.specs.Values.{given, text_in, text_or_empty, texts_in, is_number_text}
 use Rattle.rtb_request.specs.Amounts.{floor_in, units_or_zero}
 use Rattle.rtb_request.specs.Deals.{DealView, deal_view, deal_ids, is_in_dollars, with_deal, with_deals}
-use Rattle.name_sets.specs.Among.{is_among}
+use Rattle.adx_units.specs.Among.{is_among}
 use Rattle.rtb_request.specs.Distinct.{all_distinct}
 use Rattle.rtb_request.specs.Imps.{ImpView, imp_view, imp_id, imp_deals, imp_checks, imps_checks}
 use Rattle.rtb_request.specs.Requests.{request_checks, request_imps, request_view, takes_dollars}

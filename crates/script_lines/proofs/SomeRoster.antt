@@ -7,9 +7,9 @@ use Rattle.std.specs.Option.{unwrap_or}
 use Rattle.adx_json.specs.Tree.{Tree}
 use Rattle.adx_json.specs.Named.{member_in}
 use Rattle.adx_units.specs.Number.{begins_with}
-use Rattle.tree_view.specs.Checks.{first_fault}
-use Rattle.tree_view.specs.Values.{text_in, or_empty}
-use Rattle.name_sets.specs.Among.{is_among}
+use Rattle.adx_json.specs.Checks.{first_fault}
+use Rattle.adx_json.specs.Values.{text_in, or_empty}
+use Rattle.adx_units.specs.Among.{is_among}
 use Rattle.rtb_request.specs.Distinct.{all_distinct}
 use Rattle.rtb_request.proofs.Distinct.{distinct_more}
 use Rattle.deal_floor.specs.Forms.{is_date, is_date_text, is_path, is_path_if_given, text_or, member_within}

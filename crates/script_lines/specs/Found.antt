@@ -23,6 +23,7 @@ call_of (ScriptLine.Notice n) = notice n.kind n.auction n.award
 call_of (ScriptLine.Tick now) = tick now
 call_of (ScriptLine.Budget change) = set_budget (change_told change)
 
+-- the meaning of a line that was found
 abbrev pub meaning_of : ScriptLine → Meaning
 meaning_of found = calls (call_of found)
 
@@ -32,6 +33,7 @@ Finds meaning Means (Ok found) = Means (meaning found)
 Finds meaning Means (Err (LineFault.Refused why)) = Means (refused why)
 Finds meaning Means (Err LineFault.OutOfMemory) = Unit {0}
 
+-- what was found of a line of a roster's day is what the line means
 abbrev pub FindsLine : Roster → List ℕ → Result ScriptLine LineFault → Type 0
 FindsLine r line result = Finds meaning_of (LineMeans r line) result
 

@@ -4,3 +4,6 @@ pub mod Meanings
 pub mod Rosters
 pub mod Found
 pub mod Whys
+pub mod Refusals
+pub mod Making
+pub mod Parts

@@ -6,7 +6,7 @@ use Rattle.adx_json.specs.Grammar.{IsJson}
 use Rattle.adx_json.specs.Faults.{IsFault}
 use Rattle.adx_json.specs.Named.{member_in}
 use Rattle.adx_json.specs.declared.fault.JsonFault.{JsonFault}
-use Rattle.tree_view.specs.Values.{number_in, text_in}
+use Rattle.adx_json.specs.Values.{number_in, text_in}
 use Rattle.rtb_request.specs.Requests.{request_in}
 use Rattle.rtb_request.specs.Seen.{seen_request}
 use Rattle.rtb_request.specs.declared.bid_request.BidRequest.{BidRequest}
@@ -20,7 +20,7 @@ use Rattle.deal_floor.specs.declared.roster.Roster.{Roster}
 use Rattle.day_rules.specs.declared.ask.Ask.{Ask}
 use Rattle.day_rules.specs.Entries.{BudgetChange}
 use Rattle.day_rules.specs.Replies.{Call, ask, notice, tick, set_budget}
-use Rattle.ask_making.specs.Making.{ask_of}
+use Rattle.script_lines.specs.Making.{ask_of}
 use Rattle.script_lines.specs.Changes.{change_in}
 use Rattle.script_lines.specs.Members.{answers_in, ask_moment, moment_in, kind_in, award_in}
 use Rattle.script_lines.specs.declared.refusal.Refusal.{Refusal}
@@ -69,6 +69,7 @@ abbrev pub tick_meaning : Option ℕ → Meaning
 tick_meaning None = refused NoCall
 tick_meaning (Some moment) = calls (tick moment)
 
+-- a change of a budget, or that the line is no call
 abbrev pub change_meaning : Option BudgetChange → Meaning
 change_meaning None = refused NoCall
 change_meaning (Some change) = calls (set_budget change)

@@ -1,10 +1,12 @@
 -- What the members of a script line say. Such a line is an object (RFC 8259) of one of four kinds; a member that is
 -- null is there and isn't of its form; further members are ignored. This project's own.
+-- Example: `{"tick":60}`, also with blanks or further members, is a tick at 60; `{"tick":"60"}` is none, and is
+-- refused with `call`.
 use Rattle.std.specs.Prelude.{ℕ, List, [], length, Bool, true, false, nat_le, ◌&&◌, ◌==◌, if◌then◌else◌, codes, Option, Some, None}
 use Rattle.std.specs.List.{list_all}
 use Rattle.std.specs.Str.{bytes_eq}
 use Rattle.adx_json.specs.Tree.{Tree, null, boolean, number, text, list, object}
-use Rattle.tree_view.specs.Values.{list_items, text_in, number_in, whole_by}
+use Rattle.adx_json.specs.Values.{list_items, text_in, number_in, whole_by}
 use Rattle.notice_book.specs.declared.kind.NoticeKind.{NoticeKind}
 use Rattle.script_lines.specs.declared.limits.TheConstants.{LATEST_MOMENT, LAST_AWARD, LAST_CHANGE}
 
@@ -47,10 +49,12 @@ kind_named word =
     else (if bytes_eq word (codes "bill") then Some NoticeKind.Bill
     else (if bytes_eq word (codes "loss") then Some NoticeKind.Loss else None))
 
+-- the kind that a word names
 abbrev pub kind_by : Option (List ℕ) → Option NoticeKind
 kind_by None = None
 kind_by (Some word) = kind_named word
 
+-- the kind that a member names
 abbrev pub kind_in : Tree → Option NoticeKind
 kind_in t = kind_by (text_in (Some t))
 

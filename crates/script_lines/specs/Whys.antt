@@ -32,6 +32,7 @@ why_of (Refusal.Json fault) = json_why fault
 why_of Refusal.NoCall = codes "call"
 why_of (Refusal.Request fault) = request_why fault
 
+-- why a roster is refused by one of its members
 abbrev pub member_why : RosterFault → List ℕ
 member_why (RosterFault.BadField field) = codes "field " ++ roster_member field
 member_why (RosterFault.Repeated index) = codes "repeated " ++ decimal index

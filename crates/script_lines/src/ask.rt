@@ -8,11 +8,11 @@ ghost use Rattle.script_lines.specs.Meanings.{AskMeans, GivesAnswer};
 ghost use Rattle.script_lines.specs.Found.{FindsAsk, FindsRequest};
 ghost use Rattle.deal_floor.specs.Reading.{given};
 
+use crate::making::make_ask;
 use crate::members::{LineMembers, answers_in, ask_moment};
 use crate::refusal::{LineFault, Refusal};
 use adx_json::Json;
 use adx_units::{Id, OutOfMemory};
-use ask_making::make_ask;
 use day_rules::Ask;
 use deal_floor::Roster;
 use rtb_request::{BidRequest, RequestFault};

@@ -2,16 +2,15 @@
 ghost use Rattle.std.specs.Prelude.{◌≡◌, option_map, IfSome, length};
 ghost use Rattle.day_rules.specs.Replies.{set_budget};
 ghost use Rattle.day_rules.specs.Runs.{IsCall};
-ghost use Rattle.tree_view.specs.Values.{number_in as number_by, text_in as text_by};
+ghost use Rattle.adx_json.specs.Values.{number_in as number_by, text_in as text_by};
 ghost use Rattle.script_lines.specs.Changes.{change_in, change_named, change_told, pair_place};
 ghost use Rattle.script_lines.specs.Members.{change_number as change_number_by};
 ghost use Rattle.deal_floor.specs.Reading.{given};
 
 use crate::limits::LAST_CHANGE;
-use adx_json::Json;
+use adx_json::{Json, number_in, text_in};
 use adx_units::{Units, budget_of, whole_up_to};
 use deal_floor::Roster;
-use tree_view::{number_in, text_in};
 
 /// A change of a campaign's budget, as a line gives it.
 #[derive(Clone, Copy, Debug, PartialEq, Eq)]

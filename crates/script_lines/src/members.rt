@@ -2,15 +2,14 @@
 ghost use Rattle.std.specs.Prelude.{◌≡◌, ◌≤◌, length, option_map, codes, IfSome};
 ghost use Rattle.adx_json.specs.Named.{member_in};
 ghost use Rattle.adx_json.specs.View.{tree_of, trees_of};
-ghost use Rattle.tree_view.specs.Values.{number_in as number_by, whole_by};
+ghost use Rattle.adx_json.specs.Values.{number_in as number_by, whole_by};
 ghost use Rattle.script_lines.specs.Members.{answers_in as answers_by, ask_moment as ask_moment_by, is_null_or_object, is_null_or_object as is_null_or_object_by};
 ghost use Rattle.std.specs.List.{list_all};
 ghost use Rattle.deal_floor.specs.Reading.{given};
 
 use crate::limits::LATEST_MOMENT;
-use adx_json::Json;
+use adx_json::{Json, find_members, items_in, number_in};
 use adx_units::whole_up_to;
-use tree_view::{items_in, members_in, met, number_in};
 
 /// The members of a line that its kinds know, in one walk.
 #[derive(Clone, Copy)]
@@ -42,30 +41,28 @@ pub(crate) fn line_members(value: &Json) -> LineMembers<'_>
     ensures cid { given result.cid ≡ member_in (codes "cid") (tree_of value.now) }
     ensures change { given result.change ≡ member_in (codes "change") (tree_of value.now) }
 {
-    let mut ask: Option<&Json> = None;
-    let mut answers: Option<&Json> = None;
-    let mut now: Option<&Json> = None;
-    let mut notice: Option<&Json> = None;
-    let mut auction: Option<&Json> = None;
-    let mut bid: Option<&Json> = None;
-    let mut tick: Option<&Json> = None;
-    let mut budget: Option<&Json> = None;
-    let mut seat: Option<&Json> = None;
-    let mut cid: Option<&Json> = None;
-    let mut change: Option<&Json> = None;
-    for member in members_in(value) {
-        ask = met(ask, "ask", member);
-        answers = met(answers, "answers", member);
-        now = met(now, "now", member);
-        notice = met(notice, "notice", member);
-        auction = met(auction, "auction", member);
-        bid = met(bid, "bid", member);
-        tick = met(tick, "tick", member);
-        budget = met(budget, "budget", member);
-        seat = met(seat, "seat", member);
-        cid = met(cid, "cid", member);
-        change = met(change, "change", member);
-    }
+    let mut found = [None; 11];
+    find_members(
+        Some(value),
+        &[
+            "ask", "answers", "now", "notice", "auction", "bid", "tick", "budget", "seat", "cid",
+            "change",
+        ],
+        &mut found,
+    );
+    let [
+        ask,
+        answers,
+        now,
+        notice,
+        auction,
+        bid,
+        tick,
+        budget,
+        seat,
+        cid,
+        change,
+    ] = found;
     LineMembers {
         ask,
         answers,

@@ -1,7 +1,7 @@
 //! Notices of a script.
 ghost use Rattle.std.specs.Prelude.{◌≡◌, IfOk};
 ghost use Rattle.adx_json.specs.View.{tree_of};
-ghost use Rattle.tree_view.specs.Values.{text_in as text_by};
+ghost use Rattle.adx_json.specs.Values.{text_in as text_by};
 ghost use Rattle.script_lines.specs.Members.{kind_named as kind_by_word, kind_in, award_in};
 ghost use Rattle.script_lines.specs.Meanings.{notice_meaning};
 ghost use Rattle.script_lines.specs.Found.{meaning_of_notice};
@@ -9,11 +9,10 @@ ghost use Rattle.deal_floor.specs.Reading.{given};
 
 use crate::limits::LAST_AWARD;
 use crate::members::whole_in;
-use adx_json::Json;
+use adx_json::{Json, text_in};
 use adx_units::{OutOfMemory, Text};
 use notice_book::NoticeKind;
 use std::alloc::Global;
-use tree_view::text_in;
 
 /// A notice of an award, as a line gives it.
 #[derive(Debug, Drop)]

@@ -24,7 +24,7 @@ use Rattle.day_rules.proofs.Within.{committed_ask, sale_charge}
 use Rattle.deal_floor.specs.declared.campaign.Campaign.{Campaign}
 use Rattle.bid_record.specs.declared.rows.CampaignRow.{CampaignRow}
 use Rattle.bid_record.specs.declared.rows.ImpRow.{ImpRow}
-use Rattle.hindsight.specs.Assignments.{picked_charge}
+use Rattle.dual_cert.specs.Assignments.{picked_charge}
 use Rattle.day_close.specs.Choosing.{choice_of, is_unchanged, keeps_award, taken_in}
 use Rattle.served_record.specs.Days.{IsHistoryOf, budgets_of, campaign_rows}
 use Rattle.served_record.specs.Served.{chosen_of, impression_of}

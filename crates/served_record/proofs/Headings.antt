@@ -5,7 +5,7 @@ use Rattle.std.proofs.lemmas.List.{drop_more, length-map}
 use Rattle.std.proofs.lemmas.Slice.Eq.{bytes_eq-Decides}
 use Rattle.adx_units.specs.Number.{is_digit}
 use Rattle.adx_units.specs.declared.units.Units.{Units}
-use Rattle.day_form.specs.Days.{is_day, zeroed}
+use Rattle.formats.specs.Days.{is_day, zeroed}
 use Rattle.bid_record.specs.Records.{Differ, IsCampaign}
 use Rattle.bid_record.specs.declared.rows.CampaignRow.{CampaignRow}
 use Rattle.campaign_book.specs.Accounts.{IsBudget}

@@ -11,7 +11,7 @@ use Rattle.bid_record.specs.declared.rows.ImpName.{ImpName}
 use Rattle.bid_record.specs.declared.rows.ImpRow.{ImpRow}
 use Rattle.bid_record.specs.Records.{IsImp}
 use Rattle.bid_record.specs.Refusals.{AreSame}
-use Rattle.hindsight.specs.Assignments.{impressions_of}
+use Rattle.dual_cert.specs.Assignments.{impressions_of}
 use Rattle.served_record.specs.Served.{IsRecordOf, ends_of, has_chosen}
 use Rattle.served_record.proofs.Told.{IsEnded}
 

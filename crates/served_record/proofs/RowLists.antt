@@ -20,7 +20,7 @@ use Rattle.day_rules.proofs.Lists.{get-append_left, get-append_right}
 use Rattle.bid_record.specs.declared.rows.Charge.{Charge}
 use Rattle.bid_record.specs.declared.rows.ImpRow.{ImpRow}
 use Rattle.bid_record.specs.Records.{IsCharge}
-use Rattle.hindsight.specs.Assignments.{no_charge}
+use Rattle.dual_cert.specs.Assignments.{no_charge}
 use Rattle.served_record.specs.Served.{admitted, charge_of, chosen_of, each_in, each_of, end_told, impression_of, is_admitted, is_awarded, name_of}
 use Rattle.served_record.specs.Steps.{IsNamed, end_at, imps_of, is_award, row_by, rows_by, rows_for, rows_in, sold_by, sold_for, sold_in, sold_of}
 use Rattle.served_record.proofs.Asked.{AskIsSettled, IsSettled, awarded_admitted}

@@ -19,8 +19,8 @@ use Rattle.day_rules.specs.Books.{awarded_offers, committed}
 use Rattle.day_rules.specs.Laws.{StandsSettled}
 use Rattle.day_rules.specs.Terms.{Terms, budgets_after}
 use Rattle.bid_record.specs.declared.rows.CampaignRow.{CampaignRow}
-use Rattle.discount_table.specs.Discount.{discount, slab_of}
-use Rattle.hindsight.specs.Assignments.{charge_for, no_charge, picked_charge}
+use Rattle.campaign_book.specs.Discount.{discount, slab_of}
+use Rattle.dual_cert.specs.Assignments.{charge_for, no_charge, picked_charge}
 use Rattle.day_close.specs.Choosing.{budget_at, choice_of, fits, is_greatest, weight_of}
 use Rattle.served_record.proofs.Campaigns.{row_budgets}
 use Rattle.served_record.specs.Served.{admitted, charge_of, chosen_of, impression_of, is_admitted, is_awarded}

@@ -10,7 +10,7 @@ use Rattle.day_rules.proofs.Within.{held}
 use Rattle.bid_record.specs.declared.rows.Charge.{Charge}
 use Rattle.bid_record.specs.declared.rows.End.{End}
 use Rattle.bid_record.specs.declared.rows.ImpRow.{ImpRow}
-use Rattle.hindsight.specs.Assignments.{charge_for, no_charge, picked_charge}
+use Rattle.dual_cert.specs.Assignments.{charge_for, no_charge, picked_charge}
 use Rattle.day_close.specs.Closing.{money_in, row_money, takes_money}
 use Rattle.served_record.specs.Served.{end_told, ends_of, has_chosen}
 use Rattle.served_record.proofs.Awards.{award_charge}

@@ -20,7 +20,7 @@ use Rattle.bid_record.specs.declared.rows.CampaignRow.{CampaignRow}
 use Rattle.bid_record.specs.declared.rows.ImpRow.{ImpRow}
 use Rattle.bid_record.specs.Records.{IsImp, IsSound}
 use Rattle.bid_record.proofs.CampaignLines.{of_none, of_some}
-use Rattle.hindsight.specs.Assignments.{Assignment, Impression, assigned, earned, impressions_of}
+use Rattle.dual_cert.specs.Assignments.{Assignment, Impression, assigned, earned, impressions_of}
 use Rattle.day_close.specs.Closing.{money_in}
 use Rattle.served_record.specs.Days.{IsHeading, IsHistoryOf, budgets_of, campaign_rows}
 use Rattle.served_record.specs.Served.{IsRecordOf, chosen_of, each_in, earned_in, end_told, ends_of, impression_of, impressions_in, name_of}

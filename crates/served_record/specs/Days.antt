@@ -9,7 +9,7 @@ use Rattle.day_rules.specs.declared.limits.DayLimits.{DayLimits}
 use Rattle.day_rules.specs.DayState.{IsDay}
 use Rattle.day_rules.specs.Entries.{budgeted}
 use Rattle.day_rules.specs.Terms.{Terms, budget_after, terms_of}
-use Rattle.day_form.specs.Days.{is_day}
+use Rattle.formats.specs.Days.{is_day}
 use Rattle.bid_record.specs.declared.rows.CampaignRow.{CampaignRow}
 use Rattle.bid_record.specs.Records.{Differ, IsCampaign}
 
@@ -31,6 +31,7 @@ campaign_row history p = record {
   changes = Some (changes_in history p.0);
 }
 
+-- and all of them
 abbrev pub campaign_rows : List Campaign → List Entry → List CampaignRow
 campaign_rows campaigns history = map (campaign_row history) (enumerate_from 0 campaigns)
 

@@ -20,7 +20,7 @@ use Rattle.bid_record.specs.declared.rows.End.{End}
 use Rattle.bid_record.specs.declared.rows.End.TheVariants.{Live, Billed, Lost, Expired}
 use Rattle.bid_record.specs.declared.rows.ImpName.{ImpName}
 use Rattle.bid_record.specs.declared.rows.ImpRow.{ImpRow}
-use Rattle.hindsight.specs.Assignments.{Assignment, Impression, assigned, impressions}
+use Rattle.dual_cert.specs.Assignments.{Assignment, Impression, assigned, impressions}
 use Rattle.day_close.specs.Closing.{money_in}
 use Rattle.served_record.specs.Days.{campaign_rows}
 
@@ -40,6 +40,7 @@ charge_of o = record { campaign = o.campaign; charge = o.charge }
 abbrev pub impression_of : Ask → ℕ → Impression
 impression_of a imp = map charge_of (admitted imp a.offers)
 
+-- the offer won
 abbrev pub is_awarded : Offer → Bool
 is_awarded o = o.reason == AWARDED
 
@@ -64,12 +65,15 @@ abbrev pub impressions_in : List Entry → List Impression
 impressions_in history = each_in impression_of history
 
 -- how a record tells the end of an award: an award without an end is live
+-- Example: of four impressions with chosen places 0, none, 1, 0 the ends `billed`, `-`, `expired`, `live` are
+-- those of awards 0, 1 and 2
 abbrev pub end_told : Option AwardEnd → End
 end_told None = Live
 end_told (Some AwardEnd.Billed) = Billed
 end_told (Some AwardEnd.Lost) = Lost
 end_told (Some AwardEnd.Expired) = Expired
 
+-- an offer of the impression won
 abbrev pub has_chosen : ImpRow → Bool
 has_chosen row = is_some row.chosen
 

@@ -1,7 +1,7 @@
 //! A day that was served, as an auditor gets it.
 ghost use Rattle.std.specs.Prelude.{◌≡◌, ◌≤◌, IfOk, IsTrue};
-ghost use Rattle.hindsight.specs.Assignments.{Assignment};
-ghost use Rattle.hindsight.specs.Certificates.{IsCertificate};
+ghost use Rattle.dual_cert.specs.Assignments.{Assignment};
+ghost use Rattle.dual_cert.specs.Certificates.{IsCertificate};
 ghost use Rattle.day_close.specs.Choosing.{IsChosenByRule, is_undisturbed};
 ghost use Rattle.day_close.specs.Closing.{IsClosing, IsWithinBudgets};
 ghost use Rattle.served_record.specs.Days.{IsHistoryOf};

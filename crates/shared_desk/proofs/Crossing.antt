@@ -13,14 +13,14 @@ use Rattle.adx_io.specs.contracts.memory_disk.MemoryDiskDisk.TheImpl as memory
 use Rattle.adx_io.proofs.memory_disk.MemoryDisk.TheSendSync as memory_disk
 use Rattle.adx_io.proofs.frame.Frame.TheSendSync as frame
 use Rattle.day_rules.proofs.entry.Entry.TheSendSync as entry
-use Rattle.meter_steps.proofs.step.MeterStep.TheSendSync as step
+use Rattle.day_rules.proofs.step.MeterStep.TheSendSync as step
 use Rattle.day_journal.proofs.journal.Journal.TheSendSync as journal
 use Rattle.day_machine.proofs.ledger.Ledger.TheSendSync as ledger
 use Rattle.day_machine.proofs.changes.Changes.TheSendSync as changes
 use Rattle.day_machine.specs.contracts.day.Day as Day
 use Rattle.day_machine.specs.contracts.day.Day.TheInside as in_day
-use Rattle.metered_day.specs.contracts.metered.MeteredDay as Metered
-use Rattle.metered_day.specs.contracts.metered.MeteredDay.TheInside as in_metered
+use Rattle.day_machine.specs.contracts.metered.MeteredDay as Metered
+use Rattle.day_machine.specs.contracts.metered.MeteredDay.TheInside as in_metered
 use Rattle.adx_desk.specs.contracts.journaled_day.JournaledDay as Journaled
 use Rattle.adx_desk.specs.contracts.journaled_day.JournaledDay.TheInside as in_journaled
 use Rattle.adx_desk.specs.contracts.desk.Desk as Desk

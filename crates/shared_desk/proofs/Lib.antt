@@ -3,3 +3,5 @@ pub mod Passing
 pub mod Together
 pub mod Crossing
 pub mod Steps
+pub mod Taken
+mod PassSteps

@@ -1,7 +1,7 @@
 -- What a turn at the turnstile makes of a pass, as a call of the desk tells it.
 use Rattle.std.proofs.Common.{◌≡◌, ℕ, List, [], ◌∷◌, ◌++◌, Option, Some, None, refl, sym, ◌∙◌, ap, subst, length, append-nil}
 use Rattle.std.specs.Prelude.{IsSome, IsSomeAnd, IfErr, IfOk, OnErr, OnOk, Result, Ok, Err, ⊤}
-use Rattle.notice_batches.specs.Batches.{BatchState}
+use Rattle.day_machine.specs.Batches.{BatchState}
 use Rattle.shared_desk.specs.declared.batching.RanTogether.{RanTogether}
 use Rattle.day_rules.specs.declared.answer.Answer.{Answer}
 use Rattle.day_rules.specs.declared.entry.Entry.{Entry}

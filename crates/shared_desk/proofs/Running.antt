@@ -21,8 +21,8 @@ use Rattle.adx_desk.specs.Desks.{DeskState, OnDisk}
 use Rattle.adx_desk.specs.Endings.{EndsAsk, EndsNotice, PassesJournal, size_with}
 use Rattle.adx_desk.specs.Histories.{DeskTerms, longest_size}
 use Rattle.adx_desk.specs.Shared.{EndsAs, IsTurnAt, MayBeFull, TakesRoom, call_of, is_disk_fault, opened_with}
-use Rattle.notice_batches.specs.Held.{longest_held, longest_record}
-use Rattle.notice_batches.proofs.Sizes.{held_longest, record_longest}
+use Rattle.day_machine.specs.Held.{longest_held, longest_record}
+use Rattle.day_machine.proofs.Sizes.{held_longest, record_longest}
 use Rattle.turnstile.specs.Turns.{HasRisen, added_by, one_if, one_or_none}
 use Rattle.turnstile.specs.Places.{one_where}
 use Rattle.std.proofs.Common.{Bool, true, false}

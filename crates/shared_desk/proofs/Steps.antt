@@ -11,12 +11,12 @@ use Rattle.day_rules.specs.declared.entry.Entry.{Entry}
 use Rattle.day_rules.specs.DayState.{IsDay}
 use Rattle.day_rules.specs.Terms.{Terms}
 use Rattle.day_rules.proofs.Histories.{legal_front}
-use Rattle.meter_steps.specs.declared.meters.Meters.{Meters}
-use Rattle.meter_steps.specs.declared.step.MeterStep.{MeterStep}
-use Rattle.meter_steps.specs.Steps.{after, meters_of, no_meters, InRange, StayInRange}
-use Rattle.day_meters.specs.DayMeters.{step_of, steps_of}
-use Rattle.day_meters.proofs.StepLists.{steps_push}
-use Rattle.day_meters.proofs.Campaigns.{day_meters}
+use Rattle.day_rules.specs.declared.meters.Meters.{Meters}
+use Rattle.day_rules.specs.declared.step.MeterStep.{MeterStep}
+use Rattle.day_rules.specs.Steps.{after, meters_of, no_meters, InRange, StayInRange}
+use Rattle.day_rules.specs.DayMeters.{step_of, steps_of}
+use Rattle.day_rules.proofs.StepLists.{steps_push}
+use Rattle.day_rules.proofs.Campaigns.{day_meters}
 
 -- the steps of a beginning begin the steps
 pub steps_more : (before rest : List Entry) → IsPrefix (steps_of before) (steps_of (before ++ rest))

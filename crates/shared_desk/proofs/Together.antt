@@ -5,8 +5,8 @@ use Rattle.adx_io.specs.Streams.{last_count}
 use Rattle.day_rules.specs.declared.entry.Entry.{Entry}
 use Rattle.day_rules.specs.Laws.{Arrival, after_arrival, arrival_reply}
 use Rattle.day_rules.specs.Replies.{with_entry}
-use Rattle.notice_batches.specs.Batches.{BatchState, answers_in_turn, entries_in_turn}
-use Rattle.notice_batches.specs.Batches.{added_by as entries_in}
+use Rattle.day_machine.specs.Batches.{BatchState, answers_in_turn, entries_in_turn}
+use Rattle.day_machine.specs.Batches.{added_by as entries_in}
 use Rattle.adx_desk.specs.declared.fault.DeskFault.{DeskFault}
 use Rattle.adx_desk.specs.declared.turn.Turn.{Turn}
 use Rattle.adx_desk.specs.Desks.{DeskState, OnDisk}

@@ -7,14 +7,15 @@ use Rattle.day_rules.specs.declared.entry.Entry.{Entry}
 use Rattle.day_rules.specs.DayState.{IsDay}
 use Rattle.day_rules.specs.Laws.{Arrival, after_arrival, arrival_reply}
 use Rattle.day_rules.specs.Replies.{reply}
+use Rattle.day_rules.specs.RunBooks.{HasBooksAlong}
 use Rattle.adx_desk.specs.declared.done.Done.{Done}
 use Rattle.adx_desk.specs.declared.fault.DeskFault.{DeskFault}
 use Rattle.adx_desk.specs.declared.shared.OpenedWith.{OpenedWith}
 use Rattle.adx_desk.specs.declared.turn.Call.{Call}
 use Rattle.adx_desk.specs.declared.turn.Turn.{Turn}
 use Rattle.adx_desk.specs.Histories.{DeskTerms}
-use Rattle.notice_batches.specs.Batches.{BatchState, answers_in_turn}
-use Rattle.adx_desk.specs.Shared.{IsTurnAt, call_of, is_disk_fault, terms_in}
+use Rattle.day_machine.specs.Batches.{BatchState, answers_in_turn}
+use Rattle.adx_desk.specs.Shared.{IsTakenAt, IsTurnAt, call_of, is_disk_fault, terms_in}
 use Rattle.turnstile.specs.Turns.{AreAllRight, AreRight, HasRisen, Stand, added_by, placed}
 use Rattle.turnstile.specs.Places.{one_where}
 use Rattle.turnstile.specs.Passes.{IsSamePass, PassView}
@@ -54,6 +55,8 @@ raised_by ended = one_where (is_disk_fault ended)
 
 -- What a caller knows: the history that it has seen, the length of the history that it knows of, and the number of
 -- faults that it knows of. Of a desk of its own it knows all.
+-- Example: a pass that saw 3 entries bills an award while another thread added one: the history at the call has 4,
+-- its turn's length is 4, then it has seen 5
 pub record Caller : Type 0 where
   pub seen : List Entry
   pub known : ℕ
@@ -115,3 +118,6 @@ pub record IsRightPass (opened : OpenedWith) (p : DeskPass) : Type 0 where
   pub legal : IsDay (terms_in opened).day p.seen
   pub turns : AreAllRight (IsTurnAt (terms_in opened)) p.seen p.turns
   pub stand : Stand entry_of p.seen p.turns
+  -- the books of each front of its history, and what each turn leaves of the front that it is called at
+  pub books : HasBooksAlong (terms_in opened).day p.seen
+  pub taken : AreAllRight (IsTakenAt (terms_in opened)) p.seen p.turns

@@ -3,6 +3,7 @@ use Rattle.std.specs.Prelude.{◌≡◌, [], false}
 use Rattle.shared_desk.specs.Callers.{DeskPass}
 
 -- the pass was split from the first one of its desk, and has no turns
+-- Example: a pass that a worker is given before its first connection
 pub record IsIdle (first p : DeskPass) : Type 0 where
   pub turnstile : p.turnstile ≡ first.turnstile
   pub fixed : p.fixed ≡ first.fixed

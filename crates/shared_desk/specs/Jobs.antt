@@ -4,7 +4,7 @@ use Rattle.day_rules.specs.declared.ask.Ask.{Ask}
 use Rattle.day_rules.specs.declared.entry.Entry.{Entry}
 use Rattle.day_rules.specs.Laws.{Arrival}
 use Rattle.day_rules.specs.Replies.{with_entry}
-use Rattle.notice_batches.specs.Batches.{BatchState, answers_in_turn}
+use Rattle.day_machine.specs.Batches.{BatchState, answers_in_turn}
 use Rattle.turnstile.specs.Turns.{AreRight, HasRisen, added_by, faults_in}
 use Rattle.turnstile.specs.declared.limits.TheConstants.{MOST_ADDED}
 use Rattle.adx_desk.specs.Asked.{ask_for}

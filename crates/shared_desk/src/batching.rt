@@ -9,7 +9,7 @@ use crate::ran::as_it_is;
 use crate::shared_desk::SharedDesk;
 use adx_desk::{Desk, DeskFault};
 use adx_io::Disk;
-use notice_batches::Batch;
+use day_machine::Batch;
 use std::snapshot::Snapshot;
 use std::sync::Wait;
 use turnstile::{Job, Pass};

@@ -1,15 +1,15 @@
 //! The steps of a shared desk's entries, for the meters.
 ghost use Rattle.std.specs.Prelude.{◌≡◌, ◌≤◌, drop, length, take, IfOk};
 ghost use Rattle.turnstile.specs.Passes.{IsOf};
-ghost use Rattle.day_meters.specs.DayMeters.{steps_of};
-ghost use Rattle.meter_steps.specs.Steps.{StayInRange, meters_of};
+ghost use Rattle.day_rules.specs.DayMeters.{steps_of};
+ghost use Rattle.day_rules.specs.Steps.{StayInRange, meters_of};
 ghost use Rattle.shared_desk.specs.Callers.{Looks};
 
 use crate::shared_desk::SharedDesk;
 use adx_desk::Desk;
 use adx_io::Disk;
 use adx_units::OutOfMemory;
-use meter_steps::MeterStep;
+use day_rules::MeterStep;
 use std::alloc::Global;
 use std::sync::Wait;
 use turnstile::{Job, Pass};
@@ -24,8 +24,8 @@ struct Steps {
 
 impl<D: Disk> Job<Desk<D>> for Steps {
     ghost use Rattle.std.specs.Prelude.{◌≡◌, [], drop, take, IfOk, IsSomeAnd};
-    ghost use Rattle.day_meters.specs.DayMeters.{steps_of};
-    ghost use Rattle.meter_steps.specs.Steps.{StayInRange, meters_of};
+    ghost use Rattle.day_rules.specs.DayMeters.{steps_of};
+    ghost use Rattle.day_rules.specs.Steps.{StayInRange, meters_of};
 
     type Lent = ();
 

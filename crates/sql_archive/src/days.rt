@@ -1,9 +1,13 @@
 //! Rows read from the tables.
+ghost use Rattle.std.specs.Prelude.{◌≡◌};
+ghost use Rattle.sql_archive.specs.Counted.{IsCounted};
+
 use crate::broken::Broken;
+use crate::counted::Counted;
 use adx_units::{Id, Text, Units};
 use day_archive::DayRow;
 use formats::{is_done, wide_number};
-use sqlite::{Alter, Connection, Row, params};
+use sqlite::{Alter, Row, params};
 use std::alloc::Global;
 
 const FIND_CAMPAIGN: &str =
@@ -37,12 +41,27 @@ struct Head {
     imps: Option<u64>,
 }
 
-fn head_of<S: Alter>(conn: &mut Connection<S>, day: &str) -> Result<Head, Broken> {
-    let row = conn.query_row(FIND_HEAD, params![day])?;
+/// What a row of a day says.
+fn head_in(row: &Row) -> Result<Head, Broken> {
     Ok(Head {
-        bound: amount_at(&row, 0)?,
+        bound: amount_at(row, 0)?,
         imps: row.get(1)?,
     })
+}
+
+/// What the rows of a day have in common, of which there is one row.
+fn only_head(rows: &[Row]) -> Result<Head, Broken> {
+    match rows.first() {
+        Some(row) => head_in(row),
+        None => Err(Broken),
+    }
+}
+
+fn head_of<S: Alter>(conn: &mut Counted<S>, day: &str) -> Result<Head, Broken>
+    ensures { IsCounted conn.old.faults conn.new.faults result }
+{
+    let rows = conn.query(FIND_HEAD, params![day])?;
+    conn.counted(only_head(rows.as_slice()))
 }
 
 fn named(alloc: Global, name: &str) -> Result<Id, Broken> {
@@ -52,17 +71,16 @@ fn named(alloc: Global, name: &str) -> Result<Id, Broken> {
     }
 }
 
-/// A campaign's row as it stands in the tables.
-fn row_of<S: Alter>(
+/// A campaign's row as it stands in the tables, beside what it has in common with others of its day.
+fn row_in(
     alloc: Global,
-    conn: &mut Connection<S>,
     seat: &str,
     cid: &str,
+    day: String,
+    head: Head,
     row: &Row,
 ) -> Result<DayRow, Broken> {
-    let day: String = row.get(0)?;
     let budget: u64 = row.get(1)?;
-    let head = head_of(conn, day.as_str())?;
     Ok(DayRow {
         day: Text::from(day),
         seat: named(alloc, seat)?,
@@ -75,31 +93,100 @@ fn row_of<S: Alter>(
     })
 }
 
-/// The rows of a campaign from a first day to a last, in order of day.
-pub(crate) fn find_days<S: Alter>(
+/// The day of a row.
+pub(crate) fn day_at(row: &Row) -> Result<String, Broken> {
+    let day: String = row.get(0)?;
+    Ok(day)
+}
+
+/// A campaign's row as it stands in the tables.
+fn row_of<S: Alter>(
     alloc: Global,
-    conn: &mut Connection<S>,
+    conn: &mut Counted<S>,
     seat: &str,
     cid: &str,
-    first: &str,
-    last: &str,
-) -> Result<Vec<DayRow>, Broken> {
-    let found = conn.query_all(FIND_CAMPAIGN, params![seat, cid, first, last])?;
+    row: &Row,
+) -> Result<DayRow, Broken>
+    ensures { IsCounted conn.old.faults conn.new.faults result }
+{
+    let day = conn.counted(day_at(row))?;
+    let head = head_of(conn, day.as_str())?;
+    conn.counted(row_in(alloc, seat, cid, day, head, row))
+}
+
+/// A row put at the end, where memory isn't refused.
+fn push(rows: &mut Vec<DayRow>, row: DayRow) -> Result<(), Broken> {
+    rows.push(row)?;
+    Ok(())
+}
+
+/// The rows of a campaign that were found.
+fn rows_of<S: Alter>(
+    alloc: Global,
+    conn: &mut Counted<S>,
+    seat: &str,
+    cid: &str,
+    found: &[Row],
+) -> Result<Vec<DayRow>, Broken>
+    ensures { IsCounted conn.old.faults conn.new.faults result }
+{
     let mut rows = Vec::new(alloc);
-    for row in found.as_slice() {
-        rows.push(row_of(alloc, conn, seat, cid, row)?)?;
+    for row in found {
+        let row = row_of(alloc, conn, seat, cid, row)?;
+        conn.counted(push(&mut rows, row))?;
     }
     Ok(rows)
 }
 
-/// The greatest day.
-pub(crate) fn find_last<S: Alter>(conn: &mut Connection<S>) -> Result<Option<Text>, Broken> {
-    let found = conn.query_all(FIND_LAST, &[])?;
-    match found.first() {
-        Some(row) => {
-            let day: String = row.get(0)?;
-            Ok(Some(Text::from(day)))
-        }
+/// Which rows of a campaign are looked for: from a first day to a last, both included.
+#[derive(Clone, Copy)]
+pub(crate) struct Range<'a> {
+    pub(crate) seat: &'a str,
+    pub(crate) cid: &'a str,
+    pub(crate) first: &'a str,
+    pub(crate) last: &'a str,
+}
+
+/// The rows of a campaign, in order of day, read in one transaction.
+fn days_in<S: Alter>(
+    alloc: Global,
+    conn: &mut Counted<S>,
+    range: Range<'_>,
+) -> Result<Vec<DayRow>, Broken>
+    ensures { IsCounted conn.old.faults conn.new.faults result }
+{
+    let found = conn.query(
+        FIND_CAMPAIGN,
+        params![range.seat, range.cid, range.first, range.last],
+    )?;
+    rows_of(alloc, conn, range.seat, range.cid, found.as_slice())
+}
+
+/// The rows of a campaign, in order of day.
+pub(crate) fn find_days<S: Alter>(
+    alloc: Global,
+    conn: &mut Counted<S>,
+    range: Range<'_>,
+) -> Result<Vec<DayRow>, Broken>
+    ensures { IsCounted conn.old.faults conn.new.faults result }
+{
+    conn.begin()?;
+    let answer = days_in(alloc, conn, range);
+    conn.ended(answer)
+}
+
+/// The day of the first row, where there is one.
+fn first_day(rows: &[Row]) -> Result<Option<Text>, Broken> {
+    match rows.first() {
+        Some(row) => Ok(Some(Text::from(day_at(row)?))),
         None => Ok(None),
     }
+}
+
+/// The greatest day.
+pub(crate) fn find_last<S: Alter>(conn: &mut Counted<S>) -> Result<Option<Text>, Broken>
+    ensures { IsCounted conn.old.faults conn.new.faults result }
+{
+    let found = conn.query(FIND_LAST, &[])?;
+    conn.counted(first_day(found.as_slice()))
 }

@@ -31,6 +31,7 @@ AreAllOnce a b ps = (p : ℕ) → times p ps ≡ within a b p
 abbrev pub longer : {I : Type 0} → List I → List I → List I
 longer xs ys = if leb (length xs) (length ys) then ys else xs
 
+-- the greater of two numbers
 abbrev pub greater : ℕ → ℕ → ℕ
 greater a b = max a b
 

@@ -6,8 +6,8 @@ use Rattle.std.specs.Result.{result_ok}
 use Rattle.std.proofs.lemmas.List.Elements.{All-append, All-cons, All-head, All-map, All-nil, All-tail, All-take}
 use Rattle.adx_json.specs.Tree.{Tree, items_of}
 use Rattle.adx_units.specs.declared.offer.Offer.{Offer}
-use Rattle.tree_view.specs.Checks.{judged_by, first_fault}
-use Rattle.tree_view.specs.Values.{list_items}
+use Rattle.adx_json.specs.Checks.{judged_by, first_fault}
+use Rattle.adx_json.specs.Values.{list_items}
 use Rattle.rtb_request.specs.declared.bid_request.BidRequest.{BidRequest}
 use Rattle.rtb_request.specs.declared.bid_request.TheConstants.{MOST_IMPS}
 use Rattle.rtb_request.specs.declared.imp.Imp.{Imp}
@@ -19,7 +19,7 @@ use Rattle.rtb_response.specs.declared.bid_answer.BidAnswer.{BidAnswer}
 use Rattle.rtb_response.specs.declared.bid_answer.SeatBid.{SeatBid}
 use Rattle.rtb_response.specs.declared.fault.AnswerFault.{AnswerFault}
 use Rattle.deal_floor.specs.declared.campaign.Campaign.{Campaign}
-use Rattle.ask_making.specs.Making.{SeatedBid, all_bids, ask_of, bids_of, bids_of_seat, kept_of, seated}
+use Rattle.script_lines.specs.Making.{SeatedBid, all_bids, ask_of, bids_of, bids_of_seat, kept_of, seated}
 use Rattle.day_rules.specs.Asks.{is_winners, may_be_told, settled, settled_kept, stays, texts_of_loss}
 use Rattle.day_rules.specs.Replies.{Reply, ask_reply, ask_reply_by, asks_with, bids_with, full, sale_reply, seen_in, settled_reply, text_with}
 use Rattle.day_rules.specs.Terms.{Terms}

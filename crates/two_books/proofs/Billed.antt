@@ -28,9 +28,9 @@ use Rattle.outbox.specs.Calls.{IsValidAs, call_of}
 use Rattle.outbox.specs.Posts.{values_of}
 use Rattle.outbox.specs.declared.calling.Call.{Call}
 use Rattle.outbox.specs.declared.post.Post.{Post}
-use Rattle.own_messages.specs.OwnMessages.{BeginWith, notice_of, notice_put}
-use Rattle.own_messages.proofs.Heard.{own_messages}
-use Rattle.own_notices.specs.OwnNotices.{HasPrice, IsUnmarked}
+use Rattle.two_books.specs.OwnMessages.{BeginWith, notice_of, notice_put}
+use Rattle.two_books.proofs.Heard.{own_messages}
+use Rattle.two_books.specs.OwnNotices.{HasPrice, IsUnmarked}
 use Rattle.url.proofs.HostLemmas.{none_from_list_any}
 use Rattle.two_books.specs.Delivering.{IsCarried, carried_on, carried_over}
 use Rattle.two_books.specs.Holding.{IsBilled, IsCharge, IsLedgerOf, IsOwnEntry, IsSent}

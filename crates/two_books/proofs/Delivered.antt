@@ -23,7 +23,7 @@ use Rattle.bidder_http.specs.Messages.{AnswersAt, AnswersMethod, BidderAnswers, 
 use Rattle.bidder_http.specs.Notices.{TellsNotice, notice_in}
 use Rattle.bidder_http.specs.Pages.{is_get, is_post, page_at}
 use Rattle.bidder_http.specs.declared.page.Page.{Page}
-use Rattle.own_messages.specs.OwnMessages.{BeginWith, notice_at, notice_of}
+use Rattle.two_books.specs.OwnMessages.{BeginWith, notice_at, notice_of}
 use Rattle.two_books.specs.Playing.{Delivers, completes}
 use Rattle.two_books.specs.Delivering.{IsCarried, IsDelivered, IsHeard, IsReplied, StopsDelivering, carried_on, carried_over}
 

@@ -9,15 +9,16 @@ use Rattle.bidder_core.specs.declared.ledger.LedgerRow.{LedgerRow}
 use Rattle.bidder_core.specs.declared.price_line.PriceLine.{PriceLine}
 use Rattle.deal_floor.specs.declared.roster.Roster.{Roster}
 use Rattle.day_rules.specs.DayState.{DayState, IsDay}
-use Rattle.day_rules.specs.Entries.{entry_of_notice}
+use Rattle.day_rules.specs.Entries.{change_of, entry_of_notice}
 use Rattle.day_rules.specs.Terms.{Terms}
-use Rattle.day_rules.specs.Replies.{notice, notice_reply, tick_reply, with_entry}
+use Rattle.day_rules.specs.Replies.{budget_reply, notice, notice_reply, tick_reply, with_entry}
 use Rattle.day_rules.specs.declared.entry.Entry.{Entry}
 use Rattle.day_rules.proofs.Following.{notice_entry, tick_entry}
 use Rattle.notice_book.specs.declared.kind.NoticeKind.{NoticeKind}
 use Rattle.outbox.specs.Bids.{awarded}
 use Rattle.outbox.specs.declared.calling.Call.{Call}
 use Rattle.outbox.specs.declared.post.Post.{Post}
+use Rattle.two_books.proofs.Budgets.{budget_entry}
 use Rattle.two_books.specs.Exchanges.{ExchangeState, HasHistory, IsKept, IsNoticed, auction_of}
 use Rattle.two_books.specs.Holding.{AreOfHistory, Holds, IsAsked, IsBilled, IsCharge, IsLedgerOf, IsOwnEntry, IsSent}
 use Rattle.two_books.specs.Names.{IsNamed}
@@ -152,6 +153,10 @@ takes_hold (Step.Notice kind n) old new named h at =
 takes_hold (Step.Tick now) old new named h at =
     called (tick_reply (history_of old) now).entry old new (record { exchange = at.exchange.has; messages = at.messages; bidder = at.bidder }) at.exchange.legal
     (ticked now old) (takes_all (Step.Tick now) old new h.posts at) h
+takes_hold (Step.Budget campaign change budget) old new named h at =
+    let x = change_of campaign change budget in
+    called (budget_reply old.exchange.day.terms (history_of old) x).entry old new (record { exchange = at.exchange.has; messages = at.messages; bidder = at.bidder }) at.exchange.legal
+    (budget_entry (Own (line_of old)) (history_of old) x tt old.exchange.day.terms) (takes_all (Step.Budget campaign change budget) old new h.posts at) h
 takes_hold (Step.Pump fates) old new named h p =
     same_day old new p.day (takes_all (Step.Pump fates) old new h.posts p)
     (all_tried (line_of old) (history_of old) h.own (charges_of old h) (due_posts old.exchange) fates old.bidder p.outcomes new.bidder
@@ -181,6 +186,7 @@ pub stops_hold : (s : Step) (old new : WorldState) → Holds old → Stops s old
 stops_hold (Step.Ask request now) old new h at = kept old new at (stops_all (Step.Ask request now) old new h.posts at) h
 stops_hold (Step.Notice kind n) old new h at = kept old new at (stops_all (Step.Notice kind n) old new h.posts at) h
 stops_hold (Step.Tick now) old new h at = kept old new at (stops_all (Step.Tick now) old new h.posts at) h
+stops_hold (Step.Budget campaign change budget) old new h at = kept old new at (stops_all (Step.Budget campaign change budget) old new h.posts at) h
 stops_hold (Step.Pump fates) old new h p = stopped old new h p (stops_all (Step.Pump fates) old new h.posts p)
 stops_hold (Step.Again n) old new h at = stops_again n (slice_get old.messages n) old new refl at (stops_all (Step.Again n) old new h.posts at) h
 stops_hold Step.RestartExchange old new h same = subst Holds (sym same) h

@@ -3,7 +3,7 @@ use Rattle.std.proofs.Common.{ℕ, ◌<◌, List, length, sym, subst, arith}
 use Rattle.url.specs.Host.{host_text}
 use Rattle.outbox.specs.Calls.{port_of, request_for, target_of}
 use Rattle.outbox.specs.declared.calling.Call.{Call}
-use Rattle.own_messages.proofs.Requests.{made_of}
+use Rattle.two_books.proofs.MadeRequests.{made_of}
 use Rattle.two_books.proofs.Tried.{HaveRequests}
 
 some_request : (host : List ℕ) (port : ℕ) (target : List ℕ) → 0 < length (request_for host port target)

@@ -133,6 +133,7 @@ pub takes_all : (s : Step) (old new : WorldState) → AreOfHistory old → Takes
 takes_all (Step.Ask request now) old new are (answer, reads, at) = called _ old new (record { exchange = at.exchange.has; messages = at.messages; bidder = at.bidder }) are
 takes_all (Step.Notice kind n) old new are at = noticed (auction_of old.exchange.day.history n) _ old new at are
 takes_all (Step.Tick now) old new are at = called _ old new (record { exchange = at.exchange.has; messages = at.messages; bidder = at.bidder }) are
+takes_all (Step.Budget campaign change budget) old new are at = called _ old new (record { exchange = at.exchange.has; messages = at.messages; bidder = at.bidder }) are
 takes_all (Step.Pump fates) old new are p = pumped_all old new p.outcomes are p.day p.pending p.messages p.valid
 takes_all (Step.Again n) old new are again = brought (slice_get old.messages n) again
   where
@@ -193,6 +194,7 @@ pub stops_all : (s : Step) (old new : WorldState) → AreOfHistory old → Stops
 stops_all (Step.Ask request now) old new are at = kept old new at are
 stops_all (Step.Notice kind n) old new are at = kept old new at are
 stops_all (Step.Tick now) old new are at = kept old new at are
+stops_all (Step.Budget campaign change budget) old new are at = kept old new at are
 stops_all (Step.Pump fates) old new are p = stopped_all old new are p
 stops_all (Step.Again n) old new are again = brought (slice_get old.messages n) again
   where

@@ -3,10 +3,11 @@ use Rattle.std.proofs.Common.{◌≡◌, ℕ, List, [], ◌∷◌, refl, ap, sub
 use Rattle.std.specs.Prelude.{OnErr, OnOk}
 use Rattle.std.specs.List.{slice_get}
 use Rattle.adx_units.specs.declared.memory.OutOfMemory.{OutOfMemory}
-use Rattle.ask_making.specs.Making.{ask_of}
+use Rattle.script_lines.specs.Making.{ask_of}
 use Rattle.bidder_core.specs.Answers.{answer_to}
 use Rattle.bidder_core.specs.Seen.{BidderState}
-use Rattle.day_rules.specs.Replies.{ask, notice, tick}
+use Rattle.day_rules.specs.Entries.{BudgetChange}
+use Rattle.day_rules.specs.Replies.{ask, notice, set_budget, tick}
 use Rattle.notice_book.specs.declared.kind.NoticeKind.{NoticeKind}
 use Rattle.outbox.specs.declared.calling.Call.{Call}
 use Rattle.rtb_request.specs.declared.bid_request.BidRequest.{BidRequest}
@@ -40,6 +41,11 @@ pub tick_step : (now : ℕ) (r : Result (Unit {0}) OutOfMemory) (e e_now : Excha
     → StepsTo (Step.Tick now) r (world_of e ms b) (world_of e_now ms b)
 tick_step now (Ok done) e e_now ms b did kept = record { exchange = did; messages = refl; bidder = refl }
 tick_step now (Err wanting) e e_now ms b did kept = record { exchange = kept; messages = refl; bidder = refl }
+
+pub budget_step : (x : BudgetChange) (r : Result (Unit {0}) OutOfMemory) (e e_now : ExchangeState) (ms : List Call) (b : BidderState) → OnOk r (IsCalled (set_budget x) e e_now) → OnErr r (IsKept e e_now)
+    → StepsTo (Step.Budget x.campaign x.change x.budget) r (world_of e ms b) (world_of e_now ms b)
+budget_step x (Ok done) e e_now ms b did kept = record { exchange = did; messages = refl; bidder = refl }
+budget_step x (Err wanting) e e_now ms b did kept = record { exchange = kept; messages = refl; bidder = refl }
 
 pub pump_step : (fates : List Fate) (r : Result (Unit {0}) OutOfMemory) (e e_now : ExchangeState) (ms ms_now : List Call) (b b_now : BidderState) → PumpsTo fates r e e_now ms ms_now b b_now
     → StepsTo (Step.Pump fates) r (world_of e ms b) (world_of e_now ms_now b_now)

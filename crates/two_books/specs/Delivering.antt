@@ -9,7 +9,7 @@ use Rattle.bidder_core.specs.Ledger.{bidder_ruling, rows_after}
 use Rattle.bidder_core.specs.Seen.{BidderState}
 use Rattle.bidder_core.specs.declared.ledger.LedgerRow.{LedgerRow}
 use Rattle.bidder_http.specs.Messages.{BidderAnswers}
-use Rattle.own_messages.specs.OwnMessages.{BeginWith, notice_of}
+use Rattle.two_books.specs.OwnMessages.{BeginWith, notice_of}
 
 -- the ledger carried on over a notice, at a bidder with so many prices: the table of notices rules on it
 abbrev pub carried_on : ℕ → List LedgerRow → Option LedgerRow → List LedgerRow
@@ -23,6 +23,7 @@ carried_over prices rows (m ∷ ms) = carried_over prices (carried_on prices row
 
 -- the requests that a connection with these bytes brings: all of them, up to one that closes it or is refused, or as many
 -- as a connection may bring
+-- Example: a bill that is heard twice is counted once: the second is a repeat.
 abbrev pub IsHeard : List ℕ → List Request → Type 0
 IsHeard bytes ms =
     (rest : List ℕ) × AreRequests REQUEST_LIMIT bytes ms rest

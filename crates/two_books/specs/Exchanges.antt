@@ -14,6 +14,7 @@ use Rattle.outbox.specs.Following.{HasFollowed, OutboxState}
 use Rattle.outbox.specs.Posts.{posts_behind}
 use Rattle.outbox.specs.declared.post.Post.{Post}
 
+-- a roster's campaigns, its day and its outbox
 pub record ExchangeState : Type 0 where
   pub campaigns : List Campaign
   pub day : DayState

@@ -8,4 +8,7 @@ pub mod Pumps
 pub mod TwoBooks
 pub mod Holding
 pub mod Telling
-pub mod Laws
+pub mod OwnNotices
+pub mod OwnMessages
+pub mod EqualSums
+pub mod Settling

@@ -15,6 +15,7 @@ abbrev pub IsNamed : Step → Type 0
 IsNamed (Step.Ask request now) = IsName request.id
 IsNamed (Step.Notice kind n) = ⊤
 IsNamed (Step.Tick now) = ⊤
+IsNamed (Step.Budget campaign change budget) = ⊤
 IsNamed (Step.Pump fates) = ⊤
 IsNamed (Step.Again n) = ⊤
 IsNamed Step.RestartExchange = ⊤

@@ -1,12 +1,14 @@
 -- What each step of a world does. This project's own.
-use Rattle.std.specs.Prelude.{◌≡◌, ◌≢◌, ◌⊎◌, ℕ, ◌+◌, ◌^◌, ◌<◌, List, [], ◌∷◌, ◌++◌, drop, take, length, get_or, slice_get, ⊤, All, Option, Some, None, Result, Ok, Err}
+use Rattle.std.specs.Prelude.{◌≡◌, ◌≢◌, ◌⊎◌, ℕ, ◌+◌, ◌^◌, ◌<◌, ◌≤◌, List, [], ◌∷◌, ◌++◌, drop, take, length, get_or, slice_get, ⊤, All, Option, Some, None, Result, Ok, Err}
 use Rattle.std.specs.List.{filter_map}
 use Rattle.adx_json.specs.Tree.{Tree}
 use Rattle.adx_units.specs.declared.memory.OutOfMemory.{OutOfMemory}
-use Rattle.ask_making.specs.Making.{ask_of}
+use Rattle.script_lines.specs.Making.{ask_of}
 use Rattle.bidder_core.specs.Answers.{answer_to}
 use Rattle.bidder_core.specs.Seen.{BidderState}
-use Rattle.day_rules.specs.Replies.{ask, notice, tick}
+use Rattle.campaign_book.specs.Accounts.{IsBudget}
+use Rattle.day_rules.specs.Entries.{change_of}
+use Rattle.day_rules.specs.Replies.{ask, notice, set_budget, tick}
 use Rattle.outbox.specs.Calls.{IsValidAs}
 use Rattle.outbox.specs.Following.{HasFollowed}
 use Rattle.outbox.specs.Pumping.{ComesTo, given_up_with, left_of}
@@ -139,16 +141,18 @@ Takes (Step.Ask request now) old new =
 Takes (Step.Notice kind n) old new =
     AtExchange (IsNoticed (auction_of old.exchange.day.history n) (λ auction. notice kind auction n)) old new
 Takes (Step.Tick now) old new = AtExchange (IsCalled (tick now)) old new
+Takes (Step.Budget campaign change budget) old new = AtExchange (IsCalled (set_budget (change_of campaign change budget))) old new
 Takes (Step.Pump fates) old new = IsPumped fates old new
 Takes (Step.Again n) old new = IsAgain (slice_get old.messages n) old new
 Takes Step.RestartExchange old new = AtExchange IsRestarted old new
 Takes Step.RestartBidder old new = new ≡ old
 
--- a moment that a day takes
+-- a moment, or a change of a budget, that a day takes
 abbrev pub IsTimely : Step → Type 0
 IsTimely (Step.Ask request now) = now < 2 ^ 63
 IsTimely (Step.Notice kind n) = ⊤
 IsTimely (Step.Tick now) = now < 2 ^ 63
+IsTimely (Step.Budget campaign change budget) = (1 ≤ change) × IsBudget budget
 IsTimely (Step.Pump fates) = ⊤
 IsTimely (Step.Again n) = ⊤
 IsTimely Step.RestartExchange = ⊤
@@ -159,6 +163,7 @@ abbrev pub Stops : Step → WorldState → WorldState → Type 0
 Stops (Step.Ask request now) old new = AtExchange IsKept old new
 Stops (Step.Notice kind n) old new = AtExchange IsKept old new
 Stops (Step.Tick now) old new = AtExchange IsKept old new
+Stops (Step.Budget campaign change budget) old new = AtExchange IsKept old new
 Stops (Step.Pump fates) old new = StopsPumping old new
 Stops (Step.Again n) old new = StopsAgain (slice_get old.messages n) old new
 Stops Step.RestartExchange old new = new ≡ old

@@ -22,7 +22,7 @@ use std::marker::Model;
 
 /// An exchange, the messages that it ever sent, and a bidder, whatever they came from.
 #[derive(Drop)]
-pub(crate) struct Books {
+pub struct Books {
     alloc: Global,
     exchange: Exchange,
     messages: Vec<Call>,
@@ -46,7 +46,7 @@ fn note_name(bytes: &[u8])
 
 impl Books {
     /// The books before their first step.
-    pub(crate) fn new(alloc: Global, roster: Roster, bidder: Bidder) -> Result<Books, OutOfMemory>
+    pub fn new(alloc: Global, roster: Roster, bidder: Bidder) -> Result<Books, OutOfMemory>
         ensures { IfOk result (IsNew roster bidder) }
     {
         Ok(Books {
@@ -58,42 +58,42 @@ impl Books {
     }
 
     /// The exchange's day.
-    pub(crate) fn day(&self) -> &Day
+    pub fn day(&self) -> &Day
         ensures { result.now ≡ self.now.exchange.day }
     {
         self.exchange.day()
     }
 
     /// The bidder with its ledger.
-    pub(crate) fn bidder(&self) -> &Bidder
+    pub fn bidder(&self) -> &Bidder
         ensures { result.now ≡ self.now.bidder }
     {
         &self.bidder
     }
 
     /// The messages that the exchange ever sent, in their order.
-    pub(crate) fn messages(&self) -> &[Call]
+    pub fn messages(&self) -> &[Call]
         ensures { result.now ≡ self.now.messages }
     {
         self.messages.as_slice()
     }
 
     /// The pending posts, in the order of the entries that asked for them.
-    pub(crate) fn pending(&self) -> &[Post]
+    pub fn pending(&self) -> &[Post]
         ensures { result.now ≡ self.now.exchange.outbox.pending }
     {
         self.exchange.pending()
     }
 
     /// How many posts couldn't be sent since the exchange's last restart. The count stands still at its last value.
-    pub(crate) fn undeliverable(&self) -> u32
+    pub fn undeliverable(&self) -> u32
         ensures { result ≡ self.now.exchange.outbox.undeliverable }
     {
         self.exchange.undeliverable()
     }
 
     /// Takes a step. Where memory is wanting some first of what the step does is done.
-    pub(crate) fn step(&mut self, step: &Step) -> Result<(), OutOfMemory>
+    pub fn step(&mut self, step: &Step) -> Result<(), OutOfMemory>
         requires { IsTimely step.now }
         ensures does { StepsTo step.now result self.old self.new }
         ensures named { IsNamed step.now }
@@ -102,6 +102,11 @@ impl Books {
             Step::Ask { request, now } => self.ask(request, *now),
             Step::Notice { kind, award } => self.exchange.notice(*kind, *award),
             Step::Tick { now } => self.exchange.tick(*now),
+            Step::Budget {
+                campaign,
+                change,
+                budget,
+            } => self.exchange.set_budget(*campaign, *change, *budget),
             Step::Pump { fates } => self.pump(fates.as_slice()),
             Step::Again { message } => self.again(*message),
             Step::RestartExchange => self.exchange.restart(),

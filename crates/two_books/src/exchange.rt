@@ -1,24 +1,26 @@
 //! An exchange: its day, and the outbox that follows it.
-ghost use Rattle.std.specs.Prelude.{◌≡◌, ◌<◌, ◌^◌, ◌∷◌, [], IfOk, IfSome, OnErr, OnOk, length, option_copied};
+ghost use Rattle.std.specs.Prelude.{◌≡◌, ◌<◌, ◌≤◌, ◌^◌, ◌∷◌, [], IfOk, IfSome, OnErr, OnOk, length, option_copied};
 ghost use Rattle.day_rules.specs.Asks.{IsUndecided, IsWellFormed};
 ghost use Rattle.day_rules.specs.DayState.{IsDay};
 ghost use Rattle.day_rules.specs.Legal.{MayFollow};
-ghost use Rattle.day_rules.specs.Replies.{ask as ask_call, notice as notice_call, tick as tick_call, with_entry};
-ghost use Rattle.ask_making.specs.Making.{ask_of};
+ghost use Rattle.campaign_book.specs.Accounts.{IsBudget};
+ghost use Rattle.day_rules.specs.Entries.{change_of};
+ghost use Rattle.day_rules.specs.Replies.{ask as ask_call, notice as notice_call, set_budget as set_budget_call, tick as tick_call, with_entry};
+ghost use Rattle.script_lines.specs.Making.{ask_of};
 ghost use Rattle.outbox.specs.Pumping.{Pumps};
 ghost use Rattle.outbox.specs.declared.outbox.TheConstants.{ANSWER_LIMIT};
 ghost use Rattle.two_books.specs.Exchanges.{FollowsOn, HasHistory, IsCalled, IsKept, IsNoticed, IsOpened, IsRestarted, auction_of as auction_in};
 
 use crate::opening::day_of;
 use adx_links::Link;
-use adx_units::{Id, OutOfMemory};
-use ask_making::make_ask;
+use adx_units::{Id, OutOfMemory, Units};
 use day_machine::{Ask, Day, Entry};
 use deal_floor::Roster;
 use notice_book::NoticeKind;
 use outbox::{Outbox, Post, Report};
 use rtb_request::BidRequest;
 use rtb_response::BidAnswer;
+use script_lines::make_ask;
 use std::alloc::Global;
 use std::marker::Model;
 
@@ -172,6 +174,22 @@ impl Exchange {
         ensures kept { OnErr result (IsKept self.old self.new) }
     {
         let (_answer, entry) = self.day.plan_tick(now);
+        self.add(entry)
+    }
+
+    /// A campaign's budget is set, by a change with this number.
+    pub(crate) fn set_budget(
+        &mut self,
+        campaign: u32,
+        change: u32,
+        budget: Units,
+    ) -> Result<(), OutOfMemory>
+        requires change { 1 ≤ change }
+        requires budget { IsBudget budget }
+        ensures called { OnOk result (IsCalled (set_budget_call (change_of campaign change budget)) self.old self.new) }
+        ensures kept { OnErr result (IsKept self.old self.new) }
+    {
+        let (_answer, entry) = self.day.plan_budget(campaign, change, budget);
         self.add(entry)
     }
 

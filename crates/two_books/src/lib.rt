@@ -1,23 +1,25 @@
-//! Two books over a lossy network: an exchange's day and its outbox, the messages that it ever sent, and a bidder's ledger.
+//! Two books over a lossy network: an exchange's day and its outbox, the messages that it ever sent, and a bidder's
+//! ledger.
 //!
-//! A `World` goes from step to step: asks, notices, moments, pumps whose messages are lost, delivered or delivered without
-//! their reply, late deliveries, and restarts of either side. Its contract says what each step does, also where memory is
-//! wanting, and that behind every step each bill that the bidder counted is one of the exchange's, with the same auction
-//! and charge, and no two are the same.
-//! Stands on day_machine for the day, outbox for the posts, and bidder_http for the bidder.
+//! A `World` goes from step to step: asks, notices, moments, changes of budgets, pumps whose messages are lost, delivered
+//! or delivered without their reply, late deliveries, and restarts of either side. Its contract says what each step does,
+//! also where memory is wanting; and that after every step each bill that the bidder counted is one of the exchange's,
+//! with the same auction and charge, and no two are the same. So the sum of the ledger's bills is at most the
+//! exchange's; where nothing of a bill is left over the two are equal; and where they are equal no bill is missing.
+//!
+//! Stands on `day_machine` for the day, on `outbox` for the posts, and on `bidder_http` for the bidder.
 #![tactic(auto)]
 
 mod answering;
 mod books;
 mod delivery;
 mod exchange;
-mod law;
 mod opening;
 mod playing;
 mod pumping;
 mod step;
 mod world;
 
-pub use law::books_agree;
+pub use books::Books;
 pub use step::{Fate, Step};
 pub use world::World;

@@ -1,8 +1,9 @@
 //! A world of two books, of which they agree at every moment.
-ghost use Rattle.std.specs.Prelude.{◌≡◌, [], IfOk, length};
+ghost use Rattle.std.specs.Prelude.{◌≡◌, ◌≤◌, [], IfOk, length};
 ghost use Rattle.two_books.specs.Steps.{IsTimely, StepsTo};
-ghost use Rattle.two_books.specs.TwoBooks.{BillsAgree};
+ghost use Rattle.two_books.specs.TwoBooks.{BillsAgree, day_sum, ledger_sum};
 ghost use Rattle.two_books.specs.Worlds.{IsNew};
+ghost use Rattle.two_books.specs.EqualSums.{HasEachBill, HasNothingLeft, HasSums};
 
 use crate::books::Books;
 use crate::step::Step;
@@ -15,7 +16,9 @@ use std::alloc::Global;
 use std::marker::Model;
 
 /// An exchange's day with its outbox, the messages that it ever sent, and a bidder with its ledger. Whatever steps it took,
-/// each bill that the bidder counted is one of the exchange's, with the same auction and charge, and no two are the same.
+/// each bill that the bidder counted is one of the exchange's, with the same auction and charge, and no two are the same. So
+/// the sum of those that it counted is never above the exchange's; where nothing of a bill is left over they are equal; and
+/// where they are equal no billed award is missing from the ledger.
 #[derive(Drop)]
 pub struct World {
     books: Books,
@@ -24,12 +27,13 @@ pub struct World {
 impl Model for World {
     ghost use Rattle.two_books.specs.Holding.{Holds};
     ghost use Rattle.two_books.specs.Worlds.{WorldState};
+    ghost use Rattle.two_books.specs.Settling.{Settles};
 
     ghost Value = { WorldState };
 
     ghost view = { λ w. w.books };
 
-    ghost invariant = { λ w. Holds w.books };
+    ghost invariant = { λ w. Holds w.books × Settles w.books };
 }
 
 impl World {
@@ -37,7 +41,8 @@ impl World {
     pub fn new(alloc: Global, roster: Roster, bidder: Bidder) -> Result<World, OutOfMemory>
         requires one { length roster.bidders ≡ 1 }
         requires none { bidder.rows ≡ [] }
-        ensures { IfOk result (IsNew roster bidder) }
+        ensures new { IfOk result (IsNew roster bidder) }
+        ensures sums { IfOk result HasSums }
     {
         let books = Books::new(alloc, roster, bidder)?;
         Ok(World { books })
@@ -85,6 +90,10 @@ impl World {
         requires { IsTimely step.now }
         ensures does { StepsTo step.now result self.old self.new }
         ensures agree { BillsAgree self.new.exchange.day.history self.new.bidder.rows }
+        ensures below { ledger_sum self.new.bidder.rows ≤ day_sum self.new.exchange.day.history }
+        ensures equal { HasNothingLeft self.new → ledger_sum self.new.bidder.rows ≡ day_sum self.new.exchange.day.history }
+        ensures whole { ledger_sum self.new.bidder.rows ≡ day_sum self.new.exchange.day.history
+            → HasEachBill self.new.exchange.day.history self.new.bidder.rows }
     {
         self.books.step(step)
     }

@@ -1,5 +1,6 @@
 -- A new disk in memory is empty.
 use Rattle.adx_commands.proofs.Beginnings.{connection_anew, day_anew, generated_anew, nothing_for_nothing, table_anew}
+use Rattle.adx_commands.proofs.Words.{words_anew}
 use Rattle.adx_commands.proofs.anew.adx_in_memory.Goals as goal
 
 pub returns-clause-day : goal.returns-clause-day
@@ -23,3 +24,8 @@ returns-clause-generated_table g c = λ seed asks generated done.
 
 pub returns-clause-empty : goal.returns-clause-empty
 returns-clause-empty g c = nothing_for_nothing
+
+pub returns-clause-words : goal.returns-clause-words
+returns-clause-words g c =
+    words_anew g.S.Source g.K.Sink g.P.Keeper c.args.source.now c.adx.new.source c.args.sink.now c.adx.new.sink c.args.keeper.now c.adx.new.keeper c.new-disk.result c.adx.new.disk c.adx.result c.args.words.now
+    c.new-disk.ensures c.adx.ensures.words

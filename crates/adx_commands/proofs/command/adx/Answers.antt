@@ -9,7 +9,8 @@ use Rattle.command_conn.proofs.OneOutput.{has_one_output as has_one_exchange}
 use Rattle.command_day.proofs.OneOutput.{has_one_output}
 use Rattle.command_day.proofs.SomeOutput.{has_outputs}
 use Rattle.command_words.specs.declared.command.Command.{Command}
-use Rattle.adx_commands.proofs.Commands.{plain_does, plain_taken}
+use Rattle.adx_commands.proofs.Commands.{plain_does}
+use Rattle.adx_commands.proofs.Words.{does_words}
 use Rattle.adx_commands.proofs.command.adx.Goals as goal
 
 pub returns-clause-day : goal.returns-clause-day
@@ -50,23 +51,18 @@ returns-clause-archive_list g c = λ q list. (plain_does c.run_words.ensures.doe
 pub returns-clause-reconcile : goal.returns-clause-reconcile
 returns-clause-reconcile g c = λ name reconcile. (plain_does c.run_words.ensures.does (Command.Reconcile reconcile.0 name) reconcile.1).by_run
 
-pub returns-clause-help : goal.returns-clause-help
-returns-clause-help g c = λ topic help. (plain_does c.run_words.ensures.does (Command.Help topic) help).by_run
-
-pub returns-clause-version : goal.returns-clause-version
-returns-clause-version g c = λ version. (plain_does c.run_words.ensures.does Command.Version version).by_run
-
-pub returns-clause-usage : goal.returns-clause-usage
-returns-clause-usage g c = λ is command. plain_taken c.run_words.ensures.does is command
-
-pub returns-clause-unasked : goal.returns-clause-unasked
-returns-clause-unasked g c = λ command plain nothing. (plain_does c.run_words.ensures.does command plain).unasked nothing
-
-pub returns-clause-untouched : goal.returns-clause-untouched
-returns-clause-untouched g c = λ command plain left. (plain_does c.run_words.ensures.does command plain).untouched left
-
-pub returns-clause-nothing_kept : goal.returns-clause-nothing_kept
-returns-clause-nothing_kept g c = λ command plain left. (plain_does c.run_words.ensures.does command plain).nothing_kept left
+pub returns-clause-words : goal.returns-clause-words
+returns-clause-words g c =
+    does_words g.S.Source g.K.Sink g.D.Disk g.P.Keeper (record {
+      source = c.args.source.now;
+      source_now = c.run_words.new.source;
+      sink = c.args.sink.now;
+      sink_now = c.run_words.new.sink;
+      disk = c.args.disk.now;
+      disk_now = c.run_words.new.disk;
+      keeper = c.args.keeper.now;
+      keeper_now = c.run_words.new.keeper;
+    }) c.run_words.result c.args.words.now c.run_words.ensures.does
 
 pub returns-clause-outputs : goal.returns-clause-outputs
 returns-clause-outputs g c = has_outputs

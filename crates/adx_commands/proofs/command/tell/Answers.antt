@@ -1,6 +1,6 @@
 -- The text, or a front of it.
 use Rattle.std.proofs.Common.{inl, inr, refl}
-use Rattle.script_day.proofs.Putting.{front_taken}
+use Rattle.history_runs.proofs.PutLines.{front_taken}
 use Rattle.adx_commands.proofs.command.tell.Goals as goal
 
 pub returns-in-Err-clause-tells : goal.returns-in-Err-clause-tells

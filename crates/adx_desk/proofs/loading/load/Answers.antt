@@ -2,7 +2,7 @@ use Rattle.std.proofs.Common.{arith, List, ℕ, ◌∷◌, [], length, Err, sym,
 use Rattle.std.specs.List.{sum_by}
 use Rattle.day_journal.specs.declared.start.TheConstants.{NEW_FORMAT}
 use Rattle.day_journal.specs.Openings.{StandsBehind}
-use Rattle.notice_batches.specs.Held.{longest_record}
+use Rattle.day_machine.specs.Held.{longest_record}
 use Rattle.adx_desk.specs.Histories.{DeskTerms}
 use Rattle.adx_desk.specs.Openings.{RefusesDesk}
 use Rattle.adx_desk.proofs.OpenedDays.{opened_one}

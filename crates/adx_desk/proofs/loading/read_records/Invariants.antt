@@ -3,7 +3,7 @@ use Rattle.std.proofs.Common.{◌≡◌, ◌+◌, ◌-◌, ◌^◌, ◌≤◌, �
 use Rattle.std.specs.List.{sum_by}
 use Rattle.day_journal.specs.Openings.{OnlyReads}
 use Rattle.day_rules.specs.DayState.{IsDay}
-use Rattle.notice_batches.specs.Held.{longest_record}
+use Rattle.day_machine.specs.Held.{longest_record}
 use Rattle.adx_desk.specs.Loading.{HasRead}
 use Rattle.adx_desk.proofs.loading.read_records.Given as goal
 

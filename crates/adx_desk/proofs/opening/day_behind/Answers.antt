@@ -5,7 +5,7 @@ use Rattle.day_journal.specs.Tails.{size_of}
 use Rattle.day_rules.specs.Legal.{IsLegal}
 use Rattle.day_rules.specs.Terms.{Terms}
 use Rattle.adx_desk.specs.Desks.{DeskKeeps, DeskState}
-use Rattle.notice_batches.specs.Held.{held}
+use Rattle.day_machine.specs.Held.{held}
 use Rattle.adx_desk.specs.Histories.{DeskTerms, IsHistoryOf}
 use Rattle.adx_desk.specs.Openings.{RefusesDesk}
 use Rattle.adx_desk.proofs.OpenedDays.{opened_full, opened_history, opened_keeps}

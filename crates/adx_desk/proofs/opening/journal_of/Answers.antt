@@ -5,7 +5,7 @@ use Rattle.adx_io.specs.Disks.{LeavesOnly}
 use Rattle.day_journal.specs.declared.start.TheConstants.{NEW_FORMAT}
 use Rattle.day_journal.specs.Places.{IsClosed, IsFormat, StandsFor, opened}
 use Rattle.day_journal.specs.Tails.{JournalState, Keeps}
-use Rattle.notice_batches.specs.Held.{longest_record}
+use Rattle.day_machine.specs.Held.{longest_record}
 use Rattle.adx_desk.specs.Histories.{DeskTerms}
 use Rattle.adx_desk.proofs.Beginnings.{begin_moments, has_begun, has_opened, still_durable}
 use Rattle.adx_desk.proofs.OpenedDays.{opened_one}

@@ -1,7 +1,7 @@
 -- The pieces of the row.
 use Rattle.std.proofs.Common.{◌≡◌, ◌++◌, ◌∙◌, ap, ap₂, codes, decimal, string_bytes}
 use Rattle.adx_json.specs.Spelling.{text_spelling}
-use Rattle.discount_table.specs.Discount.{slab_of}
+use Rattle.campaign_book.specs.Discount.{slab_of}
 use Rattle.campaign_book.specs.Accounts.{account_at, committed}
 use Rattle.answer_lines.proofs.Chains.{and_then}
 use Rattle.answer_lines.proofs.table.push_campaign.Goals as goal

@@ -1,7 +1,7 @@
 use Rattle.std.proofs.Common.{sym, ap, ◌∙◌, true, List, ℕ, codes, ◌++◌}
 use Rattle.std.proofs.lemmas.Bool.{false≢true}
 use Rattle.formats.proofs.PartLaws.{word_takes}
-use Rattle.day_form.specs.Days.{is_day}
+use Rattle.formats.specs.Days.{is_day}
 use Rattle.bid_record.proofs.ReadLines.{no_day_behind, day_read, day_utf8}
 use Rattle.bid_record.proofs.day.day_of.Goals as goal
 

@@ -1,6 +1,6 @@
 use Rattle.std.proofs.Common.{◌+◌, sym, ap, ◌∙◌}
 use Rattle.adx_json.specs.View.{tree_of}
-use Rattle.tree_view.proofs.Items.{left_is}
+use Rattle.adx_json.proofs.Items.{left_is}
 use Rattle.bidder_core.proofs.PriceSteps.{kept_on, step_off}
 use Rattle.bidder_core.proofs.line_reader.prices_of.Goals as goal
 

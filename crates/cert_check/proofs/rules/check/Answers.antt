@@ -1,7 +1,7 @@
 use Rattle.cert_check.specs.declared.verdict.Verdict.TheVariants.{Accepted}
 use Rattle.std.proofs.Common.{rules, arith}
 use Rattle.cert_check.specs.Verdicts.{IsVerdict}
-use Rattle.hindsight.proofs.Duality.{weak_duality}
+use Rattle.dual_cert.proofs.Duality.{weak_duality}
 use Rattle.cert_check.proofs.rules.check.Goals as goal
 
 pub returns-then-cert-computed-clause-bound : goal.returns-then-cert-computed-clause-bound

@@ -1,5 +1,5 @@
-use Rattle.hindsight.specs.Assignments.{impressions_of}
-use Rattle.hindsight.specs.Certificates.{AreCovered}
+use Rattle.dual_cert.specs.Assignments.{impressions_of}
+use Rattle.dual_cert.specs.Certificates.{AreCovered}
 use Rattle.cert_check.proofs.rules.first_broken.Given as goal
 
 abbrev pub invariant-loop-j : goal.invariant-loop-j

@@ -6,8 +6,8 @@ use Rattle.adx_io.specs.TalkState.{state_of}
 use Rattle.bidder_http.specs.Messages.{BidderAnswers, BidderGivesUp}
 use Rattle.command_runs.specs.Meanings.{Wrote}
 use Rattle.command_runs.specs.declared.outcome.Outcome.{Outcome}
-use Rattle.connection_runs.specs.Connections.{most_beyond}
-use Rattle.connection_runs.proofs.Ended.{connection_wrote}
+use Rattle.http_service.specs.ConnectionRuns.{most_beyond}
+use Rattle.http_service.proofs.Ended.{connection_wrote}
 use Rattle.http_service.specs.declared.limits.TheConstants.{REQUEST_LIMIT}
 use Rattle.command_bidder.specs.Bidders.{serves}
 use Rattle.command_bidder.proofs.serving.serve_after.Goals as goal

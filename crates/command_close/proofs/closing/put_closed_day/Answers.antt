@@ -4,6 +4,7 @@ use Rattle.bid_record.specs.Lines.{document as record_document}
 use Rattle.dual_cert.specs.Lines.{document as cert_document}
 use Rattle.command_close.specs.ClosedDays.{IsClosedDay}
 use Rattle.history_runs.proofs.Putting.{printed_by}
+use Rattle.command_close.proofs.Checked.{closed_checked}
 use Rattle.command_close.proofs.closing.put_closed_day.Goals as goal
 
 pub returns-in-Ok-clause-printed : goal.returns-in-Ok-clause-printed
@@ -19,4 +20,5 @@ returns-in-Ok-clause-printed g c =
       spelled = refl;
       accepted = c.in-Ok.ensures.certificate;
       hindsight = c.in-Ok.ensures.hindsight;
+      checked = λ short. closed_checked closed.record closed.cert _ c.in-Ok.ensures.closing refl;
     }) c.put_document-put.ensures.puts

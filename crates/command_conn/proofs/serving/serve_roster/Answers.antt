@@ -8,7 +8,7 @@ use Rattle.adx_io.specs.declared.stop.Stop.{Stop}
 use Rattle.adx_desk.specs.declared.fault.DeskFault.{DeskFault}
 use Rattle.command_runs.specs.Meanings.{Wrote}
 use Rattle.command_runs.specs.declared.outcome.Outcome.{Outcome}
-use Rattle.desk_runs.proofs.Lent.{course_lent}
+use Rattle.desk_calls.proofs.Lent.{course_lent}
 use Rattle.history_runs.specs.Unopened.{not_opened}
 use Rattle.history_runs.proofs.Unopened.{gives_up, told_unopened}
 use Rattle.command_conn.specs.Exchanges.{was_given_up, was_served, was_unbegun}

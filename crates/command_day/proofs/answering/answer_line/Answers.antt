@@ -2,10 +2,10 @@
 use Rattle.std.proofs.Common.{inl, refl, string_bytes}
 use Rattle.adx_io.specs.Lines.{Keeps}
 use Rattle.script_lines.specs.declared.refusal.Refusal.{Refusal}
-use Rattle.script_day.specs.declared.limits.TheConstants.{LINE_LIMIT}
-use Rattle.script_day.specs.Answering.{LeavesUnwritten}
-use Rattle.script_day.proofs.AnswerLaws.{answered_kept, dropped_line, line_refused, unwritten_kept}
-use Rattle.desk_runs.proofs.ToldAnswers.{on_err}
+use Rattle.history_runs.specs.declared.limits.TheConstants.{LINE_LIMIT}
+use Rattle.history_runs.specs.Answering.{LeavesUnwritten}
+use Rattle.history_runs.proofs.AnswerLaws.{answered_kept, dropped_line, line_refused, unwritten_kept}
+use Rattle.desk_calls.proofs.ToldAnswers.{on_err}
 use Rattle.command_day.proofs.answering.answer_line.Goals as goal
 
 pub returns-in_ok-answer_text-in-Some-clause-answered : goal.returns-in_ok-answer_text-in-Some-clause-answered

@@ -4,10 +4,10 @@ use Rattle.day_rules.specs.Runs.{IsCall}
 use Rattle.deal_floor.specs.declared.campaign.Campaign.{Campaign}
 use Rattle.script_lines.specs.Found.{call_of}
 use Rattle.script_lines.specs.Meanings.{LineMeans, calls, refused}
-use Rattle.script_day.specs.declared.limits.TheConstants.{LINE_LIMIT}
-use Rattle.script_day.specs.Answering.{AnswersCall, LeavesUnwritten}
-use Rattle.script_day.proofs.AnswerLaws.{budgets_counted, call_answered, call_unwritten, line_refused}
-use Rattle.desk_runs.proofs.ToldAnswers.{on_err}
+use Rattle.history_runs.specs.declared.limits.TheConstants.{LINE_LIMIT}
+use Rattle.history_runs.specs.Answering.{AnswersCall, LeavesUnwritten}
+use Rattle.history_runs.proofs.AnswerLaws.{budgets_counted, call_answered, call_unwritten, line_refused}
+use Rattle.desk_calls.proofs.ToldAnswers.{on_err}
 use Rattle.command_day.proofs.answering.answer_text.Goals as goal
 
 pub answer_call-requires : goal.answer_call-requires

@@ -1,7 +1,7 @@
 -- A line's answer was put, or a prefix of it; or nothing was.
 use Rattle.std.proofs.Common.{sym, subst, Err, string_bytes}
 use Rattle.command_runs.proofs.Ran.{front_taken}
-use Rattle.script_day.specs.Clauses.{IsKept, LineAnswered}
+use Rattle.history_runs.specs.Clauses.{IsKept, LineAnswered}
 use Rattle.command_day.specs.Steps.{PutsLine}
 use Rattle.command_day.proofs.lines.answer_next.Goals as goal
 

@@ -1,6 +1,6 @@
 -- What closes the script was put.
 use Rattle.std.proofs.Common.{◌≡◌, ◌++◌, inl, subst, string_bytes}
-use Rattle.script_day.specs.Script.{closing}
+use Rattle.history_runs.specs.Script.{closing}
 use Rattle.command_day.proofs.lines.close_lines.Goals as goal
 
 pub returns-in-Ok-clause-puts : goal.returns-in-Ok-clause-puts

@@ -2,7 +2,7 @@
 use Rattle.std.proofs.Common.{◌≡◌, ◌∙◌, ◌++◌, ℕ, List, Ok, Err, ap, subst, sym}
 use Rattle.command_runs.specs.declared.outcome.Outcome.{Outcome}
 use Rattle.history_runs.specs.Unopened.{unopened_end}
-use Rattle.script_day.specs.Output.{unopened_line}
+use Rattle.history_runs.specs.Output.{unopened_line}
 use Rattle.adx_io.specs.Streams.{Took}
 use Rattle.command_gen.specs.Taking.{PutsOutput}
 use Rattle.command_gen.proofs.Putting.{untaken_failed, untaken_refused}

@@ -3,7 +3,7 @@ use Rattle.std.proofs.Common.{◌≡◌, ◌∙◌, ◌++◌, ℕ, List, Err, ap
 use Rattle.adx_desk.specs.Histories.{DeskTerms}
 use Rattle.adx_io.specs.Streams.{Took}
 use Rattle.answer_lines.specs.Table.{closing_table}
-use Rattle.script_day.specs.Script.{terms_by}
+use Rattle.history_runs.specs.Script.{terms_by}
 use Rattle.command_gen.specs.Taking.{PutsOutput}
 use Rattle.command_gen.proofs.Putting.{table_failed}
 use Rattle.command_gen.proofs.generated.tell_table.Goals as goal

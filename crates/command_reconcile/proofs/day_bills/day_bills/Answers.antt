@@ -2,7 +2,7 @@
 use Rattle.std.proofs.Common.{◌∙◌, ◌++◌, [], Option, sym, ap, arith}
 use Rattle.std.specs.List.{cons_option, filter_map}
 use Rattle.std.proofs.lemmas.List.{take_all}
-use Rattle.bill_differences.specs.declared.bill.Bill.{Bill}
+use Rattle.command_reconcile.specs.declared.bill.Bill.{Bill}
 use Rattle.command_reconcile.specs.Sales.{sale_bill}
 use Rattle.command_reconcile.proofs.Sold.{bills_are, optional_more}
 use Rattle.command_reconcile.proofs.day_bills.day_bills.Goals as goal

@@ -6,7 +6,7 @@ use Rattle.adx_io.specs.TalkState.{state_of}
 use Rattle.adx_io.specs.declared.stop.Stop.{Stop}
 use Rattle.command_runs.specs.Documents.{Judged, document}
 use Rattle.command_runs.specs.Meanings.{Wrote}
-use Rattle.command_runs.specs.declared.limits.TheConstants.{DOCUMENT_LIMIT}
+use Rattle.command_runs.specs.Limits.{document_limit}
 use Rattle.command_runs.proofs.Documents.{told_judged, told_stopped, told_unjudged}
 use Rattle.command_runs.proofs.document.judge_document.Goals as goal
 
@@ -28,9 +28,9 @@ returns-in-Ok-judge-clause-ran g c =
     let empty : c.new-document.result.items ≡ [] = search rules in (
       said.0,
       said.1 c.put_end.result c.put_end.ensures.may,
-      subst (λ (t : Option Tape). WhereTold (state_of talk).tape t (λ x y. Wrote (document DOCUMENT_LIMIT (g.J.Judge.judges said.0)) x.left y.left held held_now c.put_end.result)) (sym ends)
-          (told_judged DOCUMENT_LIMIT (g.J.Judge.judges said.0) held held_now talk.buffer.now.pending bytes out rest outcome tape told c.put_end.result c.requires.untaken
-          (subst (λ (b : List ℕ). WhereTold tape told (ReadsRest DOCUMENT_LIMIT b bytes (Ok rest))) empty c.in-Ok.ensures.reads) (subst (λ (b : List ℕ). Within DOCUMENT_LIMIT b bytes) empty c.in-Ok.ensures.within)
+      subst (λ (t : Option Tape). WhereTold (state_of talk).tape t (λ x y. Wrote (document document_limit (g.J.Judge.judges said.0)) x.left y.left held held_now c.put_end.result)) (sym ends)
+          (told_judged document_limit (g.J.Judge.judges said.0) held held_now talk.buffer.now.pending bytes out rest outcome tape told c.put_end.result c.requires.untaken
+          (subst (λ (b : List ℕ). WhereTold tape told (ReadsRest document_limit b bytes (Ok rest))) empty c.in-Ok.ensures.reads) (subst (λ (b : List ℕ). Within document_limit b bytes) empty c.in-Ok.ensures.within)
           (subst (λ (b : List ℕ). Judged (g.J.Judge.judges said.0) rest b out (Ok outcome)) is said.2) c.put_end.ensures.puts),
     )
 
@@ -45,8 +45,8 @@ returns-in-Ok-clause-ran g c =
     let empty : c.new-document.result.items ≡ [] = search rules in (
       said.0,
       said.1 (Err Stop.OutOfMemory) refl,
-      told_unjudged DOCUMENT_LIMIT (g.J.Judge.judges said.0) held held c.in-Ok.rest talk.buffer.now.pending bytes tape told c.requires.untaken
-          (subst (λ (b : List ℕ). WhereTold tape told (ReadsRest DOCUMENT_LIMIT b bytes (Ok c.in-Ok.rest))) empty c.in-Ok.ensures.reads) (subst (λ (b : List ℕ). Within DOCUMENT_LIMIT b bytes) empty c.in-Ok.ensures.within) refl,
+      told_unjudged document_limit (g.J.Judge.judges said.0) held held c.in-Ok.rest talk.buffer.now.pending bytes tape told c.requires.untaken
+          (subst (λ (b : List ℕ). WhereTold tape told (ReadsRest document_limit b bytes (Ok c.in-Ok.rest))) empty c.in-Ok.ensures.reads) (subst (λ (b : List ℕ). Within document_limit b bytes) empty c.in-Ok.ensures.within) refl,
     )
 
 pub returns-clause-ran : goal.returns-clause-ran
@@ -61,6 +61,6 @@ returns-clause-ran g c =
     let empty : c.new-document.result.items ≡ [] = search rules in (
       none.0,
       none.1 stop,
-      told_stopped DOCUMENT_LIMIT (g.J.Judge.judges none.0) held held stop talk.buffer.now.pending bytes tape told c.requires.untaken
-          (subst (λ (b : List ℕ). WhereTold tape told (ReadsRest DOCUMENT_LIMIT b bytes (Err stop))) empty c.in-Err.ensures.reads) (subst (λ (b : List ℕ). Within DOCUMENT_LIMIT b bytes) empty c.in-Err.ensures.within) refl,
+      told_stopped document_limit (g.J.Judge.judges none.0) held held stop talk.buffer.now.pending bytes tape told c.requires.untaken
+          (subst (λ (b : List ℕ). WhereTold tape told (ReadsRest document_limit b bytes (Err stop))) empty c.in-Err.ensures.reads) (subst (λ (b : List ℕ). Within document_limit b bytes) empty c.in-Err.ensures.within) refl,
     )

@@ -1,5 +1,5 @@
 use Rattle.std.proofs.Common.{arith}
-use Rattle.discount_table.proofs.Slabs.{bounded}
+use Rattle.campaign_book.proofs.Slabs.{bounded}
 use Rattle.day_close.proofs.alphas.alpha_of.Goals as goal
 
 pub overflow_sub-result : goal.overflow_sub-result

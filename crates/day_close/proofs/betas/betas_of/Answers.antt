@@ -1,5 +1,5 @@
 use Rattle.std.proofs.Common.{◌≡◌, length, subst, rules, arith}
-use Rattle.hindsight.specs.Assignments.{Impression}
+use Rattle.dual_cert.specs.Assignments.{Impression}
 use Rattle.day_close.specs.Closing.{IsLeastBeta}
 use Rattle.day_close.proofs.Made.{betas_more}
 use Rattle.day_close.proofs.betas.betas_of.Goals as goal

@@ -1,5 +1,5 @@
 use Rattle.std.proofs.Common.{◌≡◌, ◌<◌, ℕ, vec_len, get_or, []}
-use Rattle.hindsight.specs.Assignments.{impressions_of}
+use Rattle.dual_cert.specs.Assignments.{impressions_of}
 use Rattle.day_close.specs.Closing.{IsLeastBeta}
 use Rattle.day_close.proofs.betas.betas_of.Given as goal
 

@@ -1,5 +1,5 @@
 use Rattle.std.proofs.Common.{◌≡◌, ℕ, List, length, ap₂, ◌∙◌, rules}
-use Rattle.hindsight.specs.Certificates.{bound_by}
+use Rattle.dual_cert.specs.Certificates.{bound_by}
 use Rattle.day_close.proofs.Accepted.{closing_holds}
 use Rattle.day_close.proofs.Made.{alphas_fit, betas_moved, closing_made}
 use Rattle.day_close.proofs.closer.close.Goals as goal

@@ -1,6 +1,6 @@
 use Rattle.std.proofs.Common.{◌+◌, sym, ap, ◌∙◌}
 use Rattle.adx_json.specs.View.{tree_of}
-use Rattle.tree_view.proofs.Items.{left_is}
+use Rattle.adx_json.proofs.Items.{left_is}
 use Rattle.deal_floor.proofs.BidderSteps.{kept_on, step_off}
 use Rattle.deal_floor.proofs.bidder_reader.bidders_of.Goals as goal
 

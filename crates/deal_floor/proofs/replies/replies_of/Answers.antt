@@ -1,7 +1,7 @@
 use Rattle.std.proofs.Common.{ap, ◌∙◌, ◌+◌, length}
 use Rattle.adx_json.specs.View.{tree_of}
 use Rattle.std.proofs.lemmas.List.{length-append}
-use Rattle.tree_view.proofs.Items.{left_is}
+use Rattle.adx_json.proofs.Items.{left_is}
 use Rattle.deal_floor.proofs.ReplySteps.{reply_kept}
 use Rattle.deal_floor.proofs.replies.replies_of.Goals as goal
 

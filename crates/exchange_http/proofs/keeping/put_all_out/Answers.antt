@@ -1,10 +1,10 @@
 -- The notices that wait were taken, and all replies put.
 use Rattle.std.proofs.Common.{[], false, refl}
-use Rattle.exchange_floor.specs.Floors.{IsMomentOf, works}
+use Rattle.exchange_messages.specs.Floors.{IsMomentOf, works}
 use Rattle.exchange_http.proofs.Along.{on_ok}
 use Rattle.exchange_http.proofs.Causes.{cause_after}
 use Rattle.exchange_http.proofs.Flushing.{failed_ran, on_fault, settled_now}
-use Rattle.exchange_floor.proofs.Requested.{floor_on}
+use Rattle.exchange_messages.proofs.Requested.{floor_on}
 use Rattle.exchange_http.proofs.UnderWay.{all_put, flush_failed, flushed, put_failed}
 use Rattle.exchange_http.proofs.keeping.put_all_out.Goals as goal
 

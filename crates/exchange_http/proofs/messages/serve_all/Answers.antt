@@ -1,10 +1,10 @@
 -- The connection goes on by its messages, and they are over.
 use Rattle.std.proofs.Common.{◌≡◌, suc, ◌+◌, Option, Result, Some, None, Ok, IfOk, IsNone, false, refl, sym, ap, ◌∙◌, subst, arith}
 use Rattle.exchange_http.specs.Running.{StepCauses, StepGives, end_of}
-use Rattle.exchange_floor.specs.Floors.{IsMomentOf, works}
+use Rattle.exchange_messages.specs.Floors.{IsMomentOf, works}
 use Rattle.exchange_http.specs.declared.over.Over.{Over}
 use Rattle.exchange_http.specs.declared.stop.Stop.{Stop}
-use Rattle.exchange_floor.proofs.Requested.{kept_on}
+use Rattle.exchange_messages.proofs.Requested.{kept_on}
 use Rattle.exchange_http.proofs.Along.{EndsBy, along, way_along, way_count}
 use Rattle.exchange_http.proofs.Causes.{over_later, stops_later}
 use Rattle.exchange_http.proofs.Nexts.{all_come}

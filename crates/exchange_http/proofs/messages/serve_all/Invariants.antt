@@ -5,7 +5,7 @@ use Rattle.fan_out.specs.declared.lane.Lane.{Lane}
 use Rattle.http_service.specs.declared.limits.TheConstants.{REQUEST_LIMIT}
 use Rattle.exchange_http.specs.Going.{WayOn, kept as stand}
 use Rattle.exchange_http.specs.Running.{more}
-use Rattle.exchange_floor.specs.Floors.{IsFloor, IsKept}
+use Rattle.exchange_messages.specs.Floors.{IsFloor, IsKept}
 use Rattle.exchange_http.proofs.messages.serve_all.Given as goal
 
 abbrev pub invariant-messages : goal.invariant-messages

@@ -2,10 +2,10 @@
 use Rattle.std.proofs.Common.{[], ◌∷◌, refl}
 use Rattle.day_rules.specs.Laws.{Arrival}
 use Rattle.exchange_http.specs.Running.{before_one}
-use Rattle.exchange_floor.specs.Floors.{IsMomentOf, works}
+use Rattle.exchange_messages.specs.Floors.{IsMomentOf, works}
 use Rattle.exchange_http.proofs.Causes.{cause_after, cause_of_write}
 use Rattle.exchange_http.proofs.Flushing.{all_flushed, part_flushed, wrote_cause}
-use Rattle.exchange_floor.proofs.Requested.{floor_on}
+use Rattle.exchange_messages.proofs.Requested.{floor_on}
 use Rattle.exchange_http.proofs.UnderWay.{flush_failed, flushed, notice_joined, put_failed}
 use Rattle.exchange_http.proofs.notices.take_alone.Goals as goal
 

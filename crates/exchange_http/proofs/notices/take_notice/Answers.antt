@@ -2,11 +2,11 @@
 use Rattle.std.proofs.Common.{◌≡◌, [], ◌∷◌, ◌++◌, false, refl, sym, ◌∙◌}
 use Rattle.day_rules.specs.Laws.{Arrival}
 use Rattle.exchange_http.specs.Running.{before_one}
-use Rattle.exchange_floor.specs.Floors.{IsMomentOf, works}
+use Rattle.exchange_messages.specs.Floors.{IsMomentOf, works}
 use Rattle.exchange_http.proofs.Along.{on_ok, way_with}
 use Rattle.exchange_http.proofs.Causes.{cause_after}
 use Rattle.exchange_http.proofs.Flushing.{added_calls, failed_ran, on_fault, same_calls, way_notices}
-use Rattle.exchange_floor.proofs.Requested.{floor_on}
+use Rattle.exchange_messages.proofs.Requested.{floor_on}
 use Rattle.exchange_http.proofs.UnderWay.{flush_failed, flushed, notice_joined}
 use Rattle.exchange_http.proofs.notices.take_notice.Goals as goal
 

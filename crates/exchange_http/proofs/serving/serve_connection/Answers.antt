@@ -1,6 +1,6 @@
 -- The loans of desk and lanes end with the connection.
 use Rattle.std.proofs.Common.{rules, ◌≡◌, sym, ap}
-use Rattle.exchange_floor.specs.Floors.{IsMomentOf}
+use Rattle.exchange_messages.specs.Floors.{IsMomentOf}
 use Rattle.exchange_http.proofs.Served.{ended_behind, first_name, lasts_behind}
 use Rattle.exchange_http.specs.Serving.{talked}
 use Rattle.exchange_http.proofs.serving.serve_connection.Goals as goal

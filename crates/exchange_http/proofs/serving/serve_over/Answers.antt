@@ -1,10 +1,10 @@
 -- From no message on to the end.
-use Rattle.exchange_floor.proofs.Requested.{kept_on}
+use Rattle.exchange_messages.proofs.Requested.{kept_on}
 use Rattle.std.proofs.Common.{◌≡◌, Result, Err, sym, ap, ◌∙◌, subst}
 use Rattle.http_connection.specs.State.{ConnState}
 use Rattle.http_connection.specs.declared.conn.ConnEnd.{ConnEnd}
 use Rattle.exchange_http.specs.Running.{OverCauses}
-use Rattle.exchange_floor.specs.Floors.{IsMomentOf, works}
+use Rattle.exchange_messages.specs.Floors.{IsMomentOf, works}
 use Rattle.exchange_http.specs.declared.over.Over.{Over}
 use Rattle.exchange_http.specs.declared.stop.Stop.{Stop}
 use Rattle.exchange_http.proofs.Along.{EndsBy, along, stopped, way_along}

@@ -1,6 +1,6 @@
 use Rattle.std.proofs.Common.{Bool, sym, ◌∙◌, subst}
-use Rattle.adx_acceptors.specs.Told.{pair_by}
-use Rattle.exchange_floor.specs.Floors.{IsMomentOf}
+use Rattle.adx_links.specs.Told.{pair_by}
+use Rattle.exchange_messages.specs.Floors.{IsMomentOf}
 use Rattle.meter_board.specs.Words.{seen}
 use Rattle.exchange_serving.specs.Rounds.{IsRound, is_out_of_memory}
 use Rattle.exchange_serving.proofs.Rounds.{else_is, served_between, then_is, unserved}

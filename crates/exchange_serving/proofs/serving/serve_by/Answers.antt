@@ -9,12 +9,12 @@ use denote.Struct.Declared.{shape}
 use Rattle.std.proofs.Common.{sym, subst, ℕ}
 use Rattle.std.proofs.Crossing.{crosses}
 use Rattle.std.proofs.alloc.Global.TheSendSync as heap
-use Rattle.adx_acceptors.specs.Told.{pair_by, told_by}
-use Rattle.adx_acceptors.proofs.Answered.{starts}
+use Rattle.adx_links.specs.Told.{pair_by, told_by}
+use Rattle.adx_links.proofs.Answered.{starts}
 use Rattle.adx_desk.specs.declared.shared.OpenedWith.{OpenedWith}
 use Rattle.deal_floor.proofs.roster.Roster.TheSendSync as roster
 use Rattle.fan_out.proofs.lane.Lane.TheSendSync as lane
-use Rattle.mail_room.proofs.mail.Mail.TheSendSync as mail
+use Rattle.desk_board.proofs.mail.Mail.TheSendSync as mail
 use Rattle.meter_board.proofs.board.StepBoard.TheSendSync as step_board
 use Rattle.meter_board.proofs.reader.MeterReader.TheSendSync as reader
 use Rattle.outbox.proofs.outbox.Outbox.TheSendSync as outbox
@@ -29,10 +29,10 @@ use Rattle.exchange_serving.specs.contracts.names.DayBoardNames.TheImpl as board
 use Rattle.exchange_serving.specs.contracts.names.DayMailNames.TheImpl as mail_names
 use Rattle.desk_board.specs.contracts.board.Board as shown_boards
 use Rattle.fan_out.specs.contracts.lane.Lane as lanes
-use Rattle.mail_room.specs.contracts.mailroom.Mailroom as rooms
-use Rattle.mail_room.specs.contracts.mailroom.Mailroom.TheInside as in_room
-use Rattle.shared_board.specs.contracts.shared_board.SharedBoard as boards
-use Rattle.shared_board.specs.contracts.shared_board.SharedBoard.TheInside as in_board
+use Rattle.desk_board.specs.contracts.mailroom.Mailroom as rooms
+use Rattle.desk_board.specs.contracts.mailroom.Mailroom.TheInside as in_room
+use Rattle.desk_board.specs.contracts.shared_board.SharedBoard as boards
+use Rattle.desk_board.specs.contracts.shared_board.SharedBoard.TheInside as in_board
 use Rattle.std.specs.contracts.sync.Mutex as mutex
 use denote.Struct.Field.{row_field}
 use denote.Ref.{ShrRef}
@@ -87,8 +87,11 @@ serve_all-requires-send-W g c κs within =
               (
                 search (mail_locked, sendable) depth 12,
                 (
-                  search (lane_sent, crosses, sendable) depth 12,
-                  (reader.the_field_send, (search (c.type_bounds.sync-G, sendable) depth 12, tt)),
+                  search (crosses, sendable) depth 12,
+                  (
+                    search (lane_sent, crosses, sendable) depth 12,
+                    (reader.the_field_send, (search (c.type_bounds.sync-G, sendable) depth 12, tt)),
+                  ),
                 ),
               ),
             ),

@@ -1,6 +1,6 @@
 use Rattle.std.proofs.Common.{refl, sym, subst}
-use Rattle.adx_acceptors.specs.Told.{told_by}
-use Rattle.exchange_floor.specs.Floors.{IsMomentOf}
+use Rattle.adx_links.specs.Told.{told_by}
+use Rattle.exchange_messages.specs.Floors.{IsMomentOf}
 use Rattle.exchange_serving.specs.Lanes.{lists_of}
 use Rattle.exchange_serving.specs.Served.{ServesDay}
 use Rattle.exchange_serving.specs.Unserved.{LeavesPost}

@@ -1,5 +1,5 @@
 use Rattle.std.proofs.Common.{sym, ap, ◌∙◌}
-use Rattle.adx_acceptors.specs.Told.{told_by}
+use Rattle.adx_links.specs.Told.{told_by}
 use Rattle.exchange_serving.proofs.Days.{begins_history, day_served, few_followed, leaves_post, left_named, posted_by}
 use Rattle.exchange_serving.proofs.serving.serve_shared_desk.Goals as goal
 

@@ -1,6 +1,6 @@
 use Rattle.std.proofs.Common.{◌≡◌, Some, sym}
 use Rattle.std.proofs.lemmas.List.Elements.{All-pop}
-use Rattle.exchange_floor.specs.Floors.{IsMomentOf}
+use Rattle.exchange_messages.specs.Floors.{IsMomentOf}
 use Rattle.meter_board.specs.Words.{list_read}
 use Rattle.exchange_serving.proofs.Workers.{popped, popped_lanes, popped_own}
 use Rattle.exchange_serving.proofs.worker.workers_of.Goals as goal

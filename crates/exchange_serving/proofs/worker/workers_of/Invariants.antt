@@ -1,6 +1,6 @@
 use Rattle.std.specs.Prelude.{◌≡◌, All, vec_len}
 use mathlib.Core.List.{IsPrefix}
-use Rattle.exchange_floor.specs.Floors.{AreLanes}
+use Rattle.exchange_messages.specs.Floors.{AreLanes}
 use Rattle.meter_board.specs.Words.{list_read}
 use Rattle.exchange_serving.specs.Lanes.{lists_of}
 use Rattle.exchange_serving.proofs.worker.workers_of.Given as goal

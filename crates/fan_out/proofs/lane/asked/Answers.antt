@@ -12,7 +12,7 @@ returns-in-Ok g c = λ before now.
     (lane_of c.args.place.now c.args.link.now c.args.conn.now before) (lane_of c.args.place.now c.exchange.new.link c.exchange.new.conn now) (outcome_of r)) (sym c.answer_of.ensures)
     (worked_by g.L.Link.exchanges g.L.Link.course g.L.Link.faults g.L.Link.place c.args.body.now c.args.id.now _ _ (λ status body h x. x)
     c.args.place.now c.args.link.now c.exchange.new.link c.args.conn.now c.exchange.new.conn before now c.exchange.result
-    c.as_str.result.now c.as_bytes.result.now c.as_str.ensures.value (c.as_bytes.ensures.value ∙ c.in-Ok.ensures)
+    c.as_str.result.now c.as_slice.result.now c.as_str.ensures.value (c.as_slice.ensures.value ∙ c.in-Ok.ensures)
     c.exchange.ensures.talk c.exchange.ensures.answer c.exchange.ensures.front c.exchange.ensures.heard
     c.exchange.ensures.start_planned c.exchange.ensures.put_planned c.exchange.ensures.cause c.exchange.ensures.same c.exchange.ensures.limit)
 

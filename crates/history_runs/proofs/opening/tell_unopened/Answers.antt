@@ -3,7 +3,7 @@ use Rattle.std.proofs.Common.{◌≡◌, ◌∙◌, ◌++◌, ap, inl, sym, subs
 use Rattle.command_runs.specs.Meanings.{PutsEnd}
 use Rattle.command_runs.specs.declared.outcome.Outcome.{Outcome}
 use Rattle.history_runs.specs.Unopened.{unopened_end}
-use Rattle.script_day.specs.Output.{unopened_line}
+use Rattle.history_runs.specs.Output.{unopened_line}
 use Rattle.history_runs.proofs.Unopened.{unopened_put}
 use Rattle.history_runs.proofs.opening.tell_unopened.Goals as goal
 

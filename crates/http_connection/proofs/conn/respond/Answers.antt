@@ -1,6 +1,6 @@
 -- What a response's head and body give is what all bytes give.
 use Rattle.std.proofs.Common.{ap, Err}
-use Rattle.http_bodies.proofs.Told.{advances, advances_both}
+use Rattle.http_connection.proofs.Told.{advances, advances_both}
 use Rattle.http_connection.proofs.Responses.{response_carried, no_head}
 use Rattle.http_connection.proofs.conn.respond.Goals as goal
 

@@ -2,7 +2,7 @@
 use Rattle.std.proofs.Common.{ℕ, List, Ok, Err, length, take, ap, sym, subst, ◌∙◌}
 use Rattle.httparse.specs.Grammar.{status_code}
 use Rattle.http_grammar.specs.Requests as grammar
-use Rattle.http_bodies.specs.Steps.{BodyGives, FitsBody}
+use Rattle.http_connection.specs.Steps.{BodyGives, FitsBody}
 use Rattle.http_connection.proofs.Heads.{body_room}
 use Rattle.http_connection.proofs.Responses.{response_fits, response_found, head_refused, body_refused}
 use Rattle.http_connection.proofs.conn.response_at.Goals as goal

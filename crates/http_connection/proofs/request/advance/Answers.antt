@@ -1,7 +1,7 @@
 -- What the bytes that were taken give is what all bytes give.
 use Rattle.std.proofs.Common.{inl}
 use Rattle.http_connection.specs.Messages.{IsUnfinishedRequest}
-use Rattle.http_bodies.proofs.Told.{advances, advances_both, given}
+use Rattle.http_connection.proofs.Told.{advances, advances_both, given}
 use Rattle.http_connection.proofs.Requests.{request_carried}
 use Rattle.http_connection.proofs.request.advance.Goals as goal
 

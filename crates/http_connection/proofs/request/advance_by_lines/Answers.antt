@@ -1,6 +1,6 @@
 -- What a request's head and body give is what all bytes give.
 use Rattle.std.proofs.Common.{ap, Err}
-use Rattle.http_bodies.proofs.Told.{advances, advances_both}
+use Rattle.http_connection.proofs.Told.{advances, advances_both}
 use Rattle.http_connection.proofs.Requests.{request_carried, no_head}
 use Rattle.http_connection.proofs.request.advance_by_lines.Goals as goal
 

@@ -1,7 +1,7 @@
 -- The body joins the head that was kept.
 use Rattle.std.proofs.Common.{Ok, Err, refl, sym, subst}
 use Rattle.http_grammar.specs.Judged.{IsSoundRequest}
-use Rattle.http_bodies.specs.Steps.{BodyGives, FitsBody}
+use Rattle.http_connection.specs.Steps.{BodyGives, FitsBody}
 use Rattle.http_connection.proofs.Heads.{body_room}
 use Rattle.http_connection.proofs.Requests.{request_fits, request_found, body_refused}
 use Rattle.http_connection.proofs.request.request_behind.Goals as goal

@@ -1,7 +1,7 @@
 -- The head that the parser finds is refused, or past the bound, or its body decides.
 use Rattle.std.proofs.Common.{ℕ, List, drop, subst, arith}
 use Rattle.http_grammar.specs.Requests as grammar
-use Rattle.http_bodies.specs.BodyForms.{HasBody, LacksBody}
+use Rattle.http_connection.specs.BodyForms.{HasBody, LacksBody}
 use Rattle.http_connection.proofs.First.{first_found}
 use Rattle.http_connection.proofs.Readies.{bad_first, lacks_body, not_begun, too_long}
 use Rattle.http_connection.proofs.whole.whole_in.Goals as goal

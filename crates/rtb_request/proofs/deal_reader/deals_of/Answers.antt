@@ -1,6 +1,6 @@
 use Rattle.std.proofs.Common.{◌∙◌, sym}
 use Rattle.adx_json.specs.View.{tree_of}
-use Rattle.tree_view.proofs.Items.{left_is}
+use Rattle.adx_json.proofs.Items.{left_is}
 use Rattle.rtb_request.proofs.DealSteps.{step_on, step_off}
 use Rattle.rtb_request.proofs.deal_reader.deals_of.Goals as goal
 

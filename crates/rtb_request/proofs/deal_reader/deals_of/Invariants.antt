@@ -1,7 +1,7 @@
 use Rattle.std.proofs.Common.{◌≡◌, drop, map, true}
 use Rattle.std.specs.List.{flat_map}
 use Rattle.adx_json.specs.View.{trees_of}
-use Rattle.tree_view.specs.Checks.{judged}
+use Rattle.adx_json.specs.Checks.{judged}
 use Rattle.rtb_request.specs.Distinct.{all_distinct}
 use Rattle.rtb_request.specs.Deals.{deal_checks, with_deals, deals_in}
 use Rattle.rtb_request.specs.Met.{AreIds}

@@ -1,6 +1,6 @@
 use Rattle.std.proofs.Common.{◌+◌, sym, ap, ◌∙◌}
 use Rattle.adx_json.specs.View.{tree_of}
-use Rattle.tree_view.proofs.Items.{left_is}
+use Rattle.adx_json.proofs.Items.{left_is}
 use Rattle.rtb_request.proofs.ImpSteps.{kept_on, step_off}
 use Rattle.rtb_request.proofs.imp_reader.imps_of.Goals as goal
 

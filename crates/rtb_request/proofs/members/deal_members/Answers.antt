@@ -1,7 +1,7 @@
 use Rattle.std.proofs.Common.{◌≤◌, length, codes, ap, ◌∙◌, arith}
 use Rattle.adx_json.specs.View.{tree_of}
-use Rattle.tree_view.specs.Values.{not_null}
-use Rattle.tree_view.proofs.Meeting.{met_step, all_met}
+use Rattle.adx_json.specs.Values.{not_null}
+use Rattle.adx_json.proofs.Meeting.{met_step, all_met}
 use Rattle.rtb_request.proofs.members.deal_members.Goals as goal
 
 pub loop-member-preserved : goal.loop-member-preserved

@@ -1,4 +1,4 @@
-use Rattle.tree_view.proofs.Meeting.{met_step}
+use Rattle.adx_json.proofs.Meeting.{met_step}
 use Rattle.rtb_request.proofs.members.pmp_members.Goals as goal
 
 pub loop-member-preserved : goal.loop-member-preserved

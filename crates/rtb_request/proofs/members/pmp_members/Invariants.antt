@@ -2,7 +2,7 @@ use Rattle.std.proofs.Common.{◌≡◌, drop, codes, option_map}
 use Rattle.adx_json.specs.Tree.{members_of}
 use Rattle.adx_json.specs.Named.{value_of}
 use Rattle.adx_json.specs.View.{tree_of, members_view}
-use Rattle.tree_view.specs.Walks.{found_or}
+use Rattle.adx_json.specs.Walks.{found_or}
 use Rattle.rtb_request.proofs.members.pmp_members.Given as goal
 
 -- what was found, and else what is left, gives what all members give

@@ -1,6 +1,6 @@
 use Rattle.std.proofs.Common.{arith, length}
 use Rattle.adx_json.specs.View.{tree_of}
-use Rattle.tree_view.proofs.Items.{left_is}
+use Rattle.adx_json.proofs.Items.{left_is}
 use Rattle.rtb_response.proofs.Counts.{fails_here, goes_on, length_is, counted_on, counted_all, each_has}
 use Rattle.rtb_response.proofs.answer_reader.count_bids.Goals as goal
 

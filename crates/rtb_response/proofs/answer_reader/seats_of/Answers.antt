@@ -1,6 +1,6 @@
 use Rattle.std.proofs.Common.{◌+◌, ◌∙◌, drop}
 use Rattle.adx_json.specs.View.{tree_of, trees_of}
-use Rattle.tree_view.proofs.Items.{left_is}
+use Rattle.adx_json.proofs.Items.{left_is}
 use Rattle.rtb_response.specs.Answers.{seat_view}
 use Rattle.rtb_response.specs.Seen.{seen_seat}
 use Rattle.rtb_response.proofs.Seen.{one_more, all_seen}

@@ -2,7 +2,7 @@ use Rattle.std.proofs.Common.{[], None, option_map, get_or, ap, sym, ◌∙◌, 
 use Rattle.adx_json.specs.View.{tree_of}
 use Rattle.adx_json.specs.declared.tree.Json.{Json}
 use Rattle.adx_json.proofs.Views.{member_of_parts}
-use Rattle.tree_view.specs.Walks.{with_member}
+use Rattle.adx_json.specs.Walks.{with_member}
 use Rattle.rtb_response.specs.BidNames.{bid_names, place_in}
 use Rattle.rtb_response.proofs.BidNames.{kept, unmet, free, taken}
 use Rattle.rtb_response.proofs.bid_names.keep.Goals as goal

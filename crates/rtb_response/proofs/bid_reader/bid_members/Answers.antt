@@ -1,8 +1,8 @@
 use Rattle.std.proofs.Common.{ap, ◌∙◌, Bor, arith, codes, lit<}
 use Rattle.adx_json.specs.View.{tree_of}
 use Rattle.adx_json.specs.declared.tree.Json.{Json}
-use Rattle.tree_view.specs.Values.{not_null}
-use Rattle.tree_view.proofs.Meeting.{met_step}
+use Rattle.adx_json.specs.Values.{not_null}
+use Rattle.adx_json.proofs.Meeting.{met_step}
 use Rattle.rtb_response.proofs.BidNames.{all_kept}
 use Rattle.rtb_response.proofs.bid_reader.bid_members.Goals as goal
 

@@ -2,7 +2,7 @@ use Rattle.std.proofs.Common.{◌≡◌, ℕ, ◌<◌, [], None, drop, get_or, l
 use Rattle.adx_json.specs.Tree.{members_of}
 use Rattle.adx_json.specs.Named.{value_of}
 use Rattle.adx_json.specs.View.{tree_of, members_view}
-use Rattle.tree_view.specs.Walks.{found_or}
+use Rattle.adx_json.specs.Walks.{found_or}
 use Rattle.rtb_response.specs.BidNames.{bid_names}
 use Rattle.rtb_response.proofs.bid_reader.bid_members.Given as goal
 

@@ -2,7 +2,7 @@ use Rattle.std.proofs.Common.{◌++◌, ◌∷◌, [], ap, sym, ◌∙◌, strin
 use Rattle.adx_json.specs.View.{tree_of}
 use Rattle.adx_json.specs.Spelling.{text_spelling, more_members_spelling}
 use Rattle.adx_units.specs.Money.{price_text}
-use Rattle.tree_view.specs.Walks.{members_by}
+use Rattle.adx_json.specs.Walks.{members_by}
 use Rattle.rtb_response.specs.Bodies.{passed_on}
 use Rattle.rtb_response.specs.Notices.{url_of}
 use Rattle.rtb_response.specs.Parts.{own_members}

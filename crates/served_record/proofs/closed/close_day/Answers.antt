@@ -1,5 +1,5 @@
 use Rattle.std.proofs.Common.{arith}
-use Rattle.hindsight.proofs.Duality.{weak_duality}
+use Rattle.dual_cert.proofs.Duality.{weak_duality}
 use Rattle.served_record.proofs.Whole.{earned_same}
 use Rattle.served_record.proofs.closed.close_day.Goals as goal
 

@@ -1,8 +1,8 @@
 -- By the desk's steps.
 use Rattle.std.proofs.Common.{List, ◌∙◌, subst, sym, take}
-use Rattle.meter_steps.specs.declared.step.MeterStep.{MeterStep}
-use Rattle.meter_steps.specs.Steps.{StayInRange, meters_of}
-use Rattle.day_meters.specs.DayMeters.{steps_of}
+use Rattle.day_rules.specs.declared.step.MeterStep.{MeterStep}
+use Rattle.day_rules.specs.Steps.{StayInRange, meters_of}
+use Rattle.day_rules.specs.DayMeters.{steps_of}
 use Rattle.shared_desk.proofs.Steps.{steps_stay}
 use Rattle.shared_desk.proofs.stepping.copied.Goals as goal
 

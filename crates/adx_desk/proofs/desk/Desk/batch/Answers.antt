@@ -4,13 +4,13 @@ use Rattle.adx_desk.specs.Journaled.{unopened}
 use Rattle.std.specs.Prelude.{is_some, OnOk}
 use Rattle.day_entries.specs.Entries.{entries_bytes}
 use Rattle.day_journal.specs.Tails.{size_of}
-use Rattle.notice_batches.specs.Batches.{BatchState, answers_in_turn, entries_in_turn}
-use Rattle.notice_batches.specs.declared.batch.TheConstants.{BATCH_LIMIT}
+use Rattle.day_machine.specs.Batches.{BatchState, answers_in_turn, entries_in_turn}
+use Rattle.day_machine.specs.declared.batch.TheConstants.{BATCH_LIMIT}
 use Rattle.adx_desk.specs.Desks.{OnDisk}
 use Rattle.adx_desk.specs.Endings.{EndsNotice}
 use Rattle.adx_desk.specs.Serving.{ServesAll}
 use Rattle.adx_desk.proofs.Rises.{notice_within}
-use Rattle.adx_desk.proofs.Serving.{keeps_some_all, serves_all_since}
+use Rattle.adx_desk.proofs.Serving.{keeps_some_all, notice_counts, serves_all_since}
 use Rattle.adx_desk.proofs.desk.Desk.batch.Goals as goal
 
 pub returns-clause-answers : goal.returns-clause-answers
@@ -49,5 +49,5 @@ invariant_of-self g c =
     record {
       room = c.batch.ensures.frame;
       within = notice_within (D.faults c.self.inside.opened.value) (D.faults c.self.inside.disk) (D.faults c.batch.new.disk) c.self.inside.kept.desk c.batch.new.self.desk c.batch.result c.batch.ensures.ends c.self.invariant.within;
-      keeps = λ told. keeps_some_all D.may_leave D.moment D.left_since (record { desk = c.self.inside.kept.desk; disk = c.self.inside.disk; since = unopened }) (record { desk = c.batch.new.self.desk; disk = c.batch.new.disk; since = unopened }) _ c.batch.result c.batch.ensures.serves (c.self.invariant.keeps told);
+      keeps = λ told. keeps_some_all D.may_leave D.moment D.left_since (record { desk = c.self.inside.kept.desk; disk = c.self.inside.disk; since = unopened }) (record { desk = c.batch.new.self.desk; disk = c.batch.new.disk; since = unopened }) _ c.batch.result c.batch.ensures.few (notice_counts (D.faults c.self.inside.disk) (D.faults c.batch.new.disk) (record { desk = c.self.inside.kept.desk; disk = c.self.inside.disk; since = unopened }) (record { desk = c.batch.new.self.desk; disk = c.batch.new.disk; since = unopened }) c.batch.result c.batch.ensures.ends) c.batch.ensures.serves (c.self.invariant.keeps told);
     }

@@ -10,5 +10,5 @@ invariant_of-result g c =
     record {
       room = c.in-Ok.ensures.room;
       within = let none = opens.no_fault in let same = ap D.faults c.of-opened.ensures in (inl (omega arith), λ is. sym same);
-      keeps = λ told. let file = told_some (D.reads c.of-began.result.value) told in ([], opens.keeps file.0 (sym (ap D.reads c.of-began.ensures) ∙ file.1) []);
+      keeps = λ told. let file = told_some (D.reads c.of-began.result.value) told in let keeps = opens.keeps file.0 (sym (ap D.reads c.of-began.ensures) ∙ file.1) [] in record { tail = []; one_record = omega arith; keeps = keeps; sure = λ none. keeps };
     }

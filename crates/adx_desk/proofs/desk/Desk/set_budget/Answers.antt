@@ -11,7 +11,7 @@ use Rattle.adx_desk.specs.Endings.{EndsAsk}
 use Rattle.adx_desk.specs.Histories.{longest_size}
 use Rattle.adx_desk.specs.Serving.{Serves}
 use Rattle.adx_desk.proofs.Rises.{ask_within}
-use Rattle.adx_desk.proofs.Serving.{keeps_some, refused_since, serves_since}
+use Rattle.adx_desk.proofs.Serving.{ask_counts, keeps_some, refused_since, serves_since}
 use Rattle.adx_desk.proofs.desk.Desk.set_budget.Goals as goal
 
 pub returns-clause-answer : goal.returns-clause-answer
@@ -46,7 +46,7 @@ invariant_of-self g c =
     record {
       room = c.self.invariant.room;
       within = ask_within (D.faults c.self.inside.opened.value) (D.faults c.self.inside.disk) (D.faults c.set_budget.new.disk) c.self.inside.kept.desk c.set_budget.new.self.desk (budget_reply c.self.inside.kept.desk.terms.day c.self.inside.kept.desk.history (change_of c.args.campaign c.args.change c.args.budget)).entry c.set_budget.result c.set_budget.ensures.ends c.self.invariant.within;
-      keeps = λ told. keeps_some D.may_leave D.moment D.left_since (record { desk = c.self.inside.kept.desk; disk = c.self.inside.disk; since = unopened }) (record { desk = c.set_budget.new.self.desk; disk = c.set_budget.new.disk; since = unopened }) _ c.set_budget.result c.set_budget.ensures.serves (c.self.invariant.keeps told);
+      keeps = λ told. keeps_some D.may_leave D.moment D.left_since (record { desk = c.self.inside.kept.desk; disk = c.self.inside.disk; since = unopened }) (record { desk = c.set_budget.new.self.desk; disk = c.set_budget.new.disk; since = unopened }) _ c.set_budget.result (ask_counts (D.faults c.self.inside.disk) (D.faults c.set_budget.new.disk) (record { desk = c.self.inside.kept.desk; disk = c.self.inside.disk; since = unopened }) (record { desk = c.set_budget.new.self.desk; disk = c.set_budget.new.disk; since = unopened }) _ c.set_budget.result c.set_budget.ensures.ends c.set_budget.ensures.refused) c.set_budget.ensures.serves (c.self.invariant.keeps told);
     }
 
 pub returns-clause-size : goal.returns-clause-size

@@ -11,7 +11,7 @@ use Rattle.adx_desk.specs.Endings.{EndsAsk}
 use Rattle.adx_desk.specs.Histories.{longest_size}
 use Rattle.adx_desk.specs.Serving.{Serves}
 use Rattle.adx_desk.proofs.Rises.{ask_within}
-use Rattle.adx_desk.proofs.Serving.{keeps_some, refused_since, serves_since}
+use Rattle.adx_desk.proofs.Serving.{ask_counts, keeps_some, refused_since, serves_since}
 use Rattle.adx_desk.proofs.desk.Desk.take_ask.Goals as goal
 
 pub returns-clause-answer : goal.returns-clause-answer
@@ -49,7 +49,7 @@ invariant_of-self g c =
     record {
       room = c.self.invariant.room;
       within = ask_within (D.faults c.self.inside.opened.value) (D.faults c.self.inside.disk) (D.faults c.take_ask.new.disk) c.self.inside.kept.desk c.take_ask.new.self.desk (ask_reply c.self.inside.kept.desk.terms.day c.self.inside.kept.desk.history c.args.ask).entry c.take_ask.result c.take_ask.ensures.ends c.self.invariant.within;
-      keeps = λ told. keeps_some D.may_leave D.moment D.left_since (record { desk = c.self.inside.kept.desk; disk = c.self.inside.disk; since = unopened }) (record { desk = c.take_ask.new.self.desk; disk = c.take_ask.new.disk; since = unopened }) _ c.take_ask.result c.take_ask.ensures.serves (c.self.invariant.keeps told);
+      keeps = λ told. keeps_some D.may_leave D.moment D.left_since (record { desk = c.self.inside.kept.desk; disk = c.self.inside.disk; since = unopened }) (record { desk = c.take_ask.new.self.desk; disk = c.take_ask.new.disk; since = unopened }) _ c.take_ask.result (ask_counts (D.faults c.self.inside.disk) (D.faults c.take_ask.new.disk) (record { desk = c.self.inside.kept.desk; disk = c.self.inside.disk; since = unopened }) (record { desk = c.take_ask.new.self.desk; disk = c.take_ask.new.disk; since = unopened }) _ c.take_ask.result c.take_ask.ensures.ends c.take_ask.ensures.refused) c.take_ask.ensures.serves (c.self.invariant.keeps told);
     }
 
 pub returns-clause-size : goal.returns-clause-size

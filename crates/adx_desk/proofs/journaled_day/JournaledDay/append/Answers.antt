@@ -12,7 +12,7 @@ use Rattle.day_rules.specs.DayState.{HasRoomFor}
 use Rattle.day_rules.specs.Legal.{MayFollow}
 use Rattle.adx_desk.specs.Desks.{DeskState}
 use Rattle.adx_desk.specs.Endings.{size_with}
-use Rattle.notice_batches.specs.Held.{open_count}
+use Rattle.day_machine.specs.Held.{open_count}
 use Rattle.adx_desk.specs.Journaled.{JournaledState, beside, day_in, on_disk, unopened}
 use Rattle.adx_desk.proofs.Inside.{follows_back, journaled_added, known}
 use Rattle.day_entries.proofs.Lengths.{some_bytes}

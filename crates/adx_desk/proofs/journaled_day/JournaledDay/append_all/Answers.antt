@@ -2,10 +2,10 @@
 use Rattle.std.proofs.Common.{◌≡◌, ◌++◌, List, length, ◌∙◌, ap, arith}
 use Rattle.day_rules.specs.declared.entry.Entry.{Entry}
 use Rattle.day_rules.specs.Laws.{after_arrivals}
-use Rattle.notice_batches.specs.Batches.{entries_in_turn}
+use Rattle.day_machine.specs.Batches.{entries_in_turn}
 use Rattle.adx_desk.specs.Desks.{DeskState}
 use Rattle.adx_desk.specs.Journaled.{JournaledState}
-use Rattle.notice_batches.proofs.InTurn.{arrivals_are}
+use Rattle.day_machine.proofs.InTurn.{arrivals_are}
 use Rattle.adx_desk.proofs.Batching.{may_add_all}
 use Rattle.adx_desk.proofs.Inside.{journaled_added, known}
 use Rattle.adx_desk.proofs.Serving.{added, failed}

@@ -6,10 +6,10 @@ use Rattle.day_entries.specs.Entries.{Fits, entries_bytes}
 use Rattle.day_journal.specs.Tails.{size_of}
 use Rattle.day_rules.specs.declared.answer.Answer.{Answer}
 use Rattle.day_rules.specs.Laws.{Arrival}
-use Rattle.notice_batches.specs.Batches.{BatchState, entries_in_turn}
+use Rattle.day_machine.specs.Batches.{BatchState, entries_in_turn}
 use Rattle.adx_desk.specs.Journaled.{JournaledState, on_disk}
 use Rattle.adx_desk.specs.Serving.{ServesAll}
-use Rattle.notice_batches.proofs.InTurn.{entries_few, none_added, some_added}
+use Rattle.day_machine.proofs.InTurn.{entries_few, none_added, some_added}
 use Rattle.adx_desk.proofs.Batching.{ran_in_turn}
 use Rattle.adx_desk.proofs.Serving.{serves_unmoved}
 use Rattle.adx_desk.proofs.journaled_day.JournaledDay.batch.Goals as goal

@@ -3,8 +3,8 @@ use Rattle.std.proofs.Common.{◌≡◌, ◌+◌, ◌*◌, length, sym, ◌∙�
 use Rattle.day_rules.specs.declared.entry.Entry.{Entry}
 use Rattle.day_rules.specs.Books.{sales_of}
 use Rattle.adx_desk.specs.Journaled.{JournaledState, beside}
-use Rattle.notice_batches.specs.Held.{expiry_record, notice_record}
-use Rattle.notice_batches.proofs.Holding.{held_ask, held_budget}
+use Rattle.day_machine.specs.Held.{expiry_record, notice_record}
+use Rattle.day_machine.proofs.Holding.{held_ask, held_budget}
 use Rattle.adx_desk.proofs.Inside.{held_inside, known}
 use Rattle.adx_desk.proofs.Sizes.{few_beside}
 use Rattle.adx_desk.proofs.journaled_day.JournaledDay.held_beside.Goals as goal

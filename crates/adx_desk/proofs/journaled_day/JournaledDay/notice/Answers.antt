@@ -7,7 +7,7 @@ use Rattle.day_rules.specs.Replies.{notice_reply}
 use Rattle.adx_desk.specs.Journaled.{JournaledState, on_disk}
 use Rattle.adx_desk.specs.Serving.{Serves}
 use Rattle.adx_desk.proofs.Asked.{for_some}
-use Rattle.notice_batches.proofs.NoticeEntries.{notice_kind}
+use Rattle.day_machine.proofs.NoticeEntries.{notice_kind}
 use Rattle.adx_desk.proofs.journaled_day.JournaledDay.notice.Goals as goal
 
 pub add_notice-requires-clause-no_ask : goal.add_notice-requires-clause-no_ask

@@ -2,9 +2,9 @@
 use Rattle.std.proofs.Common.{◌≡◌, ℕ, List, length, take, drop, ◌++◌, sym, ap, ◌∙◌, subst}
 use Rattle.std.specs.Prelude.{IfOk, OnErr}
 use Rattle.std.proofs.Math.Seq.{take-length}
-use Rattle.meter_steps.specs.declared.step.MeterStep.{MeterStep}
-use Rattle.meter_steps.specs.Steps.{meters_of, StayInRange}
-use Rattle.day_meters.specs.DayMeters.{steps_of}
+use Rattle.day_rules.specs.declared.step.MeterStep.{MeterStep}
+use Rattle.day_rules.specs.Steps.{meters_of, StayInRange}
+use Rattle.day_rules.specs.DayMeters.{steps_of}
 use Rattle.meter_board.specs.Words.{published, taken}
 use Rattle.meter_board.proofs.Beginnings.{with_rest}
 use Rattle.desk_board.proofs.Meeting.{begins_on, if_done, seen_on, shown_on}

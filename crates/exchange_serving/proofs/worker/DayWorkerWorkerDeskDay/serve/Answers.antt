@@ -1,4 +1,4 @@
-use Rattle.adx_acceptors.specs.Told.{pair_by}
+use Rattle.adx_links.specs.Told.{pair_by}
 use Rattle.meter_board.specs.Words.{list_read}
 use Rattle.exchange_serving.proofs.Workers.{beside, fresh_of, served_in, split_still, works_on}
 use Rattle.exchange_serving.proofs.worker.DayWorkerWorkerDeskDay.serve.Goals as goal

@@ -1,6 +1,6 @@
 use Rattle.std.proofs.Common.{◌≤◌, ap, subst, arith, length, List}
 use mathlib.Core.List.{IsPrefix}
-use Rattle.meter_steps.specs.declared.step.MeterStep.{MeterStep}
+use Rattle.day_rules.specs.declared.step.MeterStep.{MeterStep}
 use Rattle.meter_board.proofs.Beginnings.{prefix_shorter, entries_of}
 use Rattle.meter_board.proofs.shown.Shown.extend_to.Goals as goal
 

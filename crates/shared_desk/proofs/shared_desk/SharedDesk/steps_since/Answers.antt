@@ -1,8 +1,8 @@
 -- By the turn at the turnstile.
 use Rattle.std.proofs.Common.{◌≡◌, ◌∙◌, [], drop, refl, subst, take}
 use Rattle.std.specs.Prelude.{IfOk, IsSomeAnd}
-use Rattle.meter_steps.specs.Steps.{StayInRange, meters_of}
-use Rattle.day_meters.specs.DayMeters.{steps_of}
+use Rattle.day_rules.specs.Steps.{StayInRange, meters_of}
+use Rattle.day_rules.specs.DayMeters.{steps_of}
 use Rattle.shared_desk.proofs.Passing.{passed_turn, ran_on_opened, some_there}
 use Rattle.shared_desk.proofs.Steps.{steps_seen}
 use Rattle.shared_desk.proofs.shared_desk.SharedDesk.steps_since.Goals as goal

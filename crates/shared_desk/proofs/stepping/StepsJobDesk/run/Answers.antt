@@ -1,8 +1,8 @@
 -- By the desk's steps.
 use Rattle.std.proofs.Common.{◌≡◌, ℕ, ◌∙◌, ap, drop, length, subst, take}
 use Rattle.std.specs.Prelude.{IfOk, min}
-use Rattle.meter_steps.specs.Steps.{StayInRange, meters_of}
-use Rattle.day_meters.specs.DayMeters.{steps_of}
+use Rattle.day_rules.specs.Steps.{StayInRange, meters_of}
+use Rattle.day_rules.specs.DayMeters.{steps_of}
 use Rattle.shared_desk.proofs.Steps.{found_steps}
 use Rattle.shared_desk.proofs.stepping.StepsJobDesk.run.Goals as goal
 

@@ -7,4 +7,4 @@ use Rattle.two_books.proofs.world.World.bidder.Goals as goal
 
 pub returns-clause-agree : goal.returns-clause-agree
 returns-clause-agree c =
-    subst (λ (w : WorldState). BillsAgree w.exchange.day.history w.bidder.rows) c.self.view_is (bills_agree _ _ _ c.self.invariant.ledger)
+    subst (λ (w : WorldState). BillsAgree w.exchange.day.history w.bidder.rows) c.self.view_is (bills_agree _ _ _ c.self.invariant.0.ledger)

@@ -1,2 +1,0 @@
-mod Returned
-mod Served

@@ -1,4 +1,0 @@
-pub mod Connections
-pub mod Bidding
-pub mod Statuses
-pub mod Turns

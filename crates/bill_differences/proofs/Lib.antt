@@ -1,5 +1,0 @@
-mod Order
-mod Cuts
-mod Least
-mod Walked
-mod Written

@@ -1,7 +1,0 @@
--- The second is before the first.
-use Rattle.std.proofs.Common.{◌∙◌, sym}
-use Rattle.bill_differences.proofs.Least.{lesser_second}
-use Rattle.bill_differences.proofs.walk.lesser.Goals as goal
-
-pub returns-in-Less : goal.returns-in-Less
-returns-in-Less c = lesser_second c.args.ours.now c.args.theirs.now (sym c.compare.ensures ∙ c.in-Less.is)

@@ -1,5 +1,0 @@
-mod Order
-mod Same
-mod OneText
-mod Agreed
-mod Sums

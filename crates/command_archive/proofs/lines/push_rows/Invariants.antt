@@ -1,0 +1,6 @@
+use Rattle.std.proofs.Common.{◌≡◌, ◌++◌, take, string_bytes}
+use Rattle.command_archive.specs.Lines.{row_lines}
+use Rattle.command_archive.proofs.lines.push_rows.Given as goal
+
+abbrev pub invariant-loop-row : goal.invariant-loop-row
+invariant-loop-row l = string_bytes l.out ≡ string_bytes l.initial.out ++ row_lines (take l.row-index l.rows)

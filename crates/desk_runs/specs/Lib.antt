@@ -1,7 +1,0 @@
-pub mod Meanings
-pub mod Calls
-pub mod Courses
-pub mod OnDisk
-pub mod Answering
-pub mod Records
-pub mod Told

@@ -1,2 +1,0 @@
-pub mod Duality
-pub mod Lists

@@ -1,9 +1,0 @@
--- The chunks that were passed over.
-use Rattle.http_bodies.proofs.AtHand.{IsPassing}
-use Rattle.http_bodies.proofs.whole.has_chunks.Given as goal
-
-abbrev pub invariant-chunks : goal.invariant-chunks
-invariant-chunks l = IsPassing l.limit l.room l.bytes l.rest
-
-abbrev pub decreases-chunks : goal.decreases-chunks
-decreases-chunks l = l.room

@@ -1,3 +1,0 @@
-pub mod Serving
-pub mod Lobbies
-pub mod Halls

@@ -1,2 +1,0 @@
-mod Tending
-mod Rooms

@@ -1,2 +1,0 @@
-pub mod Tending
-pub mod Rooms

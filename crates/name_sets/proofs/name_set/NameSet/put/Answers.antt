@@ -1,7 +1,0 @@
-use Rattle.std.proofs.Common.{ap, ◌∙◌, ◌||◌, bytes_eq}
-use Rattle.name_sets.specs.Among.{is_among}
-use Rattle.name_sets.proofs.Sets.{put_in}
-use Rattle.name_sets.proofs.name_set.NameSet.put.Goals as goal
-
-pub returns-clause-added : goal.returns-clause-added
-returns-clause-added c = λ other. put_in c.self.inside.names c.insert.new.self c.args.name c.in_ok-_is_new.ensures.updates other ∙ ap (λ s. bytes_eq c.args.name.now other || is_among s other) c.self.view_is

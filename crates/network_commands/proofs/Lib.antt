@@ -1,5 +1,0 @@
-mod Documents
-mod LinkLanes
-mod Ends
-mod ServedRuns
-mod Commands

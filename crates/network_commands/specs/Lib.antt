@@ -1,6 +1,0 @@
-pub mod Served
-pub mod Documents
-pub mod Lanes
-pub mod Serving
-pub mod Commands
-pub mod Causes

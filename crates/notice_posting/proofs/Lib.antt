@@ -1,2 +1,0 @@
-mod Tried
-mod Ended

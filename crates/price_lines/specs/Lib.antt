@@ -1,2 +1,0 @@
-pub mod PriceLines
-pub mod Documents

@@ -1,3 +1,0 @@
-pub mod Meeting
-pub mod Judging
-pub mod Items
