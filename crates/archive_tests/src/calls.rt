@@ -2,7 +2,7 @@
 ghost use Rattle.std.specs.Prelude.{◌≡◌, IfOk};
 
 use adx_units::{Id, OutOfMemory, Text, Units};
-use archive_lines::{Filing, file_day, list_days};
+use command_archive::{Filing, file_day, list_days};
 use day_archive::{DayRow, Keeper};
 use std::alloc::Global;
 

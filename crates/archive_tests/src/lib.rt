@@ -1,13 +1,13 @@
-//! Tables of tests of the archive: its dates, a keeper in memory, one over SQL in memory and on a file, the lines of
-//! its commands, and the commands over documents and ranges of days.
+//! Tests of keepers of closed days: one in memory, and one over SQLite in memory and on a file, by the same calls; and days of
+//! several campaigns over SQLite.
+//!
+//! It is tests alone, over the public calls of the crates below.
 #![tactic(auto)]
 
 #[cfg(test)]
 mod calls;
 #[cfg(test)]
-mod dates;
-#[cfg(test)]
-mod documents;
+mod campaigns;
 #[cfg(test)]
 mod keepers;
 #[cfg(test)]

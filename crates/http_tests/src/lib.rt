@@ -1,19 +1,12 @@
-//! Tables of tests of the crates that read and write HTTP/1.1 and ask bidders, over their public calls:
-//! what heads say, messages in pieces, replies and targets, links, those over a roster's texts among them, and what bidders
-//! that fail are told.
+//! Tests of bidders that are asked: links in memory and over sockets, what each kind of answer comes to, links that fail, and
+//! lanes that are worked at the same time.
+//!
+//! It is tests alone, over the public calls of the crates below.
 #![tactic(auto)]
 
 #[cfg(test)]
 mod answers;
 #[cfg(test)]
-mod heads;
-#[cfg(test)]
 mod lanes;
 #[cfg(test)]
 mod links;
-#[cfg(test)]
-mod messages;
-#[cfg(test)]
-mod replies;
-#[cfg(test)]
-mod roster_answers;

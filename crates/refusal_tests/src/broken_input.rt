@@ -2,10 +2,9 @@
 ghost use Rattle.std.specs.Prelude.{◌≡◌, IfOk};
 ghost use Rattle.adx_desk.specs.Rosters.{desk_terms};
 ghost use Rattle.fan_out.specs.declared.answer.TheConstants.{ANSWER_LIMIT as answer_limit};
-ghost use Rattle.exchange_floor.specs.Floors.{AreLanes};
+ghost use Rattle.exchange_messages.specs.Floors.{AreLanes};
 
 use crate::repeating::{Counting, Repeating};
-use crate::runs::roster_of;
 use adx_desk::{Desk, DeskFault};
 use adx_http::{Conn, ConnEnd, HttpFault};
 use adx_io::{Disk, MemoryDisk, MemorySink, MemorySource, Sink, Source};
@@ -13,16 +12,15 @@ use adx_json::{Json, read};
 use adx_links::MemoryLink;
 use adx_units::OutOfMemory;
 use deal_floor::{Place, Roster};
-use exchange_floor::FixedClock;
 use exchange_http::serve_connection;
+use exchange_messages::FixedClock;
 use fan_out::{ANSWER_LIMIT, Lane};
 use std::alloc::{AllocError, Global};
 use std::fmt::Write;
 
 /// One bidder with one campaign.
 const ROSTER: &str =
-    r#"{"day":"2025-03-01","bidders":[{"name":"b1"}],"campaigns":[{"bidder":"b1","seat":"s1","cid":"c1","budget":0.01}]}
-"#;
+    r#"{"day":"2025-03-01","bidders":[{"name":"b1"}],"campaigns":[{"bidder":"b1","seat":"s1","cid":"c1","budget":0.01}]}"#;
 
 /// Bytes in parts: the first, a piece so many times, the middle, and another piece as many times.
 #[derive(Clone, Copy)]
@@ -246,6 +244,17 @@ const TIMES: u64 = 1_048_577;
 const NOT_FOUND: &[u8] =
     b"HTTP/1.1 404 Not Found\r\nContent-Type: application/json\r\nContent-Length: 33\r\n\r\n{\"answer\":\"refused\",\"why\":\"path\"}";
 
+/// The roster of the line.
+fn roster_of(alloc: Global) -> Result<Roster, OutOfMemory> {
+    let Ok(tree) = read(alloc, ROSTER.as_bytes()) else {
+        return Err(OutOfMemory);
+    };
+    match Roster::of(alloc, &tree) {
+        Ok(roster) => Ok(roster),
+        Err(_) => Err(OutOfMemory),
+    }
+}
+
 /// The desk of a roster's day.
 fn desk_of(alloc: Global, roster: &Roster) -> Result<Desk<MemoryDisk>, OutOfMemory>
     ensures { IfOk result (λ d. d.desk.terms ≡ desk_terms roster.entry.now) }
@@ -307,7 +316,7 @@ fn served<S: Source, K: Sink>(
     source: &mut S,
     sink: &mut K,
 ) -> Result<ConnEnd, OutOfMemory> {
-    let roster = roster_of(alloc, ROSTER)?;
+    let roster = roster_of(alloc)?;
     let mut desk = desk_of(alloc, &roster)?;
     let mut lanes = lanes_of(alloc, &roster)?;
     let clock = FixedClock::new(10);
@@ -346,7 +355,7 @@ fn begins(disk: &mut MemoryDisk, front: &[u8; 9]) -> bool {
 /// How many entries a file stands for that is opened as a journal, and whether it is a journal afterwards; or why it
 /// isn't opened.
 fn opened(alloc: Global, file: &[u8]) -> Result<Result<(u64, bool), DeskFault>, OutOfMemory> {
-    let roster = roster_of(alloc, ROSTER)?;
+    let roster = roster_of(alloc)?;
     let disk = MemoryDisk::new(alloc, file, &[], None)?;
     match Desk::open(alloc, disk, &roster) {
         Ok(desk) => {

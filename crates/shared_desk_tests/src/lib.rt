@@ -12,3 +12,5 @@ mod boards;
 mod calls;
 #[cfg(test)]
 mod days;
+#[cfg(test)]
+mod lines;

@@ -2,7 +2,7 @@
 ghost use Rattle.std.specs.Prelude.{◌≡◌};
 ghost use Rattle.adx_desk.specs.Rosters.{desk_terms};
 ghost use Rattle.adx_desk.specs.Shared.{terms_in};
-ghost use Rattle.exchange_floor.specs.Floors.{AreLanes};
+ghost use Rattle.exchange_messages.specs.Floors.{AreLanes};
 ghost use Rattle.turnstile.specs.Passes.{IsOf};
 
 use crate::days::{desk_of, roster_of};

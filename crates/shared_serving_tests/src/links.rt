@@ -1,7 +1,7 @@
 //! Links to two bidders, of which each may wait until the other is asked; and the lanes over them.
 ghost use Rattle.std.specs.Prelude.{◌≡◌, IfOk};
 ghost use Rattle.fan_out.specs.declared.answer.TheConstants.{ANSWER_LIMIT as answer_limit};
-ghost use Rattle.exchange_floor.specs.Floors.{AreLanes};
+ghost use Rattle.exchange_messages.specs.Floors.{AreLanes};
 
 use adx_http::Conn;
 use adx_io::Failed;

@@ -2,7 +2,7 @@
 ghost use Rattle.std.specs.Prelude.{◌≡◌};
 ghost use Rattle.adx_desk.specs.Rosters.{desk_terms};
 ghost use Rattle.adx_desk.specs.Shared.{terms_in};
-ghost use Rattle.exchange_floor.specs.Floors.{AreLanes};
+ghost use Rattle.exchange_messages.specs.Floors.{AreLanes};
 ghost use Rattle.turnstile.specs.Passes.{IsOf, IsSamePass};
 
 use crate::days::messages_of;
@@ -11,13 +11,13 @@ use adx_desk::Desk;
 use adx_http::ConnEnd;
 use adx_io::{MemoryDisk, MemorySink, MemorySource};
 use adx_units::OutOfMemory;
+use day_rules::{MeterView, Meters};
 use deal_floor::Roster;
-use exchange_floor::FixedClock;
 use exchange_http::serve_connection;
+use exchange_messages::FixedClock;
+use exchange_serving::serve_shared;
 use fan_out::Lane;
-use meter_steps::{MeterView, Meters};
 use shared_desk::SharedDesk;
-use shared_serving::serve_shared;
 use std::alloc::Global;
 use std::marker::Sync;
 use std::sync::Wait;

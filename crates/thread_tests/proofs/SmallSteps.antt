@@ -1,9 +1,9 @@
 -- A small step leaves small meters within their range.
 use Rattle.std.proofs.Common.{ℕ, ◌+◌, ◌≤◌, arith}
-use Rattle.meter_steps.specs.declared.meters.Meters.{Meters}
-use Rattle.meter_steps.specs.declared.step.MeterStep.{MeterStep}
-use Rattle.meter_steps.specs.declared.step.StepKind.{StepKind}
-use Rattle.meter_steps.specs.Steps.{after, after_kind, InRange}
+use Rattle.day_rules.specs.declared.meters.Meters.{Meters}
+use Rattle.day_rules.specs.declared.step.MeterStep.{MeterStep}
+use Rattle.day_rules.specs.declared.step.StepKind.{StepKind}
+use Rattle.day_rules.specs.Steps.{after, after_kind, InRange}
 use Rattle.thread_tests.specs.Small.{IsSmall}
 
 small_kind : (k : StepKind) (count money : ℕ) (m : Meters) → IsSmall m → count ≤ 1099511627776 → money ≤ 1099511627776

@@ -4,8 +4,8 @@ ghost use Rattle.std.specs.Thread.{IsSync};
 ghost use Rattle.meter_board.specs.Words.{list_of, list_read, IsSameBoard};
 ghost use Rattle.thread_tests.specs.Small.{IsSmall};
 
+use day_rules::{MeterStep, Meters, StepKind, folded};
 use meter_board::{MeterReader, StepBoard};
-use meter_steps::{MeterStep, Meters, StepKind, folded};
 use std::marker::{Brand, PhantomData};
 use std::sync::{Mutex, Wait};
 use std::test::Fail;

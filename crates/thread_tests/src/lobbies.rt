@@ -1,17 +1,16 @@
 //! Connections and two workers: each connection has its own turn, and all are given back, whatever fails. Two are served at
 //! once.
 ghost use Rattle.std.specs.Prelude.{◌≡◌, [], All, IfOk, IfSome, Some, true, false, length};
-ghost use Rattle.adx_acceptors.specs.Pairs.{IsNew, acceptor_told};
-ghost use Rattle.adx_acceptors.specs.MemoryAcceptors.{pair_told, pairs_of as told_pairs};
+ghost use Rattle.adx_links.specs.Pairs.{IsNew, acceptor_told};
+ghost use Rattle.adx_links.specs.MemoryAcceptors.{pair_told, pairs_of as told_pairs};
 ghost use Rattle.turnstile.specs.Passes.{IsOf};
-ghost use Rattle.lobby.specs.Lobbies.{IsClosed};
-ghost use Rattle.lobby.specs.Serving.{IsFresh};
+ghost use Rattle.adx_links.specs.Lobbies.{IsClosed};
+ghost use Rattle.adx_links.specs.Serving.{IsFresh};
 
 use crate::tally::{Add, Tally, opened};
-use adx_acceptors::MemoryAcceptor;
 use adx_io::{MemorySink, MemorySource, Source, put_all};
+use adx_links::{Hall, Intake, Left, MemoryAcceptor, Worker, serve_all};
 use adx_units::OutOfMemory;
-use lobby::{Hall, Intake, Left, Worker, serve_all};
 use std::alloc::Global;
 use std::hint::spin_loop;
 use std::marker::{Brand, PhantomData};
@@ -81,9 +80,9 @@ struct Echo<'a, J: Names> {
 
 impl<'a, R: Wait, J: Names> Worker<R, MemoryAcceptor, Tally, OneTurn<J>> for Echo<'a, J> {
     ghost use Rattle.std.specs.Prelude.{◌≡◌, false, length};
-    ghost use Rattle.adx_acceptors.specs.Pairs.{IsNew};
-    ghost use Rattle.adx_acceptors.specs.MemoryAcceptors.{pair_told};
-    ghost use Rattle.lobby.specs.Serving.{IsBeside, IsFresh};
+    ghost use Rattle.adx_links.specs.Pairs.{IsNew};
+    ghost use Rattle.adx_links.specs.MemoryAcceptors.{pair_told};
+    ghost use Rattle.adx_links.specs.Serving.{IsBeside, IsFresh};
 
     fn serve(&mut self, rt: &R, pass: &mut Pass<Tally>, pair: &mut Pair) -> bool
         requires fresh { IsFresh J.first pass.old }

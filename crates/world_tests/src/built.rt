@@ -20,7 +20,7 @@ const PRICES: &str =
     r#"{"seat":"s1","base":"http://b1.example","prices":[{"cid":"c1","price":2.5}]}"#;
 
 /// The requests, by their places.
-pub(crate) const REQUESTS: [&str; 6] = [
+const REQUESTS: [&str; 6] = [
     r#"{"id":"a0","imp":[{"id":"1"}]}"#,
     r#"{"id":"a1","imp":[{"id":"1"}]}"#,
     r#"{"id":"a2","imp":[{"id":"1"}]}"#,
@@ -28,9 +28,6 @@ pub(crate) const REQUESTS: [&str; 6] = [
     r#"{"id":"a4","imp":[{"id":"1"}]}"#,
     r#"{"id":"a5","imp":[{"id":"1"}]}"#,
 ];
-
-/// The auctions of the requests.
-pub(crate) const AUCTIONS: [&str; 6] = ["a0", "a1", "a2", "a3", "a4", "a5"];
 
 /// The roster of the day.
 fn roster_of(alloc: Global) -> Result<Roster, OutOfMemory> {

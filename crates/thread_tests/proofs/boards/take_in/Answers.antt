@@ -1,6 +1,6 @@
 use Rattle.std.proofs.Common.{rules, ◌≡◌, ◌+◌, take, fold, sym, subst, arith, below_more}
 use Rattle.std.proofs.lemmas.Grind.{common_steps}
-use Rattle.meter_steps.specs.Steps.{after, meters_of, InRange}
+use Rattle.day_rules.specs.Steps.{after, meters_of, InRange}
 use Rattle.meter_board.specs.Words.{taken}
 use Rattle.thread_tests.proofs.SmallSteps.{small_after}
 use Rattle.thread_tests.proofs.boards.take_in.Goals as goal

@@ -1,5 +1,5 @@
 use Rattle.std.proofs.Common.{◌≡◌, ℕ, ◌+◌, ◌<◌, take, fold}
-use Rattle.meter_steps.specs.Steps.{after, meters_of, InRange}
+use Rattle.day_rules.specs.Steps.{after, meters_of, InRange}
 use Rattle.meter_board.specs.Words.{taken}
 use Rattle.thread_tests.proofs.boards.take_in.Given as goal
 

@@ -1,10 +1,10 @@
 use Rattle.std.proofs.Common.{◌≡◌, length}
-use Rattle.adx_acceptors.specs.Pairs.{acceptor_told}
-use Rattle.adx_acceptors.specs.MemoryAcceptors.{AcceptorState, pair_told, pairs_of}
+use Rattle.adx_links.specs.Pairs.{acceptor_told}
+use Rattle.adx_links.specs.MemoryAcceptors.{AcceptorState, pair_told, pairs_of}
 use Rattle.std.specs.Prelude.{Some}
 use Rattle.thread_tests.specs.declared.tally.Outcome.{Outcome}
-use Rattle.lobby.specs.Serving.{ServedPair}
-use Rattle.lobby.proofs.Keeping.{closes}
+use Rattle.adx_links.specs.Serving.{ServedPair}
+use Rattle.adx_links.proofs.Keeping.{closes}
 use Rattle.thread_tests.proofs.lobbies.serve_pairs.Goals as goal
 
 pub returns : goal.returns

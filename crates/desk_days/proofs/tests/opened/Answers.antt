@@ -1,5 +1,0 @@
-use Rattle.adx_desk.proofs.Rosters.{as_many_budgets}
-use Rattle.desk_days.proofs.tests.opened.Goals as goal
-
-pub returns-in-Ok-clause-two : goal.returns-in-Ok-clause-two
-returns-in-Ok-clause-two c = as_many_budgets c.in-Ok.desk.desk.terms c.args.roster.now 2 c.in-Ok.ensures.opens.same_terms c.requires
