@@ -1,16 +1,17 @@
 # The program that ./adx proved and built, as a user of its own, with a volume for the journals. Nothing is proved or compiled here.
 #
-#     ./adx --version
-#     docker build -f Containerfile -t adx crates/adx/out
+#     ./adx --prove
+#     docker build -f Containerfile -t adx .
 #     docker run --rm -i -v adx-days:/days adx day --journal 2025-03-01.journal < examples/first.day
-#     docker run --rm -i -v adx-days:/days --entrypoint tee adx exchange.roster < examples/exchange.roster
-#     docker run --rm --init --network host -v adx-days:/days adx serve --roster exchange.roster --journal served.journal --port 8080 --workers 4
+#     docker run --rm -i -v adx-days:/days --entrypoint tee adx market.roster < examples/market.roster
+#     docker run --rm --init --network host -v adx-days:/days adx serve --roster market.roster --journal served.journal --port 8080 --workers 4
 #
+# The bidder of that roster is at port 8001 of the machine: ./adx bid --prices examples/market.prices --port 8001.
 # serve listens on 127.0.0.1 alone, so it shares the network of the machine, or of the proxy in front of it. With --init a signal ends it at
 # once: as the first process of a container it would be ended by force alone. The journal stands in either case.
 FROM debian:stable-slim
 RUN useradd --uid 10001 adx && install -d -o adx -g adx -m 700 /days
-COPY adx /usr/local/bin/adx
+COPY crates/adx/out/adx /usr/local/bin/adx
 USER adx
 WORKDIR /days
 VOLUME /days

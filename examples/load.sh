@@ -2,12 +2,12 @@
 # Puts an exchange under load over sockets of this machine, and shows what it took: wrk asks for bids and bills what was sold, and two
 # bidders answer.
 #
-#     examples/load.sh                   needs the program that ./adx proved and built, curl and wrk
+#     examples/load.sh                   needs curl and wrk
 #     LOAD_SECONDS=20 examples/load.sh   for so long (5, at most 60), and two minutes at most beside it
 #     LOAD_WORKERS=8 examples/load.sh    with so many workers, and as many connections (4)
 #
 # It stops all that it starts. It takes the first three ports from LOAD_PORT on (28091) at which nobody listens, all of 127.0.0.1. The
-# journal is in a folder of TMPDIR (/tmp), so that the figures are of that folder's disk. ADX names another program than ./adx.
+# journal is in a folder of TMPDIR (/tmp), so that the figures are of that folder's disk. ADX names another program than the one that ./adx runs.
 set -eu
 script=$(readlink -f "$0")
 seconds=${LOAD_SECONDS:-5}

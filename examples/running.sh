@@ -1,13 +1,23 @@
-# What examples/talk.sh and examples/load.sh share: they read it, and it isn't run. They say before in $longest for how many seconds they
-# may run, and in $script their own path.
+# What the scripts of examples/ share: they read it, and it isn't run. They say before in $longest for how many seconds they may run, and
+# in $script their own path.
 # shellcheck shell=bash disable=SC2154
 
-# The program that is run; ADX names another one.
-adx=${ADX:-./adx}
+# The program that is run; ADX names another one. In a clone it is the one that ./adx runs, and where none is built a quick build is made
+# before, which takes minutes; beside a packed program it is that.
+if [ -z "${ADX:-}" ]; then
+    if [ -e crates.txt ]; then
+        read -r kind _ ADX < <(./adx --which 2>/dev/null || ./adx --quick) || true
+        [ -n "$ADX" ] || exit 1
+        [ "$kind" = proved ] || echo "$(basename "$script"): with a quick build of adx, unproved" >&2
+    else
+        ADX=$(PATH=.:$PATH command -v adx) || { echo "$(basename "$script"): no adx is here or on the path" >&2; exit 1; }
+    fi
+    export ADX
+fi
+adx=$ADX
 
-# The script begins once more under a limit of time. Where there is no proved program yet, one is proved before, which takes its time.
+# The script begins once more under a limit of time.
 if [ -z "${BOUNDED:-}" ]; then
-    "$adx" --version >/dev/null
     BOUNDED=1 exec timeout "$longest" "$script" "$@"
 fi
 folder=$(mktemp -d)

@@ -1,40 +1,39 @@
 #!/usr/bin/env bash
 # A bidder takes connections, a day's journal owes it notices, and they are sent to it: afterwards both sides have the same bills.
 #
-#     examples/send.sh        needs the program that ./adx proved and built, and curl
+#     examples/send.sh        needs curl
 #
-# It stops all that it starts, and ends by itself within seconds. SEND_PORT names the bidder's port; 28081 is the usual one.
+# It stops all that it starts, and ends by itself within seconds. It takes the first port from SEND_PORT on (28081) at which nobody
+# listens; in what it shows `bidder` stands for 127.0.0.1 and that port. ADX names another program than the one that ./adx runs.
 set -eu
-cd "$(dirname "$(readlink -f "$0")")/.."
-bidder=127.0.0.1:${SEND_PORT:-28081}
-folder=$(mktemp -d)
-trap 'kill $(jobs -p) 2>/dev/null || true; rm -rf "$folder"' EXIT
+script=$(readlink -f "$0")
+longest=60
+cd "$(dirname "$script")/.."
+. examples/running.sh
+need curl
+port=$(free_port "${SEND_PORT:-28081}")
+bidder=127.0.0.1:$port
 
-if ! command -v curl >/dev/null; then
-    echo "send.sh: install curl (Debian: apt-get install curl)" >&2
-    exit 1
-fi
+# Shows the lines of standard input with a name for the address.
+show() {
+    sed "s/127\.0\.0\.1:$port/bidder/g"
+}
 
-echo "# A bidder takes connections at $bidder"
-./adx bid --prices examples/bidder.prices --port "${bidder#*:}" 2>"$folder/said" &
-for _ in $(seq 100); do
-    [ -s "$folder/said" ] && break
-    sleep 0.1
-done
-grep -q "taken at $bidder\$" "$folder/said" || { cat "$folder/said" >&2; exit 1; }
+echo "# A bidder takes connections"
+start "$port" bid --prices examples/bidder.prices
 
 echo "# A day of an exchange sells it an impression, which is won and billed"
 sed "s/127\.0\.0\.1:28081/$bidder/g" examples/send.day >"$folder/day"
 head -n 1 "$folder/day" >"$folder/roster"
-./adx day --journal "$folder/journal" <"$folder/day"
+"$adx" day --journal "$folder/journal" <"$folder/day" | show
 
 echo "# What the day owes its bidder, and the status of sending it"
-./adx notices --journal "$folder/journal" <"$folder/roster"
-./adx post --roster "$folder/roster" --journal "$folder/journal" && echo "status $?"
+"$adx" notices --journal "$folder/journal" <"$folder/roster" | show
+"$adx" post --roster "$folder/roster" --journal "$folder/journal" && echo "status $?"
 
 echo "# What the bidder has counted"
-curl -s --max-time 10 "http://$bidder/books"
+call "http://$bidder/books"
 
 echo "# The bills of both sides, compared"
-{ cat "$folder/roster"; curl -s --max-time 10 "http://$bidder/ledger"; } |
-    ./adx reconcile --journal "$folder/journal" --bidder b1
+{ cat "$folder/roster"; call "http://$bidder/ledger"; } |
+    "$adx" reconcile --journal "$folder/journal" --bidder b1

@@ -2,10 +2,10 @@
 # Two bidders and an exchange talk over sockets of this machine: three requests for bids are sold, two of the ads are shown and billed, one
 # isn't, and in the end both sides have the same bills.
 #
-#     examples/talk.sh        needs the program that ./adx proved and built, and curl
+#     examples/talk.sh        needs curl
 #
 # It stops all that it starts, and ends by itself within a minute. It takes the first three ports from TALK_PORT on (28081) at which
-# nobody listens. In what it shows `north`, `south` and `exchange` stand for 127.0.0.1 and their ports. ADX names another program than ./adx.
+# nobody listens. In what it shows `north`, `south` and `exchange` stand for 127.0.0.1 and their ports. ADX names another program than the one that ./adx runs.
 set -eu
 script=$(readlink -f "$0")
 longest=60
