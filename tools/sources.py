@@ -1,4 +1,5 @@
-"""Reads crates.txt and the functions of .rt files, for the scripts beside it. It knows no more of the language than they need."""
+"""Reads crates.txt with its layers, and the functions of .rt files, for the scripts beside it. It knows no more of the language than they need."""
+import functools
 import glob
 import os
 import re
@@ -11,7 +12,7 @@ CLAUSE = re.compile(r'\s*(requires|ensures)\*?[ \n]*(\w*) *\{')
 
 
 def crates():
-    """The crates of crates.txt, each with those that it stands on."""
+    """The crates of crates.txt in its order, each with those that it uses."""
     found = {}
     with open(TOP + '/crates.txt', encoding='utf-8') as file:
         for line in file:
@@ -21,9 +22,55 @@ def crates():
     return found
 
 
+LAYER = re.compile(r'# ([A-Z][A-Za-z ]*): (.*)')
+
+
+SPELLED = {'HTTP': 'HTTP', 'OPENRTB': 'OpenRTB'}
+CARRIED = re.compile(r'(.*?) Carried by ([\w:]+) of (\w+), (\w+)\.')
+
+
+class Layer:
+    """A layer of crates.txt: its name, what it is, the call, its crate and the clause that carry it (or None), its crates, and a sentence on
+    each that has one."""
+
+    def __init__(self, name, words):
+        carried = CARRIED.fullmatch(words)
+        self.carried = carried.groups()[1:] if carried else None
+        self.name, self.words, self.crates, self.says = name, carried.group(1) if carried else words, [], {}
+
+    def page(self):
+        """The name of a page about it."""
+        return self.name.lower().replace(' ', '-') + '.md'
+
+
+def layers():
+    """The layers of crates.txt from the top down: a line `# LAYER: words. Carried by CALL of CRATE, CLAUSE.` in capitals begins one, and a
+    comment above a crate's line is about it."""
+    found, before = [], ''
+    with open(TOP + '/crates.txt', encoding='utf-8') as file:
+        for line in file:
+            line = line.strip()
+            head = LAYER.fullmatch(line)
+            if head and head.group(1).isupper():
+                name = ' '.join(SPELLED.get(word, word.lower()) for word in head.group(1).split())
+                found.append(Layer(name[0].upper() + name[1:], head.group(2)))
+            elif found and re.match(r'\w+ *:', line):
+                name = line.partition(':')[0].strip()
+                found[-1].crates.append(name)
+                if before:
+                    found[-1].says[name] = before
+            before = line[2:] if line.startswith('# ') and not (head and head.group(1).isupper()) else ''
+    return found
+
+
+@functools.lru_cache(maxsize=None)
+def of_tests():
+    return frozenset(name for layer in layers() if layer.name == 'Tests' for name in layer.crates)
+
+
 def is_of_tests(crate):
-    """Whether it is a crate of tests, on which nothing stands."""
-    return crate.endswith('_tests') or crate == 'desk_days'
+    """Whether it is a crate of tests, which no other crate uses."""
+    return crate in of_tests()
 
 
 def read(path):
@@ -40,8 +87,8 @@ def blanked(text):
     return HIDDEN.sub(lambda m: re.sub(r'[^\n]', ' ', m.group()), text)
 
 
-def behind_brace(bare, at):
-    """The place behind the brace that closes the one at this place."""
+def after_brace(bare, at):
+    """The place after the brace that closes the one at this place."""
     depth = 0
     for place in range(at, len(bare)):
         depth += {'{': 1, '}': -1}.get(bare[place], 0)
@@ -63,13 +110,13 @@ class Function:
             clause = CLAUSE.match(bare, at)
             if clause is None:
                 break
-            end = behind_brace(bare, clause.end() - 1)
+            end = after_brace(bare, clause.end() - 1)
             begin = clause.start() + len(clause.group()) - len(clause.group().lstrip())
             self.clauses.append((clause.group(1), clause.group(2), text[clause.end():end - 1].strip(), text.count('\n', 0, begin) + 1))
             at = end
         rest = re.compile(r'\s*').match(bare, at).end()
         self.begin, self.body = match.start(), rest
-        self.end = behind_brace(bare, rest) if bare[rest:rest + 1] == '{' else rest
+        self.end = after_brace(bare, rest) if bare[rest:rest + 1] == '{' else rest
         self.last_line = text.count('\n', 0, self.end) + 1
         self.body_line = text.count('\n', 0, rest) + 1
 
@@ -96,7 +143,7 @@ def functions(path, text=None):
     """The functions of a file, in their order, or of this text of it."""
     text = read(path) if text is None else text
     bare = blanked(text)
-    owners = [(m.start(), behind_brace(bare, bare.find('{', m.start())), owner_of(m.group())) for m in OWNER.finditer(bare)]
+    owners = [(m.start(), after_brace(bare, bare.find('{', m.start())), owner_of(m.group())) for m in OWNER.finditer(bare)]
     found = []
     for match in FUNCTION.finditer(bare):
         owner = next((name for begin, end, name in owners if begin < match.start() < end), None)
