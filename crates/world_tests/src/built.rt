@@ -1,9 +1,10 @@
 //! Worlds of one campaign and one bidder, and their steps.
-ghost use Rattle.std.specs.Prelude.{◌≡◌, ◌<◌, ◌^◌, [], IfOk};
+ghost use Rattle.std.specs.Prelude.{◌≡◌, ◌<◌, ◌≤◌, ◌^◌, [], IfOk};
+ghost use Rattle.campaign_book.specs.Accounts.{IsBudget};
 ghost use Rattle.two_books.specs.Steps.{IsTimely};
 
 use adx_json::read;
-use adx_units::{OutOfMemory, Sequence};
+use adx_units::{BUDGET_LIMIT, OutOfMemory, Sequence, Units};
 use bidder_core::Bidder;
 use deal_floor::Roster;
 use notice_book::{End, NoticeKind};
@@ -117,11 +118,28 @@ fn take_at(world: &mut World, step: &Step, now: u64) -> Result<(), OutOfMemory>
     }
 }
 
-/// Takes a step whose moment a day takes.
+/// Takes a change of a budget, if a day takes its number and its budget.
+fn take_budget(
+    world: &mut World,
+    step: &Step,
+    change: u32,
+    budget: Units,
+) -> Result<(), OutOfMemory>
+    requires { 1 ≤ change → IsBudget budget → IsTimely step.now }
+{
+    if change >= 1 && budget.0 >= 1 && budget.0 <= BUDGET_LIMIT {
+        world.step(step)
+    } else {
+        Ok(())
+    }
+}
+
+/// Takes a step whose moment or whose budget a day takes.
 pub(crate) fn take(world: &mut World, step: &Step) -> Result<(), OutOfMemory> {
     match step {
         Step::Ask { now, .. } => take_at(world, step, *now),
         Step::Tick { now } => take_at(world, step, *now),
+        Step::Budget { change, budget, .. } => take_budget(world, step, *change, *budget),
         Step::Notice { .. }
         | Step::Pump { .. }
         | Step::Again { .. }

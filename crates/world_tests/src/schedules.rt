@@ -1,14 +1,14 @@
 //! Schedules by name: what is pending, what the ledger has, and the two sums behind each.
 use crate::built::{ask_of, day_sum, ledger_sum, pump_of, take, world_of};
-use adx_units::OutOfMemory;
+use adx_units::{OutOfMemory, Units};
 use notice_book::NoticeKind;
 use std::alloc::Global;
 use two_books::{Step, World};
 
 /// A name, the steps, the number of pending posts, of the ledger's rows and of the messages, and the two sums in units of
 /// a bill (2,500,000). Steps are parted by a comma and a space: `ask` and the place of a request, a kind of notice with an
-/// award, `tick` and a moment, `pump` and the fates of the messages, `again` and a message, `restart` and `wake`, the
-/// restart of the bidder. Asks come at second 10.
+/// award, `tick` and a moment, `budget` and a change with its units, `pump` and the fates of the messages, `again` and a
+/// message, `restart` and `wake`, the restart of the bidder. Asks come at second 10.
 const SCHEDULES: &str = "\
 the reply lost, brought again, the exchange anew | ask 0, bill 0, pump M, again 0, restart, pump T | 0 1 2 | 1 1
 held back | ask 0, bill 0, pump H | 1 0 1 | 1 0
@@ -29,6 +29,8 @@ the exchange anew, and all held | ask 0, bill 0, pump T, restart, pump H | 1 1 2
 the bidder anew | ask 0, bill 0, pump M, wake, pump T | 0 1 2 | 1 1
 an ask twice | ask 0, ask 0, bill 0, pump T | 0 1 1 | 1 1
 a bill twice | ask 0, bill 0, bill 0, pump TT, pump T | 0 1 1 | 1 1
+the budget lowered to what is committed | ask 0, budget 1=2500000, ask 1, bill 0, bill 1, pump TT | 0 2 2 | 1 1
+a budget below what is committed | ask 0, budget 1=1, ask 1, bill 0, bill 1, pump TT | 0 2 2 | 2 2
 the loss first and then the win | ask 0, win 0, loss 0, pump HM, again 1, pump TT | 1 1 4 | 0 0
 ";
 
@@ -47,6 +49,16 @@ fn notice_of(kind: &str, award: u32) -> Step {
     Step::Notice { kind, award }
 }
 
+/// The change of the campaign's budget that a text names, by its number and its units.
+fn change_of(text: &str) -> Step {
+    let (change, budget) = text.split_once('=').unwrap_or(("", ""));
+    Step::Budget {
+        campaign: 0,
+        change: number_of(change),
+        budget: Units(u64::from(number_of(budget))),
+    }
+}
+
 /// The step that a word names.
 fn step_of(alloc: Global, word: &str) -> Result<Step, OutOfMemory> {
     match word.split_once(' ') {
@@ -60,6 +72,7 @@ fn step_of(alloc: Global, word: &str) -> Result<Step, OutOfMemory> {
         Some(("again", message)) => Ok(Step::Again {
             message: number_of(message),
         }),
+        Some(("budget", change)) => Ok(change_of(change)),
         Some((kind, award)) => Ok(notice_of(kind, number_of(award))),
     }
 }
