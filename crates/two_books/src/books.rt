@@ -22,7 +22,7 @@ use std::marker::Model;
 
 /// An exchange, the messages that it ever sent, and a bidder, whatever they came from.
 #[derive(Drop)]
-pub struct Books {
+pub(crate) struct Books {
     alloc: Global,
     exchange: Exchange,
     messages: Vec<Call>,
@@ -46,7 +46,7 @@ fn note_name(bytes: &[u8])
 
 impl Books {
     /// The books before their first step.
-    pub fn new(alloc: Global, roster: Roster, bidder: Bidder) -> Result<Books, OutOfMemory>
+    pub(crate) fn new(alloc: Global, roster: Roster, bidder: Bidder) -> Result<Books, OutOfMemory>
         ensures { IfOk result (IsNew roster bidder) }
     {
         Ok(Books {
@@ -58,42 +58,42 @@ impl Books {
     }
 
     /// The exchange's day.
-    pub fn day(&self) -> &Day
+    pub(crate) fn day(&self) -> &Day
         ensures { result.now ≡ self.now.exchange.day }
     {
         self.exchange.day()
     }
 
     /// The bidder with its ledger.
-    pub fn bidder(&self) -> &Bidder
+    pub(crate) fn bidder(&self) -> &Bidder
         ensures { result.now ≡ self.now.bidder }
     {
         &self.bidder
     }
 
     /// The messages that the exchange ever sent, in their order.
-    pub fn messages(&self) -> &[Call]
+    pub(crate) fn messages(&self) -> &[Call]
         ensures { result.now ≡ self.now.messages }
     {
         self.messages.as_slice()
     }
 
     /// The pending posts, in the order of the entries that asked for them.
-    pub fn pending(&self) -> &[Post]
+    pub(crate) fn pending(&self) -> &[Post]
         ensures { result.now ≡ self.now.exchange.outbox.pending }
     {
         self.exchange.pending()
     }
 
     /// How many posts couldn't be sent since the exchange's last restart. The count stands still at its last value.
-    pub fn undeliverable(&self) -> u32
+    pub(crate) fn undeliverable(&self) -> u32
         ensures { result ≡ self.now.exchange.outbox.undeliverable }
     {
         self.exchange.undeliverable()
     }
 
     /// Takes a step. Where memory is wanting some first of what the step does is done.
-    pub fn step(&mut self, step: &Step) -> Result<(), OutOfMemory>
+    pub(crate) fn step(&mut self, step: &Step) -> Result<(), OutOfMemory>
         requires { IsTimely step.now }
         ensures does { StepsTo step.now result self.old self.new }
         ensures named { IsNamed step.now }

@@ -20,6 +20,5 @@ mod pumping;
 mod step;
 mod world;
 
-pub use books::Books;
 pub use step::{Fate, Step};
 pub use world::World;
