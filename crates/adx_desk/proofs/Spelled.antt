@@ -6,8 +6,8 @@ use Rattle.day_rules.specs.declared.entry.Entry.{Entry}
 use Rattle.day_rules.specs.Asks.{IsOffer, IsWellFormed, undecided}
 use Rattle.day_rules.specs.Legal.{MayFollow}
 use Rattle.day_rules.specs.Terms.{Terms}
-use Rattle.day_asks.specs.KeptTexts.{IsShort}
-use Rattle.day_asks.proofs.Texts.{few_texts, settled_short}
+use Rattle.day_rules.specs.KeptTexts.{IsShort}
+use Rattle.day_rules.proofs.Texts.{few_texts, settled_short}
 use Rattle.day_entries.specs.Entries.{HasShortTexts, IsSpelled}
 
 offer_imp : (campaigns imps : ℕ) (o : Offer) → imps ≤ 16 → IsOffer campaigns imps o → o.imp < 2 ^ 8

@@ -17,7 +17,8 @@ use Rattle.desk_calls.specs.OnDisk.{history_after}
 use Rattle.desk_calls.specs.Records.{RaisesAmong, RunsOn}
 use Rattle.desk_calls.specs.Told.{told_of}
 use Rattle.desk_calls.proofs.RunsCalls.{runs_books}
-use Rattle.exchange_messages.specs.Floors.{IsMomentOf, works}
+use Rattle.exchange_messages.specs.Floors.{IsMomentOf}
+use Rattle.fan_out.specs.Lanes.{works}
 use Rattle.exchange_http.specs.Serving.{ServesConnection, Talked}
 use Rattle.exchange_messages.specs.Courses.{Course}
 use Rattle.fan_out.specs.declared.lane.Lane.{Lane}

@@ -229,7 +229,7 @@ impl Day {
             return full(Which::Bids, bids);
         }
         let ask = self.settled(ask);
-        let text = self.totals.text + day_asks::size_of_all(ask.kept.as_slice());
+        let text = self.totals.text + day_rules::size_of_all(ask.kept.as_slice());
         if self.limits.text < text {
             return full(Which::Text, text);
         }
@@ -253,7 +253,7 @@ impl Day {
         } = ask;
         let mut offers = offers.into_vec();
         self.ledger.settle(&mut offers, imps.len() as u32);
-        let kept = day_asks::settle_kept(self.alloc, &offers, kept.into_vec());
+        let kept = day_rules::settle_kept(self.alloc, &offers, kept.into_vec());
         Ask {
             auction,
             digest,
@@ -480,7 +480,7 @@ impl Day {
         ensures history { self.new.history ≡ self.old.history ++ Entry.Ask ask ∷ [] }
     {
         let place = self.history.len() as u32;
-        let text = day_asks::size_of_all(ask.kept.as_slice());
+        let text = day_rules::size_of_all(ask.kept.as_slice());
         sales::sell(&mut self.ledger, &ask, place);
         self.totals = totals::with_ask(self.totals, &ask, text);
         self.history.push_reserved(Entry::Ask(ask));

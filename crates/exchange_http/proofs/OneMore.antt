@@ -8,14 +8,14 @@ use Rattle.desk_calls.specs.Steps.{Step}
 use Rattle.desk_calls.specs.declared.day_desk.DayDesk.{Ghosts as DeskGhosts}
 use Rattle.day_machine.specs.declared.batch.TheConstants.{BATCH_LIMIT}
 use Rattle.adx_links.specs.declared.link.Link.{Ghosts as LinkGhosts}
-use Rattle.exchange_messages.specs.Floors.{AnswersHere, GivesUpHere, IsMomentOf, works}
+use Rattle.exchange_messages.specs.Floors.{AnswersHere, GivesUpHere, IsMomentOf}
 use Rattle.exchange_messages.specs.declared.clock.Clock.{Ghosts as ClockGhosts}
 use Rattle.exchange_messages.specs.declared.floor.Floor.{Floor}
 use Rattle.exchange_messages.proofs.Requested.{JoinsSteps}
 use Rattle.exchange_messages.specs.Replies.{Reply}
 use Rattle.deal_floor.specs.declared.roster.Roster.{Roster}
 use Rattle.fan_out.specs.declared.lane.Lane.{Lane}
-use Rattle.fan_out.specs.Lanes.{Outcome}
+use Rattle.fan_out.specs.Lanes.{Outcome, works}
 use Rattle.http_connection.specs.Messages.{Request}
 use Rattle.http_connection.specs.declared.conn.ConnEnd.{ConnEnd}
 use Rattle.http_service.specs.Connections.{Answering, Replies, Served}

@@ -16,7 +16,8 @@ use Rattle.http_service.specs.Connections.{Answering, GivingUp, AreSpent, Brings
 use Rattle.http_service.specs.declared.limits.TheConstants.{REQUEST_LIMIT}
 use Rattle.day_rules.specs.RunBooks.{HasBooks}
 use Rattle.desk_calls.specs.Told.{told_of}
-use Rattle.exchange_messages.specs.Floors.{IsMomentOf, works}
+use Rattle.exchange_messages.specs.Floors.{IsMomentOf}
+use Rattle.fan_out.specs.Lanes.{works}
 use Rattle.exchange_messages.specs.declared.clock.Clock.{Ghosts as ClockGhosts}
 use Rattle.exchange_messages.specs.declared.floor.Floor.{Floor}
 use Rattle.exchange_messages.specs.Courses.{AnswersOn, Course, GivesUpOn, begun}

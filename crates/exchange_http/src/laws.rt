@@ -1,5 +1,5 @@
 //! Laws of the definition of what messages are answered: each is a function without a body, whose contract is the law.
-ghost use Rattle.exchange_messages.specs.Floors.{works};
+ghost use Rattle.fan_out.specs.Lanes.{works};
 ghost use Rattle.exchange_http.specs.Laws.{HasMeaning, HasOneMeaning, HasOneReply};
 
 use adx_links::Link;

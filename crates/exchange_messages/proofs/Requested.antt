@@ -25,12 +25,12 @@ use Rattle.fan_out.specs.declared.answer.TheConstants.{ANSWER_LIMIT}
 use Rattle.fan_out.specs.declared.lane.Lane.{Lane}
 use Rattle.fan_out.specs.Answers.{said_by}
 use Rattle.fan_out.specs.Gathering.{AreWorked, WereWorked, outcomes_of}
-use Rattle.fan_out.specs.Lanes.{IsWorked, Outcome}
+use Rattle.fan_out.specs.Lanes.{IsWorked, Outcome, works}
 use Rattle.http_connection.specs.Messages.{Request}
 use Rattle.rtb_request.specs.ForBidders.{request_for_bidders}
 use Rattle.rtb_request.specs.declared.bid_request.BidRequest.{BidRequest}
 use Rattle.exchange_messages.specs.Asking.{AsksAt, LeavesCall, StopsAt, TakesCall}
-use Rattle.exchange_messages.specs.Floors.{AnswersHere, AreLanes, GivesUpHere, IsFloor, IsKept, IsMomentOf, works}
+use Rattle.exchange_messages.specs.Floors.{AnswersHere, AreLanes, GivesUpHere, IsFloor, IsKept, IsMomentOf}
 use Rattle.exchange_messages.specs.declared.clock.Clock.{Ghosts as ClockGhosts}
 use Rattle.exchange_messages.specs.declared.floor.Floor.{Floor}
 use Rattle.exchange_messages.specs.Meanings.{Meaning, Means, asks, refused, sets_budget, wants_books, wants_meters}

@@ -10,7 +10,7 @@ use Rattle.fan_out.specs.declared.answer.TheConstants.{ANSWER_LIMIT}
 use Rattle.fan_out.specs.declared.lane.Lane.{Lane}
 use Rattle.fan_out.specs.declared.answer.BidderAnswer.{BidderAnswer}
 use Rattle.fan_out.specs.Gathering.{AreWorked, WereWorked, outcomes_of}
-use Rattle.fan_out.specs.Lanes.{IsWorked, Outcome}
+use Rattle.fan_out.specs.Lanes.{works}
 use Rattle.http_connection.specs.Messages.{Request}
 use Rattle.exchange_messages.specs.Replies.{Reply}
 use Rattle.exchange_messages.specs.Turns.{IsAnswered, LeavesUnmade}
@@ -28,10 +28,6 @@ IsMomentOf told now = (now < 2 ^ 63) × IfSome told (λ m. now ≡ m)
 pub record AreLanes {L : Type 0} (r : Roster) (lanes : List (Lane L)) : Type 0 where
   pub places : map (λ (l : Lane L). l.place) lanes ≡ r.bidders
   pub limits : All (λ (l : Lane L). l.conn.limit ≡ ANSWER_LIMIT) lanes
-
--- how the lanes over such links are worked
-abbrev pub works : {L : Type 0} → LinkGhosts L → List ℕ → List ℕ → Lane L → Lane L → Outcome → Type 0
-works l = IsWorked l.exchanges l.course l.faults l.place
 
 -- The lanes of a round were worked with its body for the request of its id: by each lane's outcome where the bidders' answers
 -- are given, and by some outcomes in any case.

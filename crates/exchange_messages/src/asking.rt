@@ -9,7 +9,8 @@ ghost use Rattle.desk_calls.specs.Desks.{Looks};
 ghost use Rattle.fan_out.specs.Gathering.{WereWorked};
 ghost use Rattle.rtb_request.specs.ForBidders.{request_for_bidders};
 ghost use Rattle.exchange_messages.specs.Asking.{AsksAt, LeavesCall, StopsAt, TakesCall};
-ghost use Rattle.exchange_messages.specs.Floors.{Gave, IsMomentOf, works};
+ghost use Rattle.exchange_messages.specs.Floors.{Gave, IsMomentOf};
+ghost use Rattle.fan_out.specs.Lanes.{works};
 ghost use Rattle.exchange_messages.specs.Courses.{reply_of};
 ghost use Rattle.exchange_messages.specs.Turns.{Gathers};
 

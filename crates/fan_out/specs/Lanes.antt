@@ -3,6 +3,7 @@ use Rattle.std.specs.Prelude.{◌≡◌, ◌≢◌, ◌⊎◌, ℕ, ◌≤◌, L
 use Rattle.std.specs.Borrow.{GName}
 use Rattle.adx_units.specs.declared.memory.OutOfMemory.{OutOfMemory}
 use Rattle.adx_io.specs.Streams.{WhereTold, Rises}
+use Rattle.adx_links.specs.declared.link.Link.{Ghosts as LinkGhosts}
 use Rattle.adx_links.specs.Links.{Course, Exchanges, FailsStart, after_start, exchanges_in, next_start}
 use Rattle.adx_http.specs.Exchanging.{OneMore, AnswersFront}
 use Rattle.deal_floor.specs.declared.place.Place.{Place}
@@ -86,3 +87,7 @@ module _ {L : Type 0} (exchanges : L → Option Exchanges) (course : L → Optio
     pub cause : IsCaused (faults old.link) (faults new.link) outcome
     pub same : stands_on new.link ≡ stands_on old.link
     pub own : IsOwn outcome
+
+-- how the lanes over such links are worked
+abbrev pub works : {L : Type 0} → LinkGhosts L → List ℕ → List ℕ → Lane L → Lane L → Outcome → Type 0
+works l = IsWorked l.exchanges l.course l.faults l.place

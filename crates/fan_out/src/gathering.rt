@@ -1,7 +1,7 @@
 //! All lanes asked: at the same time, or one after the other.
 ghost use Rattle.std.specs.Prelude.{◌≡◌, [], ◌∷◌, ◌++◌, map, Some, Ok, None, IfOk};
 ghost use Rattle.std.specs.List.{All};
-ghost use Rattle.fan_out.specs.Lanes.{IsWorked};
+ghost use Rattle.fan_out.specs.Lanes.{works};
 ghost use Rattle.fan_out.specs.Gathering.{AreWorked, WereWorked, outcomes_of};
 ghost use Rattle.fan_out.specs.Lasts.{AreTaken, EachLeaves, emptied};
 
@@ -54,7 +54,7 @@ fn work_all<R: Threads + Sync, L: Link + Send>(
     body: &[u8],
     id: &Id,
 )
-    ensures { EachLeaves (IsWorked L.exchanges L.course L.faults L.place body.now id.now) lanes.old lanes.new }
+    ensures { EachLeaves (works L.Link body.now id.now) lanes.old lanes.new }
 {
     let count = lanes.len();
     if count > 0 {
@@ -64,7 +64,7 @@ fn work_all<R: Threads + Sync, L: Link + Send>(
 
 /// Works every lane, one after the other.
 fn work_in_turn<L: Link>(alloc: Global, lanes: &mut [Lane<L>], body: &[u8], id: &Id)
-    ensures { EachLeaves (IsWorked L.exchanges L.course L.faults L.place body.now id.now) lanes.old lanes.new }
+    ensures { EachLeaves (works L.Link body.now id.now) lanes.old lanes.new }
 {
     for lane in lanes.iter_mut() {
         work(alloc, lane, body, id);
@@ -79,8 +79,8 @@ fn gather_lanes<R: Threads + Sync, L: Link + Send>(
     body: &[u8],
     id: &Id,
 ) -> Result<Vec<BidderAnswer>, OutOfMemory>
-    ensures answers { IfOk result (λ v. AreWorked (IsWorked L.exchanges L.course L.faults L.place body.now id.now) lanes.old lanes.new (outcomes_of v.items)) }
-    ensures worked { WereWorked (IsWorked L.exchanges L.course L.faults L.place body.now id.now) lanes.old lanes.new }
+    ensures answers { IfOk result (λ v. AreWorked (works L.Link body.now id.now) lanes.old lanes.new (outcomes_of v.items)) }
+    ensures worked { WereWorked (works L.Link body.now id.now) lanes.old lanes.new }
     ensures taken { All (λ l. l.last ≡ None) lanes.new }
 {
     work_all(rt, alloc, lanes, body, id);
@@ -94,8 +94,8 @@ fn gather_lanes_in_turn<L: Link>(
     body: &[u8],
     id: &Id,
 ) -> Result<Vec<BidderAnswer>, OutOfMemory>
-    ensures answers { IfOk result (λ v. AreWorked (IsWorked L.exchanges L.course L.faults L.place body.now id.now) lanes.old lanes.new (outcomes_of v.items)) }
-    ensures worked { WereWorked (IsWorked L.exchanges L.course L.faults L.place body.now id.now) lanes.old lanes.new }
+    ensures answers { IfOk result (λ v. AreWorked (works L.Link body.now id.now) lanes.old lanes.new (outcomes_of v.items)) }
+    ensures worked { WereWorked (works L.Link body.now id.now) lanes.old lanes.new }
     ensures taken { All (λ l. l.last ≡ None) lanes.new }
 {
     work_in_turn(alloc, lanes, body, id);
@@ -112,8 +112,8 @@ pub fn gather<R: Threads + Sync, L: Link + Send>(
     body: &[u8],
     id: &Id,
 ) -> Result<Vec<BidderAnswer>, OutOfMemory>
-    ensures answers { IfOk result (λ v. AreWorked (IsWorked L.exchanges L.course L.faults L.place body.now id.now) lanes.old.items lanes.new.items (outcomes_of v.items)) }
-    ensures worked { WereWorked (IsWorked L.exchanges L.course L.faults L.place body.now id.now) lanes.old.items lanes.new.items }
+    ensures answers { IfOk result (λ v. AreWorked (works L.Link body.now id.now) lanes.old.items lanes.new.items (outcomes_of v.items)) }
+    ensures worked { WereWorked (works L.Link body.now id.now) lanes.old.items lanes.new.items }
     ensures taken { All (λ l. l.last ≡ None) lanes.new.items }
 {
     gather_lanes(rt, alloc, lanes.as_mut_slice(), body, id)
@@ -127,8 +127,8 @@ pub fn gather_in_turn<L: Link>(
     body: &[u8],
     id: &Id,
 ) -> Result<Vec<BidderAnswer>, OutOfMemory>
-    ensures answers { IfOk result (λ v. AreWorked (IsWorked L.exchanges L.course L.faults L.place body.now id.now) lanes.old.items lanes.new.items (outcomes_of v.items)) }
-    ensures worked { WereWorked (IsWorked L.exchanges L.course L.faults L.place body.now id.now) lanes.old.items lanes.new.items }
+    ensures answers { IfOk result (λ v. AreWorked (works L.Link body.now id.now) lanes.old.items lanes.new.items (outcomes_of v.items)) }
+    ensures worked { WereWorked (works L.Link body.now id.now) lanes.old.items lanes.new.items }
     ensures taken { All (λ l. l.last ≡ None) lanes.new.items }
 {
     gather_lanes_in_turn(alloc, lanes.as_mut_slice(), body, id)

@@ -2,7 +2,7 @@
 ghost use Rattle.std.specs.Prelude.{◌≡◌, Option, Result};
 ghost use Rattle.adx_units.specs.declared.memory.OutOfMemory.{OutOfMemory};
 ghost use Rattle.fan_out.specs.declared.answer.BidderAnswer.{BidderAnswer};
-ghost use Rattle.fan_out.specs.Lanes.{IsWorked, outcome_of};
+ghost use Rattle.fan_out.specs.Lanes.{outcome_of, works};
 ghost use Rattle.fan_out.specs.Lasts.{Leaves, answer_of, lane_of};
 
 use crate::answer::{BidderAnswer, Refusal};
@@ -49,7 +49,7 @@ fn asked<L: Link>(
     body: &[u8],
     id: &Id,
 ) -> Result<BidderAnswer, OutOfMemory>
-    ensures { (before now : Option (Result BidderAnswer OutOfMemory)) → IsWorked L.exchanges L.course L.faults L.place body.now id.now
+    ensures { (before now : Option (Result BidderAnswer OutOfMemory)) → works L.Link body.now id.now
         (lane_of place.now link.old conn.old before) (lane_of place.now link.new conn.new now) (outcome_of result) }
 {
     match request_of(alloc, place, body) {
@@ -67,7 +67,7 @@ fn asked<L: Link>(
 
 /// Asks a lane's bidder, and leaves in the lane what it answered.
 pub(crate) fn work<L: Link>(alloc: Global, lane: &mut Lane<L>, body: &[u8], id: &Id)
-    ensures { Leaves (IsWorked L.exchanges L.course L.faults L.place body.now id.now) lane.old lane.new }
+    ensures { Leaves (works L.Link body.now id.now) lane.old lane.new }
 {
     let answer = asked(alloc, &lane.place, &mut lane.link, &mut lane.conn, body, id);
     lane.last = Some(answer);

@@ -3,7 +3,7 @@ ghost use Rattle.std.specs.Prelude.{◌≡◌, ◌≤◌, ◌^◌, ◌<◌, ℕ,
 ghost use Rattle.adx_units.specs.declared.offer.TheConstants.{ADMITTED as ADMITTED_MARK};
 ghost use Rattle.day_rules.specs.Asks.{IsAdmittedOffer, IsUndecided, IsWellFormed};
 ghost use Rattle.day_rules.specs.declared.ask.Kept.{Kept as KeptValue};
-ghost use Rattle.day_asks.specs.KeptTexts.{IsShort};
+ghost use Rattle.day_rules.specs.KeptTexts.{IsShort};
 ghost use Rattle.adx_desk.specs.Rosters.{desk_terms};
 
 use adx_desk::{Desk, DeskFault};

@@ -1,6 +1,7 @@
 -- All replies are put, and then the connection ends.
 use Rattle.exchange_http.specs.Running.{EndsOver, ended}
-use Rattle.exchange_messages.specs.Floors.{IsMomentOf, works}
+use Rattle.exchange_messages.specs.Floors.{IsMomentOf}
+use Rattle.fan_out.specs.Lanes.{works}
 use Rattle.exchange_http.proofs.Along.{if_ok_by, on_err_by}
 use Rattle.exchange_http.proofs.Causes.{cause_after, ends_so}
 use Rattle.exchange_http.proofs.Ended.{over_ends, over_fails}

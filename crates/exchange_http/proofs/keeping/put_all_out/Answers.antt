@@ -1,6 +1,7 @@
 -- The notices that wait were taken, and all replies put.
 use Rattle.std.proofs.Common.{[], false, refl}
-use Rattle.exchange_messages.specs.Floors.{IsMomentOf, works}
+use Rattle.exchange_messages.specs.Floors.{IsMomentOf}
+use Rattle.fan_out.specs.Lanes.{works}
 use Rattle.exchange_http.proofs.Along.{on_ok}
 use Rattle.exchange_http.proofs.Causes.{cause_after}
 use Rattle.exchange_http.proofs.Flushing.{failed_ran, on_fault, settled_now}

@@ -1,5 +1,5 @@
 -- The law stands in `OneReply`.
-use Rattle.exchange_messages.specs.Floors.{works}
+use Rattle.fan_out.specs.Lanes.{works}
 use Rattle.exchange_http.proofs.OneReply.{one_reply}
 use Rattle.exchange_http.proofs.laws.one_reply.Goals as goal
 

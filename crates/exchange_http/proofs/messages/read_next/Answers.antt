@@ -7,7 +7,8 @@ use Rattle.http_connection.specs.declared.conn.Message.{Message}
 use Rattle.http_grammar.specs.declared.fault.HttpFault.{HttpFault}
 use Rattle.http_service.specs.Steps.{BringsOne}
 use Rattle.exchange_http.specs.Running.{StepCauses, StepGives}
-use Rattle.exchange_messages.specs.Floors.{IsMomentOf, works}
+use Rattle.exchange_messages.specs.Floors.{IsMomentOf}
+use Rattle.fan_out.specs.Lanes.{works}
 use Rattle.exchange_http.specs.declared.over.Over.{Over}
 use Rattle.exchange_http.specs.declared.stop.Stop.{Stop}
 use Rattle.exchange_http.proofs.Causes.{fault_causes, faults_over, settled_sunk, sound_any, step_causes}

@@ -1,7 +1,8 @@
 -- The connection goes on by its messages, and they are over.
 use Rattle.std.proofs.Common.{◌≡◌, suc, ◌+◌, Option, Result, Some, None, Ok, IfOk, IsNone, false, refl, sym, ap, ◌∙◌, subst, arith}
 use Rattle.exchange_http.specs.Running.{StepCauses, StepGives, end_of}
-use Rattle.exchange_messages.specs.Floors.{IsMomentOf, works}
+use Rattle.exchange_messages.specs.Floors.{IsMomentOf}
+use Rattle.fan_out.specs.Lanes.{works}
 use Rattle.exchange_http.specs.declared.over.Over.{Over}
 use Rattle.exchange_http.specs.declared.stop.Stop.{Stop}
 use Rattle.exchange_messages.proofs.Requested.{kept_on}

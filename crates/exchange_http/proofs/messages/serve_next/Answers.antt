@@ -1,6 +1,6 @@
 -- The next message, from what was taken, or behind all replies.
 use Rattle.exchange_messages.proofs.Requested.{kept_on}
-use Rattle.exchange_messages.specs.Floors.{works}
+use Rattle.fan_out.specs.Lanes.{works}
 use Rattle.std.proofs.Common.{◌≡◌, ◌≤◌, ℕ, suc, [], length, Option, refl, sym, ap, ◌∙◌, subst}
 use Rattle.http_connection.specs.Answers.{AnswersHeld}
 use Rattle.http_connection.specs.Messages.{IsRequestThen}

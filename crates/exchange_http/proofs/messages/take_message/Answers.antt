@@ -9,7 +9,8 @@ use Rattle.http_grammar.specs.Requests.{is_kept}
 use Rattle.notice_book.specs.declared.kind.NoticeKind.{NoticeKind}
 use Rattle.exchange_messages.specs.Meanings.{Means, notifies}
 use Rattle.exchange_http.specs.Running.{before_one}
-use Rattle.exchange_messages.specs.Floors.{IsMomentOf, works}
+use Rattle.exchange_messages.specs.Floors.{IsMomentOf}
+use Rattle.fan_out.specs.Lanes.{works}
 use Rattle.exchange_messages.specs.Wants.{Wants}
 use Rattle.exchange_messages.specs.declared.wanted.Wanted.{Wanted}
 use Rattle.exchange_http.proofs.Along.{on_err, on_ok}

@@ -1,7 +1,8 @@
 -- A message that was read is taken, and more may come or none.
 use Rattle.std.proofs.Common.{refl, sym, ◌∙◌}
 use Rattle.http_connection.specs.Answers.{Shows}
-use Rattle.exchange_messages.specs.Floors.{IsMomentOf, works}
+use Rattle.exchange_messages.specs.Floors.{IsMomentOf}
+use Rattle.fan_out.specs.Lanes.{works}
 use Rattle.exchange_http.proofs.Causes.{reads_nothing}
 use Rattle.exchange_http.proofs.Nexts.{next_last, next_on, next_stops}
 use Rattle.exchange_http.proofs.messages.take_read.Goals as goal

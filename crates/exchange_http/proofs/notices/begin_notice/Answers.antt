@@ -1,7 +1,8 @@
 -- A notice waits behind none, or was taken alone.
 use Rattle.std.proofs.Common.{◌≡◌, [], ◌∷◌, ◌++◌, sym, ◌∙◌}
 use Rattle.day_rules.specs.Laws.{Arrival}
-use Rattle.exchange_messages.specs.Floors.{IsMomentOf, works}
+use Rattle.exchange_messages.specs.Floors.{IsMomentOf}
+use Rattle.fan_out.specs.Lanes.{works}
 use Rattle.exchange_http.proofs.Along.{on_ok, way_with}
 use Rattle.exchange_http.proofs.Flushing.{added_calls, on_fault, same_calls, way_notices}
 use Rattle.exchange_http.proofs.UnderWay.{notice_joined}

@@ -1,6 +1,7 @@
 -- The notices that wait were taken where the connection closes.
 use Rattle.std.proofs.Common.{[], false, refl, true, sym}
-use Rattle.exchange_messages.specs.Floors.{IsMomentOf, works}
+use Rattle.exchange_messages.specs.Floors.{IsMomentOf}
+use Rattle.fan_out.specs.Lanes.{works}
 use Rattle.exchange_http.proofs.Along.{on_ok_both, way_with}
 use Rattle.exchange_http.proofs.Flushing.{flush_ran, on_fault, way_close}
 use Rattle.exchange_messages.proofs.Requested.{floor_on}

@@ -2,7 +2,8 @@
 use Rattle.std.proofs.Common.{[], ◌∷◌, refl}
 use Rattle.day_rules.specs.Laws.{Arrival}
 use Rattle.exchange_http.specs.Running.{before_one}
-use Rattle.exchange_messages.specs.Floors.{IsMomentOf, works}
+use Rattle.exchange_messages.specs.Floors.{IsMomentOf}
+use Rattle.fan_out.specs.Lanes.{works}
 use Rattle.exchange_http.proofs.Causes.{cause_after, cause_of_write}
 use Rattle.exchange_http.proofs.Flushing.{all_flushed, part_flushed, wrote_cause}
 use Rattle.exchange_messages.proofs.Requested.{floor_on}

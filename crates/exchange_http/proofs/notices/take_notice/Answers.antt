@@ -2,7 +2,8 @@
 use Rattle.std.proofs.Common.{◌≡◌, [], ◌∷◌, ◌++◌, false, refl, sym, ◌∙◌}
 use Rattle.day_rules.specs.Laws.{Arrival}
 use Rattle.exchange_http.specs.Running.{before_one}
-use Rattle.exchange_messages.specs.Floors.{IsMomentOf, works}
+use Rattle.exchange_messages.specs.Floors.{IsMomentOf}
+use Rattle.fan_out.specs.Lanes.{works}
 use Rattle.exchange_http.proofs.Along.{on_ok, way_with}
 use Rattle.exchange_http.proofs.Causes.{cause_after}
 use Rattle.exchange_http.proofs.Flushing.{added_calls, failed_ran, on_fault, same_calls, way_notices}

@@ -7,7 +7,8 @@ use Rattle.http_service.specs.Connections.{TookFront}
 use Rattle.http_service.specs.Replies.{reply_to}
 use Rattle.exchange_http.specs.Gathered.{count_of}
 use Rattle.exchange_http.specs.Running.{before_one}
-use Rattle.exchange_messages.specs.Floors.{IsMomentOf, works}
+use Rattle.exchange_messages.specs.Floors.{IsMomentOf}
+use Rattle.fan_out.specs.Lanes.{works}
 use Rattle.exchange_http.proofs.Causes.{all_sunk, moves_same, settled_least, stops_failing, stops_writing}
 use Rattle.exchange_http.proofs.OneMore.{answered_so, given_up_so, one_answered, one_failed, one_given_up}
 use Rattle.exchange_http.proofs.UnderWay.{put_failed}

@@ -1,6 +1,6 @@
 -- One message more, behind the notices that waited and with all replies put.
 use Rattle.exchange_messages.proofs.Requested.{kept_on}
-use Rattle.exchange_messages.specs.Floors.{works}
+use Rattle.fan_out.specs.Lanes.{works}
 use Rattle.std.proofs.Common.{◌≡◌, [], refl, sym, ap, ◌∙◌}
 use Rattle.exchange_http.specs.Running.{before_one, end_of}
 use Rattle.exchange_http.proofs.Along.{EndsBy, along, on_err, on_ok, way_along, way_with}

@@ -4,7 +4,8 @@ use Rattle.std.proofs.Common.{◌≡◌, Result, Err, sym, ap, ◌∙◌, subst}
 use Rattle.http_connection.specs.State.{ConnState}
 use Rattle.http_connection.specs.declared.conn.ConnEnd.{ConnEnd}
 use Rattle.exchange_http.specs.Running.{OverCauses}
-use Rattle.exchange_messages.specs.Floors.{IsMomentOf, works}
+use Rattle.exchange_messages.specs.Floors.{IsMomentOf}
+use Rattle.fan_out.specs.Lanes.{works}
 use Rattle.exchange_http.specs.declared.over.Over.{Over}
 use Rattle.exchange_http.specs.declared.stop.Stop.{Stop}
 use Rattle.exchange_http.proofs.Along.{EndsBy, along, stopped, way_along}

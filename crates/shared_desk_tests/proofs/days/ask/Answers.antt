@@ -3,7 +3,7 @@ use Rattle.std.specs.List.{All}
 use Rattle.std.proofs.lemmas.List.Elements.{All-weaker}
 use Rattle.adx_units.specs.declared.offer.Offer.{Offer}
 use Rattle.day_rules.specs.Asks.{AreKeptTexts, IsAdmittedOffer, IsOffer}
-use Rattle.day_asks.proofs.Texts.{each_text}
+use Rattle.day_rules.proofs.Texts.{each_text}
 use Rattle.shared_desk_tests.proofs.days.ask.Goals as goal
 
 pub returns-clause-formed : goal.returns-clause-formed

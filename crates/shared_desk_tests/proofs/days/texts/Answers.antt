@@ -1,4 +1,4 @@
-use Rattle.day_asks.proofs.Texts.{one_more_text}
+use Rattle.day_rules.proofs.Texts.{one_more_text}
 use Rattle.shared_desk_tests.proofs.days.texts.Goals as goal
 
 pub loop-place-preserved : goal.loop-place-preserved

@@ -14,10 +14,10 @@ use Rattle.day_rules.proofs.Counting.{day_bids, day_text}
 use Rattle.day_rules.proofs.Following.{new_follows}
 use Rattle.day_rules.proofs.Settling.{well_formed_settled}
 use Rattle.day_rules.proofs.Within.{latest_small}
-use Rattle.day_asks.specs.KeptTexts.{IsShort, sizes_of}
+use Rattle.day_rules.specs.KeptTexts.{IsShort, sizes_of}
 use Rattle.day_machine.proofs.Planning.{past_bids, past_text, reply_in, within_all}
 use Rattle.day_machine.proofs.Settled.{settled_long}
-use Rattle.day_asks.proofs.Texts.{few_texts, settled_short}
+use Rattle.day_rules.proofs.Texts.{few_texts, settled_short}
 use Rattle.day_machine.proofs.day.Day.plan_new.Goals as goal
 
 pub overflow_add-bids : goal.overflow_add-bids

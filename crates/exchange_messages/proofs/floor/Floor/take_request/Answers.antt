@@ -8,7 +8,8 @@ use Rattle.rtb_request.specs.ForBidders.{request_for_bidders}
 use Rattle.desk_calls.proofs.ToldAnswers.{on_err}
 use Rattle.exchange_messages.proofs.AskCalls.{err_on}
 use Rattle.exchange_messages.proofs.Requested.{floor_on, gathered_few, gathered_left, lanes_on, request_answered, request_dropped, request_runs, request_stopped}
-use Rattle.exchange_messages.specs.Floors.{IsMomentOf, works}
+use Rattle.exchange_messages.specs.Floors.{IsMomentOf}
+use Rattle.fan_out.specs.Lanes.{works}
 use Rattle.exchange_messages.specs.Courses.{reply_of}
 use Rattle.exchange_messages.proofs.floor.Floor.take_request.Goals as goal
 

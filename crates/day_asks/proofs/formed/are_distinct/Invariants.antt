@@ -1,6 +1,0 @@
-use Rattle.std.proofs.Common.{◌≡◌, drop}
-use Rattle.day_asks.specs.OfferTests.{are_distinct}
-use Rattle.day_asks.proofs.formed.are_distinct.Given as goal
-
-abbrev pub invariant-loop-place : goal.invariant-loop-place
-invariant-loop-place l = are_distinct l.ids ≡ are_distinct (drop l.place l.ids)

@@ -1,5 +1,0 @@
-use Rattle.day_asks.proofs.TextsNeeded.{AreKeptBelow}
-use Rattle.day_asks.proofs.needed.are_kept_texts.Given as goal
-
-abbrev pub invariant-loop-place : goal.invariant-loop-place
-invariant-loop-place l = AreKeptBelow l.offers l.kept l.place l.next

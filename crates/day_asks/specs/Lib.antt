@@ -1,3 +1,0 @@
-pub mod KeptTexts
-pub mod Again
-pub mod OfferTests
