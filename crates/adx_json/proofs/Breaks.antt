@@ -3,12 +3,13 @@ use Rattle.std.proofs.Common.{◌≡◌, ℕ, suc, ◌+◌, ◌<◌, ◌≤◌, 
 use Rattle.std.proofs.lemmas.Bool.{cond-true, and_parts, and_from, ltb-false, le-leb}
 use Rattle.std.specs.List.{list_all}
 use Rattle.std.specs.Str.{IsUtf8}
-use Rattle.adx_json.specs.Reading.{is_bare, Stops}
+use Rattle.adx_units.specs.JsonTexts.{is_bare}
+use Rattle.adx_units.specs.Scans.{Stops}
 use Rattle.adx_json.specs.Machine.{Frame, characters, Role, in_text, stuck, step, stop_of, at_end, utf8_step, behind_lead, after_lead, from_tail, within_fault}
 use Rattle.adx_json.specs.declared.utf8.Tail.{Tail}
 use Rattle.adx_json.specs.declared.fault.Stop.TheVariants.{Utf8}
 use Rattle.adx_json.specs.Found.{BreaksIn}
-use Rattle.adx_json.proofs.Runs.{escaped_low}
+use Rattle.adx_units.proofs.Bare.{escaped_low}
 use Rattle.adx_json.proofs.Utf8Steps.{utf8_run, runs_on, run_utf8}
 use Rattle.adx_json.proofs.TextLeads.{tail_wide}
 use Rattle.adx_json.proofs.Stops.{stop_step, stop_end, character_stuck, stop_characters, run_parts}

@@ -2,7 +2,7 @@
 use Rattle.std.proofs.Common.{◌≡◌, ℕ, suc, ◌-◌, ◌≤◌, List, [], ◌∷◌, ◌++◌, length, Bool, true, Some, None}
 use Rattle.std.specs.List.{list_all, flat_map, AllByRecursion}
 use Rattle.adx_json.specs.Tree.{Tree, Items, Members, levels, items_levels, members_levels}
-use Rattle.adx_json.specs.Reading.{is_bare}
+use Rattle.adx_units.specs.JsonTexts.{is_bare}
 use Rattle.adx_json.specs.Grammar.{IsSpace, IsPadded, IsString, IsValue, AreItems, AreMoreItems, AreMembers, AreMoreMembers, Piece, IsPiece, piece_bytes, is_hex}
 use Rattle.adx_json.specs.Machine.{Frame, in_list, in_object, Within, characters, escaped, digits, Role, a_name, a_value, Mode, at_value, at_first_item, behind_value, at_first_name, at_name, behind_name, in_word, in_number, in_text}
 use Rattle.adx_json.specs.declared.utf8.Tail.{Tail}

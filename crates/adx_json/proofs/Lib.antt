@@ -1,7 +1,6 @@
 pub mod Views
 pub mod Runs
 pub mod Names
-pub mod Escapes
 pub mod Rows
 pub mod Utf8Steps
 pub mod NumberTexts

@@ -3,7 +3,7 @@ use Rattle.std.proofs.Common.{◌≡◌, ℕ, zero, suc, ◌+◌, ◌*◌, ◌<�
 use Rattle.std.proofs.lemmas.Bool.{and_parts, cond-false}
 use Rattle.std.proofs.lemmas.Bool.Decides.{nat_tests}
 use Rattle.std.specs.List.{list_all, flat_map, AllByRecursion}
-use Rattle.adx_json.specs.Reading.{is_bare}
+use Rattle.adx_units.specs.JsonTexts.{is_bare}
 use Rattle.adx_json.specs.Grammar.{Piece, run, short, unit, IsPiece, piece_bytes, is_short, short_value, hex_value, unit_value, unit_text, unpaired, waits, decoded, IsString}
 use Rattle.adx_json.specs.Machine.{next_numeral, may_end}
 use Rattle.adx_json.specs.Scan.{accepts}

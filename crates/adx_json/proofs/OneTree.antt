@@ -3,7 +3,7 @@ use Rattle.std.proofs.Common.{◌≡◌, ℕ, List, [], ◌∷◌, ◌++◌, tru
 use Rattle.std.proofs.lemmas.Bool.{cond-false, false≢true}
 use Rattle.std.specs.List.{flat_map}
 use Rattle.adx_json.specs.Tree.{Tree, null, boolean, number, text, list, object, Items, no_items, item, Members, no_members, member}
-use Rattle.adx_json.specs.Reading.{Stops}
+use Rattle.adx_units.specs.Scans.{Stops}
 use Rattle.adx_json.specs.Grammar.{is_space, IsSpace, IsPadded, IsString, IsValue, AreItems, AreMoreItems, AreMembers, AreMoreMembers, piece_bytes, resolved, IsJson}
 use Rattle.adx_json.specs.declared.number.Numeral.TheVariants.{Start}
 use Rattle.adx_json.proofs.Runs.{one_cut, head_of, tail_of, apart}

@@ -10,7 +10,7 @@ use Rattle.adx_json.specs.declared.utf8.Tail.TheVariants.{One, Two, Three, Behin
 use Rattle.adx_json.specs.declared.fault.Stop.{Stop}
 use Rattle.adx_json.specs.declared.fault.Stop.TheVariants.{Depth}
 use Rattle.adx_json.specs.Tree.{null, no_items, no_members}
-use Rattle.adx_json.specs.Reading.{is_bare}
+use Rattle.adx_units.specs.JsonTexts.{is_bare}
 use Rattle.adx_json.specs.Grammar.{short, is_hex}
 use Rattle.adx_json.proofs.Utf8Steps.{utf8_run, runs_on}
 use Rattle.adx_json.specs.Scan.{accepts}

@@ -2,7 +2,7 @@
 use Rattle.std.proofs.Common.{◌≡◌, ◌≢◌, ℕ, zero, suc, ◌+◌, ◌<◌, ◌≤◌, List, [], ◌∷◌, ◌++◌, length, take, drop, map, false, Some, refl, sym, ap, ap₂, ◌∙◌, subst, arith, eqb, append_assoc, append-nil, length-append, add-one}
 use Rattle.std.proofs.lemmas.Bool.{ne_eqb, cond-false}
 use Rattle.adx_json.specs.Tree.{Tree, Items, no_items, item, items_levels, items_of}
-use Rattle.adx_json.specs.Reading.{Stops}
+use Rattle.adx_units.specs.Scans.{Stops}
 use Rattle.adx_json.specs.Grammar.{is_space, AreItems, resolved, resolved_items}
 use Rattle.adx_json.specs.Machine.{Frame, in_list, at_value, at_first_item, behind_value, in_word, moves, stuck, step, stop_of, at_end, Tells}
 use Rattle.adx_json.specs.declared.fault.Stop.{Stop}

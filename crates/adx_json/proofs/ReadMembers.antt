@@ -2,7 +2,7 @@
 use Rattle.std.proofs.Common.{◌≡◌, ◌≢◌, ℕ, suc, ◌+◌, ◌<◌, ◌≤◌, List, [], ◌∷◌, ◌++◌, length, map, false, Some, refl, sym, ap, ap₂, ◌∙◌, subst, arith, eqb, append_assoc, append-nil, length-append}
 use Rattle.std.proofs.lemmas.Bool.{ne_eqb, cond-false}
 use Rattle.adx_json.specs.Tree.{Tree, Members, no_members, member, members_levels, members_of}
-use Rattle.adx_json.specs.Reading.{Stops}
+use Rattle.adx_units.specs.Scans.{Stops}
 use Rattle.adx_json.specs.Grammar.{is_space, AreMembers, resolved, resolved_members}
 use Rattle.adx_json.specs.Machine.{Frame, in_object, at_first_name, at_name, behind_value, moves, stuck, step, stop_of, at_end}
 use Rattle.adx_json.specs.declared.fault.Stop.{Stop}

@@ -3,14 +3,14 @@ use Rattle.std.proofs.Common.{◌≡◌, ◌≢◌, ℕ, zero, suc, ◌+◌, ◌
 use Rattle.std.proofs.lemmas.Bool.{ne_eqb, le-ltb, cond-false}
 use Rattle.std.specs.List.{flat_map, prefix_len}
 use Rattle.adx_json.specs.Tree.{Tree, text, number, list, object, Items, Members, levels}
-use Rattle.adx_json.specs.Reading.{Stops}
+use Rattle.adx_units.specs.Scans.{Stops}
 use Rattle.adx_json.specs.Grammar.{is_space, IsPadded, IsValue, piece_bytes, resolved, last_of_each, IsJson}
 use Rattle.adx_json.specs.Machine.{Frame, in_object, characters, Role, a_name, a_value, Mode, at_value, at_first_item, behind_value, at_first_name, at_name, behind_name, in_word, in_number, in_text, moves, stuck, too_deep, step, stop_of, at_end, Tells}
 use Rattle.adx_json.specs.declared.number.Numeral.TheVariants.{Start}
 use Rattle.adx_json.specs.declared.fault.Stop.{Stop}
 use Rattle.adx_json.specs.declared.fault.Stop.TheVariants.{Syntax, Depth}
 use Rattle.adx_json.specs.Found.{StopsAt, StopsInside, StopsWord, FoundSpace, FoundNumber, FoundText, FoundValue, FoundElement, FoundItems, FoundName, FoundMember, FoundMembers}
-use Rattle.adx_json.proofs.Runs.{run_passes, run_stops}
+use Rattle.adx_units.proofs.Bare.{run_passes, run_stops}
 use Rattle.adx_json.proofs.TextParts.{tells_same}
 use Rattle.adx_json.proofs.Stops.{stop_step, stop_end, stop_spaces, stop_word, list_step, object_step, quote_step, name_step, colon_step, deep_list, deep_object, OtherByte, value_as_number, MaySpace}
 

@@ -10,11 +10,12 @@ use Rattle.std.specs.Char.Utf16.{is_high_surrogate, is_low_surrogate}
 use Rattle.std.specs.List.{list_all, flat_map, AllByRecursion, AllPairs}
 use Rattle.std.specs.Str.{IsUtf8, all_scalars, encode_utf8_all, bytes_eq}
 use Rattle.adx_json.specs.Tree.{Tree, null, boolean, number, text, list, object, Items, no_items, item, Members, no_members, member, names_of, levels}
-use Rattle.adx_json.specs.Reading.{is_bare}
-use Rattle.adx_json.specs.Spelling.{hex_digit, escape, text_spelling, spelling, items_spelling, more_items_spelling, members_spelling, more_members_spelling}
+use Rattle.adx_units.specs.JsonTexts.{is_bare}
+use Rattle.adx_units.specs.JsonTexts.{hex_digit, escape, text_spelling}
+use Rattle.adx_json.specs.Spelling.{spelling, items_spelling, more_items_spelling, members_spelling, more_members_spelling}
 use Rattle.adx_json.specs.Grammar.{IsPadded, IsString, IsValue, AreItems, AreMoreItems, AreMembers, AreMoreMembers, Piece, run, short, unit, IsPiece, piece_bytes, is_short, is_hex, short_value, unit_value, unit_text, waits, decoded, has_name, last_of_each, resolved, resolved_items, resolved_members, IsJson}
 use Rattle.adx_json.specs.WellFormed.{IsWellFormed, AreWellFormed, HaveWellFormed, HasUtf8, AllHaveUtf8, MembersHaveUtf8}
-use Rattle.adx_json.proofs.Runs.{bare_text}
+use Rattle.adx_units.proofs.Bare.{bare_text}
 use Rattle.adx_json.proofs.Utf8Steps.{two_bytes, three_bytes, four_bytes}
 
 -- a piece that spells a character as its escape does

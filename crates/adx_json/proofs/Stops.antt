@@ -4,7 +4,7 @@ use Rattle.std.proofs.lemmas.Bool.{cond-true, cond-false, and_parts, or_parts, n
 use Rattle.std.proofs.lemmas.Bool.Decides.{nat_tests}
 use Rattle.std.specs.List.{list_all, flat_map, AllByRecursion}
 use Rattle.adx_units.specs.Number.{is_digit, is_exponent_mark}
-use Rattle.adx_json.specs.Reading.{is_bare}
+use Rattle.adx_units.specs.JsonTexts.{is_bare}
 use Rattle.adx_json.specs.Grammar.{is_space, IsSpace, Piece, run, short, unit, IsPiece, piece_bytes, is_short, is_hex}
 use Rattle.adx_json.specs.Machine.{Frame, in_list, in_object, characters, escaped, digits, Role, a_name, a_value, Mode, at_value, at_first_item, behind_value, at_first_name, at_name, behind_name, in_word, in_number, in_text, Step, moves, stuck, too_deep, step, behind_step, from_tail, from_numeral, next_numeral, may_end, utf8_step, behind_digit, behind_text, stop_of, at_end, fault_at}
 use Rattle.adx_json.specs.declared.number.Numeral.{Numeral}

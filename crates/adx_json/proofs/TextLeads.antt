@@ -4,7 +4,7 @@ use Rattle.std.proofs.lemmas.Bool.{eqb-true, and_parts, and_from, or_from, not_f
 use Rattle.std.proofs.lemmas.Bool.Decides.{nat_tests}
 use Rattle.std.specs.List.{list_all, flat_map}
 use Rattle.std.specs.Str.{IsUtf8}
-use Rattle.adx_json.specs.Reading.{is_bare}
+use Rattle.adx_units.specs.JsonTexts.{is_bare}
 use Rattle.adx_json.specs.Faults.{inside, next_place}
 use Rattle.adx_json.specs.Grammar.{Piece, run, short, unit, IsPiece, piece_bytes, is_short, is_hex}
 use Rattle.adx_json.specs.Machine.{Frame, Within, characters, escaped, digits, Role, a_name, a_value, in_text, text_step, from_tail, utf8_step, behind_digit, behind_text, tail_low, tail_high, tail_next, is_within}

@@ -7,7 +7,8 @@ use Rattle.std.specs.Result.{IfErr}
 use Rattle.std.specs.List.{list_all, flat_map, AllByRecursion}
 use Rattle.std.specs.Str.{IsUtf8}
 use Rattle.std.specs.Char.Utf16.{is_high_surrogate}
-use Rattle.adx_json.specs.Reading.{is_bare, Stops}
+use Rattle.adx_units.specs.JsonTexts.{is_bare}
+use Rattle.adx_units.specs.Scans.{Stops}
 use Rattle.adx_json.specs.Grammar.{Piece, run, short, unit, IsPiece, piece_bytes, is_short, is_hex, short_value, unit_text, unpaired, waits, decoded}
 use Rattle.adx_json.specs.Machine.{Frame, characters, escaped, digits, Role, in_text, moves, stuck, step, stop_of, at_end, within_fault, Tells, behind_digit, behind_text}
 use Rattle.adx_json.specs.declared.utf8.Tail.{Tail}

@@ -5,7 +5,8 @@ use Rattle.std.specs.List.{flat_map, AllByRecursion}
 use Rattle.std.specs.Char.Utf16.{is_high_surrogate}
 use Rattle.adx_units.specs.Number.{is_number}
 use Rattle.adx_json.specs.Tree.{Tree, Items, Members, levels, items_levels, members_levels}
-use Rattle.adx_json.specs.Reading.{Stops, is_bare}
+use Rattle.adx_units.specs.JsonTexts.{is_bare}
+use Rattle.adx_units.specs.Scans.{Stops}
 use Rattle.adx_json.specs.Grammar.{is_space, IsSpace, IsPadded, IsString, IsValue, AreItems, AreMembers, Piece, run, IsPiece, piece_bytes, unit_value, unit_text, waits, decoded, resolved, resolved_items, resolved_members, is_hex, hex_value}
 use Rattle.adx_json.specs.Machine.{Frame, in_object, characters, escaped, digits, Role, Mode, at_value, at_first_item, behind_value, at_first_name, at_name, in_word, in_number, in_text, behind_text, stop_of, Tells}
 use Rattle.adx_json.specs.declared.number.Numeral.TheVariants.{Start}

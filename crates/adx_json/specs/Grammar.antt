@@ -5,7 +5,7 @@ use Rattle.std.specs.Char.Utf16.{is_high_surrogate, is_low_surrogate, surrogate_
 use Rattle.std.specs.Str.{bytes_eq}
 use Rattle.adx_units.specs.Number.{is_digit, is_number}
 use Rattle.adx_json.specs.Tree.{Tree, null, boolean, number, text, list, object, Items, no_items, item, Members, no_members, member, levels}
-use Rattle.adx_json.specs.Reading.{is_bare}
+use Rattle.adx_units.specs.JsonTexts.{is_bare}
 
 -- white space: a space, a tab, a line feed or a carriage return (section 2)
 abbrev pub is_space : ℕ → Bool

@@ -1,7 +1,6 @@
 pub mod Tree
 pub mod Spelling
 pub mod View
-pub mod Reading
 pub mod Grammar
 pub mod Faults
 pub mod Machine

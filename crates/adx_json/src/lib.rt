@@ -10,7 +10,6 @@
 //! Stands on `adx_units` and `itoa`.
 #![tactic(auto)]
 
-mod escape;
 mod fault;
 mod front;
 mod law;
@@ -26,7 +25,6 @@ mod utf8;
 mod value;
 mod writing;
 
-pub use escape::push_text;
 pub use fault::JsonFault;
 pub use law::one_tree;
 pub use member::{find_given, find_members, given, members_in, met};

@@ -7,7 +7,7 @@ ghost use Rattle.adx_json.specs.Grammar.{is_space as is_space_byte, IsJson};
 ghost use Rattle.adx_json.specs.Faults.{IsFault};
 ghost use Rattle.adx_json.specs.Machine.{Frame, in_list, in_object, at_value, at_first_item, behind_value, at_first_name, at_name, in_word, stop_of, Tells};
 ghost use Rattle.adx_json.specs.Found.{StopsAt, StopsInside, FoundSpace, FoundValue, FoundElement, FoundItems, FoundName, FoundMember, FoundMembers, StopsWord};
-ghost use Rattle.adx_json.specs.Reading.{Stops};
+ghost use Rattle.adx_units.specs.Scans.{Stops};
 ghost use Rattle.adx_json.specs.View.{tree_of, trees_of, member_of, members_view};
 ghost use Rattle.adx_json.specs.declared.tree.Member.{out-Member};
 

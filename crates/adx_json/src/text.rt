@@ -2,16 +2,16 @@
 ghost use Rattle.std.specs.Prelude.{◌≡◌, ◌++◌, ◌∷◌, ◌<◌, ◌+◌, ◌*◌, ◌^◌, List, ℕ, length, IsTrue, IsAscii, IfOk, IfErr, IfSome, MatchOption, OnOk, true, false, Some, None, string_bytes};
 ghost use Rattle.std.specs.List.{list_all, prefix_len};
 ghost use Rattle.std.specs.Char.Utf16.{is_high_surrogate, is_low_surrogate};
-ghost use Rattle.adx_json.specs.Reading.{Stops, is_bare as is_bare_byte};
+ghost use Rattle.adx_units.specs.JsonTexts.{is_bare as is_bare_byte};
+ghost use Rattle.adx_units.specs.Scans.{Stops};
 ghost use Rattle.adx_json.specs.Grammar.{is_short, short_value as short_value_of, is_hex as is_hex_digit, hex_value as hex_value_of, unpaired, low_text, unit_text, waits};
 ghost use Rattle.adx_json.specs.Machine.{Frame, Role, in_text, characters, escaped, digits, stop_of, Tells, within_fault};
 ghost use Rattle.adx_json.specs.Found.{FoundDigit, FoundEscape, FoundText, AddsRun, FoundUnit};
 
-use crate::escape::bare_len;
 use crate::fault::Stop;
 use crate::front::{after, ascii_text};
 use crate::utf8::broken;
-use adx_units::{OutOfMemory, Text, unescaped_len, utf8_text};
+use adx_units::{OutOfMemory, Text, bare_len, unescaped_len, utf8_text};
 use std::alloc::Global;
 
 /// The text behind its opening quotation mark, and the bytes behind its closing one.

@@ -1,7 +1,7 @@
 //! UTF-8 (RFC 3629), byte by byte.
 ghost use Rattle.std.specs.Prelude.{◌≡◌, ◌≤◌, length, IsTrue, IsUtf8};
 ghost use Rattle.std.specs.List.{list_all};
-ghost use Rattle.adx_json.specs.Reading.{is_bare};
+ghost use Rattle.adx_units.specs.JsonTexts.{is_bare};
 ghost use Rattle.adx_json.specs.Found.{BreaksIn};
 ghost use Rattle.adx_json.specs.Machine.{after_lead as after_lead_of, tail_low, tail_high, tail_next, utf8_step as utf8_step_of};
 

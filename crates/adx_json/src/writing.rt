@@ -6,9 +6,8 @@ ghost use Rattle.adx_json.specs.WellFormed.{IsWellFormed, HasUtf8, AllHaveUtf8, 
 ghost use Rattle.adx_json.specs.Spelling.{spelling, items_spelling, members_spelling};
 ghost use Rattle.adx_json.specs.View.{tree_of, trees_of, members_view};
 
-use crate::escape::push_text;
 use crate::tree::{Json, Member};
-use adx_units::{OutOfMemory, Text};
+use adx_units::{OutOfMemory, Text, push_text};
 use itoa::Buffer;
 use std::alloc::Global;
 

@@ -13,3 +13,5 @@ pub mod Sets
 pub mod Lanes
 pub mod Runs
 pub mod Texts
+pub mod Bare
+pub mod Escapes

@@ -8,3 +8,4 @@ pub mod Scans
 pub mod Among
 pub mod Ascii
 pub mod Unescaped
+pub mod JsonTexts

@@ -1,4 +1,4 @@
--- The front of a text that is read byte after byte. Only private clauses cite this file.
+-- The front of a text that is read byte after byte.
 use Rattle.std.specs.Prelude.{◌≡◌, ◌⊎◌, ℕ, List, [], ◌∷◌, ◌++◌, Bool, true, false}
 use Rattle.std.specs.List.{list_all}
 use Rattle.adx_units.specs.Number.{is_digit, is_digits, is_point, is_exponent_mark, without_sign, has_minus}

@@ -7,8 +7,9 @@
 //! tell what comparing each with each tells, and a `NameSet` whether it has a name.
 //!
 //! Bytes looked through sixteen at a time. `unescaped_len` is how many bytes of ASCII a JSON text (RFC 8259, section 7)
-//! may have as themselves before the first one that it may not; its contract says it as the length of the longest such
-//! front. `utf8_text` is the text that bytes are, where they are UTF-8.
+//! may have as themselves before the first one that it may not, and `bare_len` how many bytes of any kind; a contract
+//! says it as the length of the longest such front. `push_text` puts a text as JSON spells it. `utf8_text` is the text
+//! that bytes are, where they are UTF-8.
 //!
 //! Stands on `arrayvec`.
 #![tactic(auto)]
@@ -17,6 +18,7 @@ mod among;
 mod array_text;
 mod ascii;
 mod counted;
+mod escape;
 mod id;
 mod memory;
 mod name_set;
@@ -36,6 +38,7 @@ mod whole;
 pub use among::{all_among, any_among, is_among};
 pub use array_text::ArrayText;
 pub use counted::Counted;
+pub use escape::{bare_len, push_text};
 pub use id::{Id, LONGEST_ID};
 pub use memory::OutOfMemory;
 pub use name_set::NameSet;

@@ -6,7 +6,7 @@ use Rattle.std.specs.Option.{option_map_or}
 use Rattle.std.specs.List.{flat_map, enumerate_from, range_with_len, join_with_byte}
 use Rattle.hex.specs.Hex.{encode_lower}
 use Rattle.adx_units.specs.declared.offer.Offer.{Offer}
-use Rattle.adx_json.specs.Spelling.{text_spelling}
+use Rattle.adx_units.specs.JsonTexts.{text_spelling}
 use Rattle.notice_book.specs.declared.award.End.{End}
 use Rattle.day_rules.specs.declared.answer.Answer.{Answer}
 use Rattle.day_rules.specs.declared.answer.Which.{Which}

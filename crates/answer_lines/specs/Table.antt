@@ -2,7 +2,7 @@
 -- project's own.
 use Rattle.std.specs.Prelude.{ℕ, List, ◌++◌, length, codes, decimal}
 use Rattle.std.specs.List.{flat_map, enumerate_from}
-use Rattle.adx_json.specs.Spelling.{text_spelling}
+use Rattle.adx_units.specs.JsonTexts.{text_spelling}
 use Rattle.campaign_book.specs.Accounts.{Account, account_at, committed}
 use Rattle.campaign_book.specs.Discount.{slab_of}
 use Rattle.day_rules.specs.declared.entry.Entry.{Entry}

@@ -1,14 +1,14 @@
 //! The lines of asks: the awards and the reasons of one, written while its bids are walked.
 ghost use Rattle.std.specs.Prelude.{◌≡◌, ◌+◌, ◌<◌, ◌≤◌, ◌^◌, ◌∷◌, ◌++◌, [], IfOk, OnOk, decimal, length, slice_index_or, string_bytes};
-ghost use Rattle.adx_json.specs.Spelling.{text_spelling};
+ghost use Rattle.adx_units.specs.JsonTexts.{text_spelling};
 ghost use Rattle.day_rules.specs.Books.{awarded_offers};
 ghost use Rattle.day_rules.specs.Replies.{is_awarded};
 ghost use Rattle.answer_lines.specs.Answers.{ask_line, award_text, awarded_line, awards_text, campaign_text, nosale_line, reasons_of};
 ghost use Rattle.answer_lines.specs.Steps.{award_behind, awards_behind, comma_behind};
 
 use crate::pieces::push;
-use adx_json::{push_comma, push_number, push_text};
-use adx_units::{Offer, OutOfMemory};
+use adx_json::{push_comma, push_number};
+use adx_units::{Offer, OutOfMemory, push_text};
 use allocator_core::AWARDED;
 use day_rules::Ask;
 use deal_floor::Campaign;

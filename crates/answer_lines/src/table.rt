@@ -9,8 +9,8 @@ ghost use Rattle.std.specs.List.{flat_map, enumerate_from};
 ghost use Rattle.answer_lines.specs.Table.{account_line, campaign_line, closing_table, counts_text};
 
 use crate::pieces::push;
-use adx_json::{push_number, push_text};
-use adx_units::{Offer, OutOfMemory};
+use adx_json::push_number;
+use adx_units::{Offer, OutOfMemory, push_text};
 use allocator_core::AWARDED;
 use campaign_book::{Book, slab_of};
 use day_rules::{Ask, Entry};

@@ -2,7 +2,7 @@
 use Rattle.std.proofs.Common.{◌≡◌, ℕ, zero, suc, ◌+◌, ◌<◌, ◌≤◌, List, [], ◌∷◌, ◌++◌, length, drop, Bool, true, false, Option, Some, None, refl, sym, ap, ◌∙◌, subst, arith, append_assoc, append-nil, length-append}
 use Rattle.std.proofs.lemmas.Option.{none-some}
 use Rattle.adx_units.specs.Number.{begins_with}
-use Rattle.adx_json.specs.Spelling.{escape}
+use Rattle.adx_units.specs.JsonTexts.{escape}
 use Rattle.formats.specs.Parts.{◌>>=◌, behind_byte}
 use Rattle.formats.proofs.PartLaws.{byte_takes}
 use Rattle.bid_record.specs.Texts.{spelled_at, body_at}

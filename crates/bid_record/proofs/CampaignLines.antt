@@ -6,7 +6,7 @@ use Rattle.std.proofs.lemmas.Bool.{and_parts, eq-eqb, ltb-true, lt-ltb, leb-true
 use Rattle.std.proofs.lemmas.Option.{none-some, same_Some}
 use Rattle.adx_units.specs.Number.{is_digit}
 use Rattle.adx_units.specs.Money.{units}
-use Rattle.adx_json.specs.Spelling.{text_spelling}
+use Rattle.adx_units.specs.JsonTexts.{text_spelling}
 use Rattle.formats.specs.Parts.{◌>>=◌, behind_word, behind_byte, none_left, number_at, part, Stops}
 use Rattle.formats.proofs.PartLaws.{bind_some, tested_some, word_takes, word_again, byte_takes, none_left_is, number_takes, number_again}
 use Rattle.bid_record.specs.declared.rows.CampaignRow.{CampaignRow}

@@ -8,7 +8,7 @@ use Rattle.std.proofs.lemmas.Option.{none-some, same_Some}
 use Rattle.std.proofs.lemmas.List.Concat.{flat_map-cons}
 use Rattle.std.proofs.lemmas.List.Elements.{All-nil, All-cons, All-head, All-tail}
 use Rattle.adx_units.specs.Number.{is_digit}
-use Rattle.adx_json.specs.Spelling.{text_spelling}
+use Rattle.adx_units.specs.JsonTexts.{text_spelling}
 use Rattle.formats.specs.Parts.{◌>>=◌, behind_word, number_at, part, Stops}
 use Rattle.formats.proofs.PartLaws.{bind_some, tested_some, word_takes, word_again, number_again}
 use Rattle.formats.proofs.Options.{map_some, or_some, none_of}

@@ -9,9 +9,9 @@ use Rattle.std.proofs.lemmas.Bool.{and_parts, and_from, or_parts, or_cases, not-
 use Rattle.std.proofs.lemmas.Option.{none-some, same_Some}
 use Rattle.std.proofs.lemmas.List.Concat.{flat_map-cons}
 use Rattle.adx_units.specs.Number.{begins_with}
-use Rattle.adx_json.specs.Reading.{is_bare}
-use Rattle.adx_json.specs.Spelling.{hex_digit, control_escape, escape, text_spelling}
-use Rattle.adx_json.proofs.Runs.{bare_text}
+use Rattle.adx_units.specs.JsonTexts.{is_bare}
+use Rattle.adx_units.specs.JsonTexts.{hex_digit, control_escape, escape, text_spelling}
+use Rattle.adx_units.proofs.Bare.{bare_text}
 use Rattle.formats.specs.Parts.{◌>>=◌, behind_byte, part}
 use Rattle.formats.proofs.PartLaws.{bind_some, tested_some, byte_takes}
 use Rattle.bid_record.specs.Records.{IsName}

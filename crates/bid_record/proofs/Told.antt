@@ -8,7 +8,7 @@ use Rattle.std.proofs.lemmas.Option.{same_Some}
 use Rattle.std.proofs.lemmas.Slice.Eq.{bytes_eq-Decides}
 use Rattle.std.proofs.lemmas.List.Concat.{flat_map-cons}
 use Rattle.std.proofs.lemmas.List.Elements.{All-nil}
-use Rattle.adx_json.specs.Spelling.{escape, text_spelling}
+use Rattle.adx_units.specs.JsonTexts.{escape, text_spelling}
 use Rattle.formats.specs.Parts.{part, behind_word, IsOneLine}
 use Rattle.formats.proofs.Following.{IsEnd}
 use Rattle.formats.proofs.PartLaws.{word_again}

@@ -1,7 +1,8 @@
 //! Names in their compact spelling (RFC 8259, section 7, with the shortest escapes).
 ghost use Rattle.std.specs.Prelude.{◌≡◌, ◌++◌, ◌∷◌, IsTrue, length};
 ghost use Rattle.std.specs.List.{list_all, prefix_len};
-ghost use Rattle.adx_json.specs.Reading.{is_bare as is_bare_byte, Stops};
+ghost use Rattle.adx_units.specs.JsonTexts.{is_bare as is_bare_byte};
+ghost use Rattle.adx_units.specs.Scans.{Stops};
 ghost use Rattle.formats.specs.Parts.{Finds};
 ghost use Rattle.bid_record.specs.Texts.{Gives, hex_value as hex_value_of, is_nameless as is_nameless_byte, control_of, marked as marked_byte, two_digits_at, control_at, escaped_at, spelled_at, body_at, named_of, name_body_at, name_at};
 

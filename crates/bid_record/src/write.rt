@@ -2,14 +2,13 @@
 ghost use Rattle.std.specs.Prelude.{◌≡◌, ℕ, ◌++◌, ◌∷◌, ◌<◌, ◌≤◌, ◌^◌, [], List, map, length, IfOk, OnOk, string_bytes};
 ghost use Rattle.std.specs.List.{flat_map, enumerate_from};
 ghost use Rattle.std.specs.Fmt.{decimal};
-ghost use Rattle.adx_json.specs.Spelling.{text_spelling};
+ghost use Rattle.adx_units.specs.JsonTexts.{text_spelling};
 ghost use Rattle.formats.specs.Parts.{ended, part};
 ghost use Rattle.bid_record.specs.Lines.{changes_part, name_part, place_text, end_text, offer_part, head_line, day_line, campaign_line, imp_line, end_line, document, record_front};
 
 use crate::record::Record;
 use crate::rows::{CampaignRow, Charge, End, ImpName, ImpRow};
-use adx_json::push_text;
-use adx_units::{Id, OutOfMemory, Text};
+use adx_units::{Id, OutOfMemory, Text, push_text};
 use formats::{push_number, push_part};
 use std::alloc::Global;
 

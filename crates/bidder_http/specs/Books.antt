@@ -2,7 +2,7 @@
 -- newline. This project's own.
 use Rattle.std.specs.Prelude.{ℕ, List, ◌++◌, codes, decimal}
 use Rattle.std.specs.List.{enumerate_from, flat_map}
-use Rattle.adx_json.specs.Spelling.{text_spelling}
+use Rattle.adx_units.specs.JsonTexts.{text_spelling}
 use Rattle.notice_book.specs.declared.kind.NoticeKind.{NoticeKind}
 use Rattle.bidder_core.specs.Ledger.{bill_count, billed_in}
 use Rattle.bidder_core.specs.declared.ledger.LedgerRow.{LedgerRow}

@@ -3,8 +3,8 @@ ghost use Rattle.std.specs.Prelude.{◌≡◌, ◌<◌, ◌++◌, OnOk, decimal,
 ghost use Rattle.std.specs.List.{flat_map};
 ghost use Rattle.bidder_http.specs.Books.{book_line, books_text, kind_text, ledger_line, ledger_text, row_names};
 
-use adx_json::{push_number, push_text};
-use adx_units::OutOfMemory;
+use adx_json::push_number;
+use adx_units::{OutOfMemory, push_text};
 use bidder_core::{Bidder, LedgerRow, Price};
 use http_service::push_body;
 use itoa::Buffer;

@@ -1,7 +1,7 @@
 -- The lines of the commands on the archive: JSON (RFC 8259) in its one compact spelling. This project's own.
 use Rattle.std.specs.Prelude.{ℕ, List, [], ◌++◌, Option, Some, None, codes, decimal}
 use Rattle.std.specs.List.{flat_map}
-use Rattle.adx_json.specs.Spelling.{text_spelling}
+use Rattle.adx_units.specs.JsonTexts.{text_spelling}
 use Rattle.formats.specs.Parts.{ended}
 use Rattle.day_archive.specs.declared.row.DayRow.{DayRow}
 use Rattle.day_archive.specs.declared.refusal.KeeperRefusal.{KeeperRefusal}

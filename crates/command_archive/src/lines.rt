@@ -1,13 +1,12 @@
 //! The lines.
 ghost use Rattle.std.specs.Prelude.{◌≡◌, ◌++◌, ◌∷◌, [], IsOk, OnOk, string_bytes, codes};
 ghost use Rattle.std.specs.Fmt.{decimal};
-ghost use Rattle.adx_json.specs.Spelling.{text_spelling};
+ghost use Rattle.adx_units.specs.JsonTexts.{text_spelling};
 ghost use Rattle.formats.specs.Parts.{ended};
 ghost use Rattle.day_archive.specs.declared.refusal.KeeperRefusal.TheVariants.{KeeperFault};
 ghost use Rattle.command_archive.specs.Lines.{imps_text, kept_line, refusal_text, row_line, row_lines};
 
-use adx_json::push_text;
-use adx_units::OutOfMemory;
+use adx_units::{OutOfMemory, push_text};
 use day_archive::{DayRow, KeeperRefusal};
 use itoa::Buffer;
 

@@ -9,7 +9,8 @@ use Rattle.std.proofs.lemmas.Str.{IsUtf8-from_ascii}
 use Rattle.std.proofs.lemmas.Str.Ascii.{IsAscii-cons, IsAscii-nil}
 use Rattle.adx_json.proofs.Spelled.{spelling_is}
 use Rattle.adx_json.specs.Grammar.{IsJson}
-use Rattle.adx_json.specs.Spelling.{spelling, text_spelling}
+use Rattle.adx_units.specs.JsonTexts.{text_spelling}
+use Rattle.adx_json.specs.Spelling.{spelling}
 use Rattle.adx_json.specs.Tree.{object}
 use Rattle.adx_json.specs.WellFormed.{HasUtf8, IsWellFormed}
 use Rattle.adx_io.specs.Talk.{ended}

@@ -1,7 +1,7 @@
 -- Private, cited by helpers alone: the row that a line's tree tells, and its line without a newline.
 use Rattle.std.specs.Prelude.{◌≡◌, ℕ, List, ◌++◌, codes, decimal, IsUtf8, Bool, false, true, Option, Some, None, option_and_then, option_map, slice_get, if◌then◌else◌}
 use Rattle.std.specs.Str.{bytes_eq}
-use Rattle.adx_json.specs.Spelling.{text_spelling}
+use Rattle.adx_units.specs.JsonTexts.{text_spelling}
 use Rattle.adx_json.specs.Tree.{Members, Tree, member, no_members, number, object, text}
 use Rattle.adx_json.specs.declared.fault.JsonFault.{JsonFault}
 use Rattle.adx_units.specs.Ids.{IsSized}

@@ -4,8 +4,8 @@ ghost use Rattle.command_reconcile.specs.Differences.{sum_of as sum_of_bills, su
 ghost use Rattle.command_reconcile.specs.Walks.{bill_names, difference_of, numbers_part};
 
 use crate::bill::Bill;
-use adx_json::{push_number, push_text};
-use adx_units::OutOfMemory;
+use adx_json::push_number;
+use adx_units::{OutOfMemory, push_text};
 use itoa::Buffer;
 
 /// Writes an auction and a price.

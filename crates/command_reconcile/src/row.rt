@@ -10,10 +10,8 @@ ghost use Rattle.bidder_http.specs.Books.{kind_text};
 ghost use Rattle.command_reconcile.specs.Ledgers.{IsRowLine, TellsNoRow};
 ghost use Rattle.command_reconcile.specs.Rows.{HasTexts, TellsTree, kind_at as kind_at_place, kind_named as kind_named_by, price_at as price_at_place, row_head, row_line, row_tail, row_with, text_at as text_at_place, value_at as value_at_place, wants_memory};
 
-use adx_json::{
-    Json, JsonFault, Member, members_in, number_in, push_number, push_text, read, text_in,
-};
-use adx_units::{Id, OutOfMemory, PRICE_LIMIT, Text, Units, whole_up_to};
+use adx_json::{Json, JsonFault, Member, members_in, number_in, push_number, read, text_in};
+use adx_units::{Id, OutOfMemory, PRICE_LIMIT, Text, Units, push_text, whole_up_to};
 use bidder_core::LedgerRow;
 use notice_book::NoticeKind;
 use std::alloc::Global;

@@ -2,8 +2,7 @@
 ghost use Rattle.std.specs.Prelude.{◌≡◌, ◌++◌, OnOk, string_bytes};
 ghost use Rattle.history_runs.specs.Output.{roster_refused_line};
 
-use adx_json::push_text;
-use adx_units::OutOfMemory;
+use adx_units::{OutOfMemory, push_text};
 use script_lines::{RosterRefusal, push_roster_why};
 use std::alloc::Global;
 

@@ -1,7 +1,7 @@
 -- What is answered where nothing is offered, and why a message is refused. This project's own: JSON (RFC 8259) in its
 -- one compact spelling.
 use Rattle.std.specs.Prelude.{ℕ, List, ◌++◌, codes, false}
-use Rattle.adx_json.specs.Spelling.{text_spelling}
+use Rattle.adx_units.specs.JsonTexts.{text_spelling}
 use Rattle.http_service.specs.declared.answer.Answer.{Answer}
 use Rattle.http_service.specs.declared.answer.Methods.{Methods}
 

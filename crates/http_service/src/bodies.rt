@@ -3,8 +3,7 @@ ghost use Rattle.std.specs.Prelude.{◌≡◌, ◌++◌, OnOk, string_bytes};
 ghost use Rattle.http_service.specs.Bodies.{disallowed as disallowed_of, plain as plain_of, refused_body};
 
 use crate::answer::{Answer, Methods};
-use adx_json::push_text;
-use adx_units::OutOfMemory;
+use adx_units::{OutOfMemory, push_text};
 
 /// Writes a text into a body, behind what it holds, as it stands. An error says that memory was refused; the body may
 /// then end in a part of the text.

@@ -1,14 +1,15 @@
 //! What bidders are asked: the request, but for the members of an auction that is held again.
 ghost use Rattle.std.specs.Prelude.{◌≡◌, ◌∷◌, ◌++◌, OnOk, string_bytes};
-ghost use Rattle.adx_json.specs.Spelling.{spelling, items_spelling, members_spelling, text_spelling};
+ghost use Rattle.adx_units.specs.JsonTexts.{text_spelling};
+ghost use Rattle.adx_json.specs.Spelling.{spelling, items_spelling, members_spelling};
 ghost use Rattle.adx_json.specs.Tree.{items_of, members_of};
 ghost use Rattle.adx_json.specs.View.{tree_of, trees_of, members_view};
 ghost use Rattle.adx_json.proofs.Rows.{left_members};
 ghost use Rattle.rtb_request.specs.ForBidders.{request_for_bidders};
 ghost use Rattle.rtb_request.specs.Asked.{item_part, member_part, gets_at as gets_at_by, gets_cur as gets_cur_by, change_of, at_after, cur_after, changed_value, coming, asked, items_asked, members_asked};
 
-use adx_json::{Json, Member, given, is_number_text, push_comma, push_text, push_value};
-use adx_units::OutOfMemory;
+use adx_json::{Json, Member, given, is_number_text, push_comma, push_value};
+use adx_units::{OutOfMemory, push_text};
 
 /// A part of a request, as far as a change can stand in it.
 #[derive(Clone, Copy)]

@@ -1,7 +1,8 @@
 -- What was put at the end, one piece behind the other.
 use Rattle.std.proofs.Common.{◌≡◌, ℕ, List, [], ◌∷◌, ◌++◌, refl, sym, ap, ◌∙◌, append_assoc, append-nil, codes}
 use Rattle.adx_json.specs.Tree.{Members, no_members, member}
-use Rattle.adx_json.specs.Spelling.{spelling, text_spelling, more_members_spelling}
+use Rattle.adx_units.specs.JsonTexts.{text_spelling}
+use Rattle.adx_json.specs.Spelling.{spelling, more_members_spelling}
 use Rattle.rtb_response.specs.ExchangeAnswer.{followed_by}
 
 -- three pieces, with nothing behind them

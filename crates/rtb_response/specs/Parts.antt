@@ -6,7 +6,8 @@ use Rattle.adx_units.specs.Money.{price_text}
 use Rattle.rtb_response.specs.declared.notice.Notice.{Notice}
 use Rattle.rtb_response.specs.declared.notice.Notice.TheVariants.{Win, Bill, Loss}
 use Rattle.rtb_response.specs.declared.sold.Sold.{Sold}
-use Rattle.adx_json.specs.Spelling.{spelling, text_spelling, items_spelling, more_items_spelling, members_spelling, more_members_spelling}
+use Rattle.adx_units.specs.JsonTexts.{text_spelling}
+use Rattle.adx_json.specs.Spelling.{spelling, items_spelling, more_items_spelling, members_spelling, more_members_spelling}
 
 -- one member behind its comma, but for the first
 abbrev pub one_member : Bool → List ℕ × Tree → List ℕ

@@ -5,8 +5,8 @@ ghost use Rattle.adx_json.specs.View.{tree_of, members_view, member_of};
 ghost use Rattle.rtb_response.specs.Bodies.{body, is_own as is_own_name, passed_on};
 ghost use Rattle.rtb_response.specs.Parts.{one_member, left_members};
 
-use adx_json::{Json, Member, push_comma, push_text, push_value};
-use adx_units::{OutOfMemory, Text};
+use adx_json::{Json, Member, push_comma, push_value};
+use adx_units::{OutOfMemory, Text, push_text};
 use std::alloc::Global;
 
 /// Whether the exchange writes the member of that name itself.

@@ -2,7 +2,8 @@
 ghost use Rattle.std.specs.Prelude.{◌≡◌, ◌++◌, ◌∷◌, map, IfOk, OnOk, string_bytes, decimal, codes};
 ghost use Rattle.std.specs.List.{flat_map};
 ghost use Rattle.adx_json.specs.Tree.{items_of};
-ghost use Rattle.adx_json.specs.Spelling.{spelling, items_spelling, text_spelling, more_members_spelling};
+ghost use Rattle.adx_units.specs.JsonTexts.{text_spelling};
+ghost use Rattle.adx_json.specs.Spelling.{spelling, items_spelling, more_members_spelling};
 ghost use Rattle.adx_units.specs.Money.{price_text};
 ghost use Rattle.notice_macros.specs.Escaped.{url_byte};
 ghost use Rattle.rtb_response.specs.Notices.{url_of};
@@ -12,8 +13,8 @@ ghost use Rattle.rtb_response.specs.ExchangeAnswer.{answer_tree, bid_tree, notic
 use crate::body::push_passed_on;
 use crate::notice::{Addressed, Notice, push_notice};
 use crate::sold::Sold;
-use adx_json::{members_in, push_comma, push_text};
-use adx_units::{ArrayText, Id, OutOfMemory, Text, Units, write_price};
+use adx_json::{members_in, push_comma};
+use adx_units::{ArrayText, Id, OutOfMemory, Text, Units, push_text, write_price};
 use itoa::Buffer;
 use notice_macros::push_percent_encoded;
 use std::alloc::Global;

@@ -1,11 +1,10 @@
 //! The notice URLs that the exchange names in its answer.
 ghost use Rattle.std.specs.Prelude.{◌≡◌, ◌++◌, OnOk, string_bytes};
-ghost use Rattle.adx_json.specs.Spelling.{text_spelling};
+ghost use Rattle.adx_units.specs.JsonTexts.{text_spelling};
 ghost use Rattle.rtb_response.specs.Notices.{path_of as path_by, url_of};
 ghost use Rattle.rtb_response.specs.Parts.{front_of as front_by};
 
-use adx_json::push_text;
-use adx_units::OutOfMemory;
+use adx_units::{OutOfMemory, push_text};
 use itoa::Buffer;
 
 /// What a notice tells of an award.

@@ -1,7 +1,7 @@
 -- The lines that say why a line is refused, each with its newline: JSON (RFC 8259) in its one compact spelling. This
 -- project's own.
 use Rattle.std.specs.Prelude.{ℕ, List, ◌++◌, codes, decimal}
-use Rattle.adx_json.specs.Spelling.{text_spelling}
+use Rattle.adx_units.specs.JsonTexts.{text_spelling}
 use Rattle.script_lines.specs.Whys.{why_of, roster_why}
 use Rattle.script_lines.specs.declared.refusal.Refusal.{Refusal}
 use Rattle.script_lines.specs.declared.refusal.RosterRefusal.{RosterRefusal}

@@ -4,8 +4,8 @@ ghost use Rattle.script_lines.specs.Refusals.{refused_line, refusal_line, roster
 
 use crate::refusal::{Refusal, RosterRefusal};
 use crate::why::{push_roster_why, push_why};
-use adx_json::{push_number, push_text};
-use adx_units::OutOfMemory;
+use adx_json::push_number;
+use adx_units::{OutOfMemory, push_text};
 use std::alloc::Global;
 
 /// Writes a text as it is.

@@ -1,6 +1,6 @@
 use Rattle.std.proofs.lemmas.List.Sums.{prefix_len-le-length}
-use Rattle.adx_json.specs.Reading.{is_bare}
-use Rattle.adx_json.proofs.Runs.{run_passes, run_stops}
+use Rattle.adx_units.specs.JsonTexts.{is_bare}
+use Rattle.adx_units.proofs.Bare.{run_passes, run_stops}
 use Rattle.adx_json.proofs.text.bare_run.Goals as goal
 
 pub returns-clause-bare : goal.returns-clause-bare

@@ -1,8 +1,9 @@
 use Rattle.std.proofs.Common.{take}
 use Rattle.std.specs.List.{prefix_len}
 use Rattle.adx_units.specs.Unescaped.{is_unescaped}
-use Rattle.adx_json.proofs.Runs.{run_passes}
-use Rattle.adx_json.proofs.Unescaped.{are_bare, are_ascii}
+use Rattle.adx_units.proofs.Bare.{run_passes}
+use Rattle.adx_units.proofs.Bare.{are_bare}
+use Rattle.adx_json.proofs.Unescaped.{are_ascii}
 use Rattle.adx_json.proofs.text.unescaped_run.Goals as goal
 
 pub returns-clause-bare : goal.returns-clause-bare

@@ -1,6 +1,6 @@
 -- The pieces of the line.
 use Rattle.std.proofs.Common.{◌++◌, ap, ◌∙◌, codes, string_bytes}
-use Rattle.adx_json.specs.Spelling.{text_spelling}
+use Rattle.adx_units.specs.JsonTexts.{text_spelling}
 use Rattle.answer_lines.specs.Answers.{awards_text, reasons_of, reasons_text}
 use Rattle.answer_lines.proofs.Chains.{and_then}
 use Rattle.answer_lines.proofs.awards.push_awarded.Goals as goal

@@ -1,6 +1,6 @@
 -- The pieces of the row.
 use Rattle.std.proofs.Common.{◌≡◌, ◌++◌, ◌∙◌, ap, ap₂, codes, decimal, string_bytes}
-use Rattle.adx_json.specs.Spelling.{text_spelling}
+use Rattle.adx_units.specs.JsonTexts.{text_spelling}
 use Rattle.campaign_book.specs.Discount.{slab_of}
 use Rattle.campaign_book.specs.Accounts.{account_at, committed}
 use Rattle.answer_lines.proofs.Chains.{and_then}

@@ -1,6 +1,6 @@
 use Rattle.std.proofs.lemmas.List.Sums.{prefix_len-le-length}
-use Rattle.adx_json.specs.Reading.{is_bare}
-use Rattle.adx_json.proofs.Runs.{run_passes}
+use Rattle.adx_units.specs.JsonTexts.{is_bare}
+use Rattle.adx_units.proofs.Bare.{run_passes}
 use Rattle.bid_record.proofs.text.bare_run.Goals as goal
 
 pub split_at-requires : goal.split_at-requires

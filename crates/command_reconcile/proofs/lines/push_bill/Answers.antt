@@ -1,7 +1,7 @@
 -- Four pieces, one of them a spelled text.
 use Rattle.std.proofs.Common.{◌∙◌, ◌++◌, ap, string_bytes}
 use Rattle.std.specs.Prelude.{codes, decimal}
-use Rattle.adx_json.specs.Spelling.{text_spelling}
+use Rattle.adx_units.specs.JsonTexts.{text_spelling}
 use Rattle.command_reconcile.proofs.Written.{four}
 use Rattle.command_reconcile.proofs.lines.push_bill.Goals as goal
 

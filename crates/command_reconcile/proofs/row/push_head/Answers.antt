@@ -1,7 +1,7 @@
 -- Four pieces, two of which are spelled texts.
 use Rattle.std.proofs.Common.{string_bytes}
 use Rattle.std.specs.Prelude.{codes}
-use Rattle.adx_json.specs.Spelling.{text_spelling}
+use Rattle.adx_units.specs.JsonTexts.{text_spelling}
 use Rattle.bidder_http.proofs.Lines.{four}
 use Rattle.command_reconcile.proofs.row.push_head.Goals as goal
 

@@ -1,6 +1,7 @@
 use Rattle.std.proofs.Common.{◌++◌, ◌∷◌, [], ap, sym, ◌∙◌, string_bytes, decimal, append_assoc}
 use Rattle.adx_json.specs.View.{tree_of}
-use Rattle.adx_json.specs.Spelling.{text_spelling, more_members_spelling}
+use Rattle.adx_units.specs.JsonTexts.{text_spelling}
+use Rattle.adx_json.specs.Spelling.{more_members_spelling}
 use Rattle.adx_units.specs.Money.{price_text}
 use Rattle.adx_json.specs.Walks.{members_by}
 use Rattle.rtb_response.specs.Bodies.{passed_on}

@@ -1,5 +1,5 @@
 use Rattle.std.proofs.Common.{◌++◌, string_bytes}
-use Rattle.adx_json.specs.Spelling.{text_spelling}
+use Rattle.adx_units.specs.JsonTexts.{text_spelling}
 use Rattle.rtb_response.specs.Notices.{url_of}
 use Rattle.rtb_response.specs.Parts.{front_of}
 use Rattle.rtb_response.specs.declared.notice.Notice.TheVariants.{Win, Bill, Loss}

@@ -1,7 +1,8 @@
 use Rattle.std.proofs.Common.{◌≡◌, ◌++◌, map, codes, ap, sym, ◌∙◌, string_bytes}
 use Rattle.std.specs.List.{flat_map}
 use Rattle.adx_json.specs.Tree.{items_of}
-use Rattle.adx_json.specs.Spelling.{text_spelling, items_spelling}
+use Rattle.adx_units.specs.JsonTexts.{text_spelling}
+use Rattle.adx_json.specs.Spelling.{items_spelling}
 use Rattle.notice_macros.specs.Escaped.{url_byte}
 use Rattle.rtb_response.specs.Notices.{url_of}
 use Rattle.rtb_response.specs.ExchangeAnswer.{seat_tree}

@@ -1,9 +1,9 @@
 use Rattle.std.proofs.Common.{◌≡◌, ◌++◌, length, drop, string_bytes, sym, ap, ◌∙◌, subst}
 use Rattle.std.specs.List.{flat_map}
 use Rattle.std.specs.Str.{IsUtf8}
-use Rattle.adx_json.specs.Spelling.{escape}
-use Rattle.adx_json.proofs.Escapes.{runs_end, runs_more, behind_escaped}
-use Rattle.adx_json.proofs.escape.push_escaped.Goals as goal
+use Rattle.adx_units.specs.JsonTexts.{escape}
+use Rattle.adx_units.proofs.Escapes.{runs_end, runs_more, behind_escaped}
+use Rattle.adx_units.proofs.escape.push_escaped.Goals as goal
 
 pub returns-in_default : goal.returns-in_default
 returns-in_default c =

@@ -1,10 +1,12 @@
-//! A text between quotation marks, with the escapes that it needs.
+//! A text between quotation marks, with the escapes that it needs (RFC 8259, section 7).
 ghost use Rattle.std.specs.Prelude.{◌≡◌, ◌<◌, ◌≤◌, ◌++◌, ◌∷◌, [], List, ℕ, length, IsTrue, OnOk, false, string_bytes};
 ghost use Rattle.std.specs.List.{list_all, prefix_len, flat_map};
-ghost use Rattle.adx_json.specs.Spelling.{hex_digit as hex_digit_of, control_escape, escape, text_spelling};
-ghost use Rattle.adx_json.specs.Reading.{Stops, is_bare as is_bare_byte};
+ghost use Rattle.adx_units.specs.JsonTexts.{hex_digit as hex_digit_of, control_escape, escape, text_spelling};
+ghost use Rattle.adx_units.specs.JsonTexts.{is_bare as is_bare_byte};
+ghost use Rattle.adx_units.specs.Scans.{Stops};
 
-use adx_units::{OutOfMemory, unescaped_len};
+use crate::memory::OutOfMemory;
+use crate::unescaped::unescaped_len;
 
 /// Puts the text at the end, between quotation marks.
 pub fn push_text(out: &mut String, text: &str) -> Result<(), OutOfMemory>
@@ -38,7 +40,7 @@ fn is_bare(byte: u8) -> bool
 }
 
 /// How many bytes at the front need no escape.
-pub(crate) fn bare_len(bytes: &[u8]) -> usize
+pub fn bare_len(bytes: &[u8]) -> usize
     ensures { result ≡ prefix_len is_bare_byte bytes.now }
 {
     let front = unescaped_len(bytes);

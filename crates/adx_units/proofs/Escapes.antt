@@ -4,9 +4,10 @@ use Rattle.std.proofs.lemmas.Grind.{flat_map-append}
 use Rattle.std.specs.List.{list_all, flat_map}
 use Rattle.std.proofs.lemmas.Str.{IsCharBoundary-after_ascii}
 use Rattle.std.specs.Str.{IsUtf8, IsCharBoundary}
-use Rattle.adx_json.specs.Spelling.{escape}
-use Rattle.adx_json.specs.Reading.{is_bare, Stops}
-use Rattle.adx_json.proofs.Runs.{bare_text, escaped_low}
+use Rattle.adx_units.specs.JsonTexts.{escape}
+use Rattle.adx_units.specs.JsonTexts.{is_bare}
+use Rattle.adx_units.specs.Scans.{Stops}
+use Rattle.adx_units.proofs.Bare.{bare_text, escaped_low}
 
 -- a bare run is put as it is
 pub escaped_run : (left run behind : List ℕ) → left ≡ run ++ behind → list_all is_bare run ≡ true → flat_map escape left ≡ run ++ flat_map escape behind

@@ -2,8 +2,8 @@ use Rattle.std.proofs.Common.{◌≡◌, ◌++◌, length, string_bytes}
 use Rattle.std.specs.List.{flat_map}
 use denote.Shadow.{shadow}
 use denote.Text.{Utf8}
-use Rattle.adx_json.specs.Spelling.{escape}
-use Rattle.adx_json.proofs.escape.push_escaped.Given as goal
+use Rattle.adx_units.specs.JsonTexts.{escape}
+use Rattle.adx_units.proofs.escape.push_escaped.Given as goal
 
 -- what was put and what is left make up the whole
 abbrev pub invariant-runs : goal.invariant-runs

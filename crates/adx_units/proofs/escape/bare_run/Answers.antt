@@ -1,9 +1,9 @@
 use Rattle.std.proofs.Common.{sym, ap, ◌∙◌, subst}
 use Rattle.std.specs.List.{prefix_len}
 use Rattle.std.specs.Str.{IsCharBoundary}
-use Rattle.adx_json.specs.Reading.{is_bare}
-use Rattle.adx_json.proofs.Runs.{run_passes, run_stops, bare_boundary}
-use Rattle.adx_json.proofs.escape.bare_run.Goals as goal
+use Rattle.adx_units.specs.JsonTexts.{is_bare}
+use Rattle.adx_units.proofs.Bare.{run_passes, run_stops, bare_boundary}
+use Rattle.adx_units.proofs.escape.bare_run.Goals as goal
 
 pub split_at-requires : goal.split_at-requires
 split_at-requires c =
