@@ -35,3 +35,4 @@ pub mod Meeting
 pub mod Judging
 pub mod Items
 pub mod Finding
+pub mod Listing

@@ -13,3 +13,4 @@ pub mod Values
 pub mod Checks
 pub mod Walks
 pub mod FoundMembers
+pub mod Rows

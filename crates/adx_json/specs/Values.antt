@@ -4,7 +4,7 @@ use Rattle.std.specs.Prelude.{ℕ, List, [], ◌∷◌, ◌&&◌, Bool, true, fa
 use Rattle.std.specs.List.{list_all, filter_map}
 use Rattle.std.specs.Str.{bytes_eq}
 use Rattle.adx_units.specs.Number.{whole_up_to}
-use Rattle.adx_json.specs.Tree.{Tree, null, boolean, number, text, list, object, Items, no_items, item}
+use Rattle.adx_json.specs.Tree.{Tree, null, number, text, list, object, Items, no_items, item}
 use Rattle.adx_json.specs.Named.{member_in}
 
 -- a value, where it isn't null
