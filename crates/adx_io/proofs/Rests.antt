@@ -5,7 +5,7 @@ use Rattle.adx_io.specs.Rest.{AddsSome, Within}
 use Rattle.adx_io.specs.Streams.{Tape, WhereTold}
 use Rattle.adx_io.proofs.Moved.{take-add}
 
--- what was taken behind the first bytes stands behind them
+-- what was taken after the first bytes comes after them
 pub taken_behind : (start n : ℕ) (before whole now : List ℕ) → start ≤ length whole → take start whole ≡ before → now ≡ take (start + n) whole → now ≡ before ++ take n (drop start whole)
 taken_behind start n before whole now h front cut = cut ∙ take-add start n whole h ∙ ap (λ p. p ++ take n (drop start whole)) front
 

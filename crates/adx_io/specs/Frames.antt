@@ -1,4 +1,4 @@
--- The bytes of a record behind its gate, and the frame that holds them. This project's own.
+-- The bytes of a record after its gate, and the frame that holds them. This project's own.
 use Rattle.std.specs.Prelude.{◌≡◌, ℕ, ◌-◌, ◌≤◌, List, [], ◌∷◌, ◌++◌, length, take, drop}
 use Rattle.std.specs.Int.{w32, to_le_bytes}
 use Rattle.adx_io.specs.declared.frame.TheConstants.{LONGEST_PAYLOAD}
@@ -7,11 +7,11 @@ use Rattle.adx_io.specs.declared.frame.TheConstants.{LONGEST_PAYLOAD}
 abbrev pub longest_payload : ℕ
 longest_payload = LONGEST_PAYLOAD
 
--- a payload behind its length
+-- a payload after its length
 abbrev pub body : List ℕ → List ℕ
 body payload = to_le_bytes w32 (length payload) ++ payload
 
--- the same, and a closed gate behind it
+-- the same, and a closed gate after it
 abbrev pub record_of : List ℕ → List ℕ
 record_of payload = body payload ++ 0 ∷ []
 

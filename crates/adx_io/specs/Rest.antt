@@ -1,5 +1,5 @@
 -- The rest of an input, read to its end. This project's own.
--- Example: with `ab` before, `cde` left and a limit of 2, `abcd` stands there, `e` was taken and is lost, and the
+-- Example: with `ab` before, `cde` left and a limit of 2, `abcd` is there, `e` was taken and is lost, and the
 -- answer is that the limit was passed.
 use Rattle.std.specs.Prelude.{◌≡◌, ℕ, ◌+◌, ◌≤◌, List, [], ◌∷◌, ◌++◌, length, Result, Ok, Err}
 use Rattle.adx_io.specs.Streams.{Tape}
@@ -24,11 +24,11 @@ ReadsRest limit before now (Ok Rest.PastLimit) old new =
     × (middle.left ≡ more ∷ new.left) × (new.taken ≡ middle.taken ++ more ∷ [])
 ReadsRest limit before now (Err stop) old new = Adds before now old new
 
--- whatever a source tells, so many bytes at most stand behind what was there
+-- whatever a source reports, so many bytes at most come after what was there
 abbrev pub Within : ℕ → List ℕ → List ℕ → Type 0
 Within limit before now = (bytes : List ℕ) × (now ≡ before ++ bytes) × (length bytes ≤ limit)
 
--- past the limit so many bytes were added, whatever a source tells
+-- past the limit so many bytes were added, whatever a source reports
 abbrev pub IsFull : ℕ → List ℕ → List ℕ → Rest → Type 0
 IsFull limit before now Rest.PastLimit = length now ≡ length before + limit
 IsFull limit before now Rest.Whole = Unit

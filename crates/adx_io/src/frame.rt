@@ -10,7 +10,7 @@ use std::marker::Model;
 /// The longest payload of a record, in bytes.
 const LONGEST_PAYLOAD: usize = 67_108_864;
 
-/// The bytes of a record behind its gate: the length of the payload in four bytes, least first, the
+/// The bytes of a record after its gate: the length of the payload in four bytes, least first, the
 /// payload, and a closed gate. A frame is used for one record after another.
 #[derive(Debug, Drop)]
 pub struct Frame {
@@ -71,7 +71,7 @@ impl Frame {
         (self.bytes.capacity() - len).min(LONGEST_PAYLOAD - (len - 5))
     }
 
-    /// The record behind its gate: the payload's length, the payload and a closed gate.
+    /// The record after its gate: the payload's length, the payload and a closed gate.
     pub fn record_bytes(&self) -> &[u8]
         ensures spelled { result.now ≡ record_of self.now.payload }
         ensures fits { length self.now.payload ≤ longest_payload }
@@ -79,7 +79,7 @@ impl Frame {
         self.bytes.as_slice()
     }
 
-    /// Adds a piece to the payload; a payload that would be too long is refused as want of memory.
+    /// Adds a piece to the payload; a payload that would be too long is refused as out of memory.
     pub fn push(&mut self, piece: &[u8]) -> Result<(), OutOfMemory>
         ensures ok { OnOk result (self.new.payload ≡ self.old.payload ++ piece.now) }
         ensures err { OnErr result (self.new.payload ≡ self.old.payload) }

@@ -8,7 +8,7 @@ use adx_units::OutOfMemory;
 use std::alloc::Global;
 use std::marker::Model;
 
-/// A source over bytes in memory that gives a few bytes at a time and fails by a list. It tells all.
+/// A source over bytes in memory that gives a few bytes at a time and fails by a list. It reports all.
 #[derive(Debug, Drop)]
 pub struct MemorySource {
     bytes: Vec<u8>,

@@ -22,7 +22,7 @@ pub enum Rest {
 }
 
 /// Reads a source to its end, and adds what it gives to `out`: at most `limit` bytes. Memory is asked
-/// for before bytes are taken, so that what was taken stands in `out` whatever the answer is, but for
+/// for before bytes are taken, so that what was taken is in `out` whatever the answer is, but for
 /// the one byte past the limit.
 pub fn read_rest<S: Source>(source: &mut S, out: &mut Vec<u8>, limit: u64) -> Result<Rest, Stop>
     ensures reads { WhereTold (S.tape source.old) (S.tape source.new) (ReadsRest limit out.old.items out.new.items result) }
@@ -69,7 +69,7 @@ fn add_some<S: Source>(source: &mut S, out: &mut Vec<u8>, wanted: usize) -> Resu
     }
 }
 
-/// Takes the next bytes of the source behind so many bytes; 0 only at the end of the input.
+/// Takes the next bytes of the source after so many bytes; 0 only at the end of the input.
 fn take_behind<S: Source>(source: &mut S, out: &mut Vec<u8>, start: usize) -> Result<usize, Failed>
     requires some { start < length out.old.items }
     ensures count { IfOk result (λ n. n ≤ length out.new.items - start) }

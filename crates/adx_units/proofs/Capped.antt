@@ -17,7 +17,7 @@ capped_digit v start ds i cap inside e =
 pub capped_all : (v start : ℕ) (ds : List ℕ) (i cap : ℕ) → length ds ≤ i → v ≡ min (digits_after start (take i ds)) cap → v ≡ min (digits_after start ds) cap
 capped_all v start ds i cap past e = e ∙ ap (λ l. min (digits_after start l) cap) (take_all i ds past)
 
--- digits behind a capped number
+-- digits after a capped number
 pub capped_after : (a : ℕ) (ds : List ℕ) (cap : ℕ) → min (digits_after (min a cap) ds) cap ≡ min (digits_after a ds) cap
 capped_after a [] cap = omega arith
 capped_after a (d ∷ ds) cap =
@@ -48,7 +48,7 @@ capped_zero v a i cap e =
     let times : a * 10 ^ (i + 1) ≡ 10 * (a * 10 ^ i) = ap (λ p. a * p) more ∙ sym (mul_assoc a (10 ^ i) 10) ∙ mul_comm (a * 10 ^ i) 10 in
     omega arith
 
--- k zeros behind a digit other than 0 reach the cap
+-- k zeros after a digit other than 0 reach the cap
 pub enough_zeros : (v k y z cap : ℕ) → cap ≤ 10 ^ k → k ≤ y → k ≤ z → min (v * 10 ^ y) cap ≡ min (v * 10 ^ z) cap
 enough_zeros v k y z cap reach one two =
     elim (eq-zero-or-pos v) [

@@ -1,4 +1,4 @@
--- The value of a number times a power of ten, from the digits that stand before the moved point.
+-- The value of a number times a power of ten, from the digits that come before the moved point.
 use Rattle.std.proofs.Common.{◌≡◌, ℕ, ◌+◌, ◌-◌, ◌*◌, ◌/◌, ◌%◌, ◌^◌, ◌<◌, ◌≤◌, ◌⊎◌, inl, inr, min, true, ◌&&◌, List, [], ◌++◌, take, drop, length, sym, ap, ◌∙◌, arith, append_assoc, append-nil, take-append-drop, take_all, zero-mul, mul-one}
 use Rattle.std.specs.List.{list_all}
 use Rattle.std.proofs.Math.Nat.{pow-zero, div-eq_of_lt, mod-eq_of_lt, pow-le-pow_right}
@@ -32,7 +32,7 @@ all_cut ds c h le =
     let power : 10 ^ length ds ≤ 10 ^ c = pow-le-pow_right (omega arith) le in
     omega arith
 
--- the point stands w digits from the left, moves s + up places right and down places left: it leaves the
+-- the point is w digits from the left, moves s + up places right and down places left: it leaves the
 -- digits `a` before it and `b` after it, and z zeros are appended
 pub record Moved (a b : List ℕ) (w f up s down z : ℕ) : Type 0 where
   pub digits : list_all is_digit (a ++ b) ≡ true

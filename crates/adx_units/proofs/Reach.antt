@@ -8,7 +8,7 @@ use Rattle.adx_units.proofs.Point.{Moved, parts_join, shifted_whole, shifted_res
 use Rattle.adx_units.proofs.Capped.{capped_times, enough_zeros}
 
 -- an exponent e moves the point s places right, and e further to the right or to the left: counted up to
--- `far`, it is to stand at `reach`, with kw and kf digits of the two parts before it, and z zeros
+-- `far`, it is to be at `reach`, with kw and kf digits of the two parts before it, and z zeros
 pub record Reaches (w f up s down far reach kw kf z : ℕ) : Type 0 where
   pub way : ((up ≡ 0) × (reach ≡ (w + s) - min down far)) ⊎ ((down ≡ 0) × (reach ≡ w + s + min up far))
   pub room : w + f + s + 16 ≤ far

@@ -24,7 +24,7 @@ pub front_stops : (p : ℕ → Bool) (xs : List ℕ) → Stops p (drop (prefix_l
 front_stops p [] = tt
 front_stops p (x ∷ xs) = stops_at p x xs (prefix_len p xs) (p x) refl (front_stops p xs)
 
--- what stands before the first byte that passes, and what behind it
+-- what comes before the first byte that passes, and what after it
 before_on : (p : ℕ → Bool) (x : ℕ) (xs : List ℕ) → p x ≡ false → before_first p (x ∷ xs) ≡ x ∷ before_first p xs
 before_on p x xs h =
     ap (λ (b : Bool). take (cond (not b) (1 + position_or_len p xs) 0) (x ∷ xs)) h ∙ ap (λ n. take n (x ∷ xs)) (one-add (position_or_len p xs))
@@ -41,7 +41,7 @@ after_on p x xs h =
 after_at : (p : ℕ → Bool) (x : ℕ) (xs : List ℕ) → p x ≡ true → after_first p (x ∷ xs) ≡ xs
 after_at p x xs h = ap (λ (b : Bool). drop (cond (not b) (1 + position_or_len p xs) 0 + 1) (x ∷ xs)) h
 
--- the same behind bytes of which none passes
+-- the same after bytes of which none passes
 before_front : (p : ℕ → Bool) (w b : List ℕ) → list_any p w ≡ false → before_first p (w ++ b) ≡ w ++ before_first p b
 before_front p [] b h = refl
 before_front p (x ∷ w) b h =
@@ -57,7 +57,7 @@ after_front p (x ∷ w) b h =
 any_front : (p : ℕ → Bool) (w b : List ℕ) → list_any p w ≡ false → list_any p (w ++ b) ≡ list_any p b
 any_front p w b h = list_any-append p w b ∙ ap (λ c. c || list_any p b) h
 
--- what stands before the first byte that passes begins as the list does, or is empty
+-- what comes before the first byte that passes begins as the list does, or is empty
 before_begins_at : (p q : ℕ → Bool) (x : ℕ) (xs : List ℕ) (c : Bool) → p x ≡ c → q x ≡ false → Stops q (before_first p (x ∷ xs))
 before_begins_at p q x xs true e h = subst (Stops q) (sym (before_at p x xs e)) tt
 before_begins_at p q x xs false e h = subst (Stops q) (sym (before_on p x xs e)) h
@@ -164,13 +164,13 @@ no_whole t w b u digits stops none =
     number_is t ∙ and_left (is_decimal (before_first is_exponent_mark (without_minus t))) (exponent_stands (without_minus t))
     (ap is_decimal front ∙ and_left (is_whole (before_first is_point (w ++ q))) (not (list_any is_point (w ++ q)) || is_digits (after_first is_point (w ++ q))) whole)
 
--- what stands behind a point that stands behind digits is no fraction
+-- what comes after a point that comes after digits is no fraction
 point_then : (w s : List ℕ) → list_all is_digit w ≡ true → is_digits s ≡ false → is_decimal (w ++ 46 ∷ s) ≡ false
 point_then w s digits none =
     and_right (is_whole (before_first is_point (w ++ 46 ∷ s))) (not (list_any is_point (w ++ 46 ∷ s)) || is_digits (after_first is_point (w ++ 46 ∷ s)))
     (ap₂ (λ (b : Bool) (l : List ℕ). not b || is_digits l) (any_front is_point w (46 ∷ s) (no_point w digits)) (after_front is_point w (46 ∷ s) (no_point w digits) ∙ after_at is_point 46 s refl) ∙ none)
 
--- no digits behind the point
+-- no digits after the point
 pub no_fraction : (t w b : List ℕ) → without_minus t ≡ w ++ b → list_all is_digit w ≡ true → HasNoFraction b → is_number t ≡ false
 no_fraction t w b u digits h =
     let s = before_first is_exponent_mark h.0 in
@@ -180,7 +180,7 @@ no_fraction t w b u digits h =
     number_is t ∙ and_left (is_decimal (before_first is_exponent_mark (without_minus t))) (exponent_stands (without_minus t))
     (ap is_decimal front ∙ point_then w s digits (digits_none s (before_begins is_exponent_mark is_digit h.0 h.2)))
 
--- an exponent without digits behind bytes without a mark
+-- an exponent without digits after bytes without a mark
 no_digits : (t v x : List ℕ) (m : ℕ) → without_minus t ≡ v ++ m ∷ x → list_any is_exponent_mark v ≡ false → is_exponent_mark m ≡ true → is_digits (without_sign x) ≡ false → is_number t ≡ false
 no_digits t v x m u none mark lacks =
     let any : list_any is_exponent_mark (without_minus t) ≡ true =
@@ -190,7 +190,7 @@ no_digits t v x m u none mark lacks =
     number_is t ∙ and_right (is_decimal (before_first is_exponent_mark (without_minus t))) (exponent_stands (without_minus t))
     (ap₂ (λ (b : Bool) (l : List ℕ). not b || is_digits (without_sign l)) any behind ∙ lacks)
 
--- a byte that is no mark behind bytes without a mark
+-- a byte that is no mark after bytes without a mark
 no_decimal : (t v x : List ℕ) (m : ℕ) → without_minus t ≡ v ++ m ∷ x → list_any is_exponent_mark v ≡ false → is_exponent_mark m ≡ false → ((s : List ℕ) → is_decimal (v ++ m ∷ s) ≡ false) → is_number t ≡ false
 no_decimal t v x m u none mark lacks =
     let front : before_first is_exponent_mark (without_minus t) ≡ v ++ m ∷ before_first is_exponent_mark x =

@@ -43,7 +43,7 @@ decimal_whole = decimal_by_steps IsWholeOf (λ n small. record {
   zero = λ _. refl;
 }) more_digits
 
--- what may stand behind a whole number's digits: nothing, or a point and the digits `ds`
+-- what may come after a whole number's digits: nothing, or a point and the digits `ds`
 pub record IsTail (tail ds : List ℕ) : Type 0 where
   pub digits : list_all is_digit ds ≡ true
   pub marks : list_any is_exponent_mark tail ≡ false

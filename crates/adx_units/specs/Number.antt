@@ -1,5 +1,5 @@
 -- The text of a JSON number (RFC 8259, section 6): number = [ minus ] int [ frac ] [ exp ], and the
--- fraction of whole numbers that it stands for.
+-- fraction of whole numbers that it represents.
 -- Example: `1.5e2` has the whole digits `1` and the fraction's digits `5`, and is raised by 2: its value is 1,500
 -- / 10, which as a price is 150,000,000 units. `0.0000001` comes to no unit as a price, and to one as a floor.
 use Rattle.std.specs.Prelude.{ℕ, ◌+◌, ◌-◌, ◌*◌, ◌^◌, List, [], ◌∷◌, ◌++◌, Bool, false, ◌||◌, ◌&&◌, not, length, nat_le, ◌==◌, if◌then◌else◌, fold, Option, Some, None}
@@ -49,11 +49,11 @@ abbrev pub without_sign : List ℕ → List ℕ
 without_sign [] = []
 without_sign (b ∷ bs) = if b == 45 || b == 43 then bs else b ∷ bs
 
--- what stands before the exponent's mark, without the minus
+-- what comes before the exponent's mark, without the minus
 abbrev pub decimal_part : List ℕ → List ℕ
 decimal_part t = without_minus (before_first is_exponent_mark t)
 
--- what stands behind the exponent's mark
+-- what comes after the exponent's mark
 abbrev pub exponent_part : List ℕ → List ℕ
 exponent_part t = after_first is_exponent_mark t
 
@@ -62,11 +62,11 @@ abbrev pub is_number : List ℕ → Bool
 is_number t =
     is_decimal (decimal_part t) && (not (list_any is_exponent_mark t) || is_digits (without_sign (exponent_part t)))
 
--- the number that decimal digits stand for behind those of n
+-- the number that decimal digits represent after those of n
 abbrev pub digits_after : ℕ → List ℕ → ℕ
 digits_after n ds = fold (λ m b. 10 * m + (b - 48)) n ds
 
--- the number that decimal digits stand for
+-- the number that decimal digits represent
 abbrev pub digits_value : List ℕ → ℕ
 digits_value ds = fold (λ n b. 10 * n + (b - 48)) 0 ds
 
@@ -74,7 +74,7 @@ digits_value ds = fold (λ n b. 10 * n + (b - 48)) 0 ds
 abbrev pub is_whole_up_to : ℕ → List ℕ → Bool
 is_whole_up_to most ds = is_whole ds && nat_le (digits_value ds) most
 
--- the number that a whole number of at most a bound stands for
+-- the number that a whole number of at most a bound represents
 abbrev pub whole_up_to : ℕ → List ℕ → Option ℕ
 whole_up_to most ds = if is_whole_up_to most ds then Some (digits_value ds) else None
 
@@ -82,7 +82,7 @@ whole_up_to most ds = if is_whole_up_to most ds then Some (digits_value ds) else
 abbrev pub whole_digits : List ℕ → List ℕ
 whole_digits t = before_first is_point (decimal_part t)
 
--- the digits behind the point
+-- the digits after the point
 abbrev pub fraction_digits : List ℕ → List ℕ
 fraction_digits t = after_first is_point (decimal_part t)
 

@@ -8,18 +8,18 @@ abbrev pub Stops : (ℕ → Bool) → List ℕ → Type 0
 Stops passes [] = Unit {0}
 Stops passes (b ∷ bs) = passes b ≡ false
 
--- a number's text behind its whole digits: a fraction and what stands behind it. The fraction has no digits where no
--- point stands first.
+-- a number's text after its whole digits: a fraction and what comes after it. The fraction has no digits where no
+-- point comes first.
 abbrev pub IsFraction : List ℕ → List ℕ → List ℕ → Type 0
 IsFraction text digits behind =
     (list_all is_digit digits ≡ true) × Stops is_digit behind
     × (((digits ≡ []) × (text ≡ behind) × Stops is_point behind) ⊎ ((is_digits digits ≡ true) × (text ≡ 46 ∷ digits ++ behind)))
 
--- a point without a digit behind it
+-- a point without a digit after it
 abbrev pub HasNoFraction : List ℕ → Type 0
 HasNoFraction text = (behind : List ℕ) × (text ≡ 46 ∷ behind) × Stops is_digit behind
 
--- a number's text behind its fraction: nothing, or an exponent's mark with a sign and digits
+-- a number's text after its fraction: nothing, or an exponent's mark with a sign and digits
 abbrev pub IsExponent : List ℕ → List ℕ → Bool → Type 0
 IsExponent text digits lowers =
     ((text ≡ []) × (digits ≡ []) × (lowers ≡ false))

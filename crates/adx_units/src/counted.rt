@@ -2,9 +2,9 @@
 
 ghost use Rattle.std.specs.Prelude.{◌≡◌, ℕ, Bool, List, Option, length};
 
-/// A value that stands for a list that only grows, a number of faults and a part that never changes,
-/// as a desk stands for its history, its disk's faults and the roster that it was opened with; and that
-/// keeps rules: which lists it may stand for, and which turns are right where they are called.
+/// A value that represents a list that only grows, a number of faults and a part that never changes,
+/// as a desk represents its history, its disk's faults and the roster that it was opened with; and that
+/// keeps rules: which lists it may represent, and which turns are right where they are called.
 pub trait Counted {
     /// One item of the list.
     type Item;
@@ -30,7 +30,7 @@ pub trait Counted {
     // Whether a turn met a fault that is counted.
     ghost is_fault: { Self.Turn → Bool };
 
-    // The list is one that a value with this fixed part may stand for, as a history is legal.
+    // The list is one that a value with this fixed part may represent, as a history is legal.
     ghost legal: { Self.Fixed → List Self.Item → Type 0 };
 
     // The turn is one that the rules give where it is called at this list.

@@ -4,14 +4,14 @@
 //! above speaks of buffers or capacities.
 //!
 //! Names that are looked up among many others. A contract sees the lists of names alone: `any_among` and `all_among`
-//! tell what comparing each with each tells, and a `NameSet` whether it has a name.
+//! say what comparing each with each reports, and a `NameSet` whether it has a name.
 //!
 //! Bytes looked through sixteen at a time. `unescaped_len` is how many bytes of ASCII a JSON text (RFC 8259, section 7)
 //! may have as themselves before the first one that it may not, and `bare_len` how many bytes of any kind; a contract
 //! says it as the length of the longest such front. `push_text` puts a text as JSON spells it. `utf8_text` is the text
 //! that bytes are, where they are UTF-8.
 //!
-//! Stands on `arrayvec`.
+//! Uses `arrayvec`.
 #![tactic(auto)]
 
 mod among;

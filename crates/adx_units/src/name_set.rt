@@ -9,7 +9,7 @@ use std::alloc::Global;
 use std::collections::BTreeSet;
 use std::marker::Model;
 
-/// Some names, told apart by their bytes. A look-up takes about as many comparisons as their number has binary digits,
+/// Some names, compared by their bytes. A look-up takes about as many comparisons as their number has binary digits,
 /// whatever the names are.
 #[derive(Drop)]
 pub struct NameSet<'a> {

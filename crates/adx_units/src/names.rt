@@ -9,7 +9,7 @@ use crate::name_set::NameSet;
 use crate::text::Text;
 use std::alloc::Global;
 
-/// A list of names. Where it is long and memory allows, its names stand in a set, too.
+/// A list of names. Where it is long and memory allows, its names are in a set, too.
 #[derive(Drop)]
 pub(crate) struct Names<'a> {
     pub texts: &'a [Text],

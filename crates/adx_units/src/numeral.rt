@@ -7,7 +7,7 @@ ghost use Rattle.adx_units.specs.Scans.{Stops, IsFraction, HasNoFraction, IsExpo
 /// The parts of a number's text.
 #[derive(Clone, Copy)]
 pub(crate) struct Numeral<'a> {
-    /// Whether a minus stands first.
+    /// Whether a minus comes first.
     pub minus: bool,
     /// The digits before the point.
     pub whole: &'a [u8],
@@ -31,7 +31,7 @@ fn digits_len(text: &[u8]) -> usize
     text.iter().take_while(|byte| is_digit(**byte)).count()
 }
 
-/// The digits at the front, and what stands behind them.
+/// The digits at the front, and what comes after them.
 fn digits_front(text: &[u8]) -> (&[u8], &[u8])
     ensures whole { text.now ≡ result.0.now ++ result.1.now }
     ensures digits { list_all is_digit_byte result.0.now ≡ true }
@@ -101,8 +101,8 @@ fn are_whole(digits: &[u8]) -> bool
     }
 }
 
-/// The fraction's digits and what stands behind them, of what stands behind the whole digits. None where a
-/// point has no digit behind it.
+/// The fraction's digits and what comes after them, of what comes after the whole digits. None where a
+/// point has no digit after it.
 fn fraction_front(text: &[u8]) -> Option<(&[u8], &[u8])>
     requires { Stops is_digit_byte text.now }
     ensures { MatchOption result (HasNoFraction text.now) (λ x. IsFraction text.now x.0.now x.1.now) }
@@ -118,7 +118,7 @@ fn fraction_front(text: &[u8]) -> Option<(&[u8], &[u8])>
     }
 }
 
-/// The exponent's digits and whether it has a minus, of what stands behind the fraction. None where that
+/// The exponent's digits and whether it has a minus, of what comes after the fraction. None where that
 /// is neither nothing nor an exponent.
 fn exponent_of(text: &[u8]) -> Option<(&[u8], bool)>
     ensures { MatchOption result (HasNoExponent text.now) (λ x. IsExponent text.now x.0.now x.1) }

@@ -25,7 +25,7 @@ pub enum PriceFault {
     TooFine,
 }
 
-/// The price that a JSON number (RFC 8259, section 6) in dollars per thousand stands for: the whole
+/// The price that a JSON number (RFC 8259, section 6) in dollars per thousand represents: the whole
 /// part of its value times 10^6, in units.
 /// Fails where the text isn't a number, where it is negative or comes to no unit, and past 10^12 units.
 pub fn price_of(text: &[u8]) -> Result<Units, PriceFault>
@@ -44,7 +44,7 @@ pub fn price_of(text: &[u8]) -> Result<Units, PriceFault>
     Ok(Units(price.units))
 }
 
-/// The floor that a JSON number in dollars per thousand stands for: its value times 10^6, rounded up
+/// The floor that a JSON number in dollars per thousand represents: its value times 10^6, rounded up
 /// to a whole unit. A floor may be 0.
 /// Fails where the text isn't a number, where it is below 0, and past 10^12 units.
 pub fn floor_of(text: &[u8]) -> Result<Units, PriceFault>
@@ -64,7 +64,7 @@ pub fn floor_of(text: &[u8]) -> Result<Units, PriceFault>
     Ok(Units(units))
 }
 
-/// The budget that a JSON number in dollars stands for: its value times 10^9, which has to be whole,
+/// The budget that a JSON number in dollars represents: its value times 10^9, which has to be whole,
 /// in units.
 /// Fails where the text isn't a number, where it is 0 or negative, past 10^15 units, and where a part
 /// of a unit is left.

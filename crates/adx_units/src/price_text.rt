@@ -48,7 +48,7 @@ fn without_last_zeros(digits: &[u8]) -> &[u8]
 }
 
 /// Writes a price in dollars per thousand over `out`: units / 10^6 in decimal, with no zero at its
-/// end behind the point, and no point where it is whole. From 1 to 10^12 units `price_of` reads the
+/// end after the point, and no point where it is whole. From 1 to 10^12 units `price_of` reads the
 /// same price back.
 pub fn write_price(price: Units, out: &mut ArrayText)
     ensures text { out.new ≡ text_of_price price.0 }

@@ -9,7 +9,7 @@ use crate::numeral::{Numeral, numeral_of};
 /// Above each limit of a price, a floor or a budget: an amount is counted no further.
 const CAP: u64 = 10_000_000_000_000_000;
 
-/// So many zeros behind a digit other than 0 reach the cap.
+/// So many zeros after a digit other than 0 reach the cap.
 const ENOUGH: u128 = 16;
 
 /// Above the length of each text and above each number of 64 bits: an exponent or a whole number is counted no further.
@@ -18,7 +18,7 @@ const FAR: u128 = 100_000_000_000_000_000_000;
 /// A number's value in units.
 #[derive(Clone, Copy)]
 pub(crate) struct Amount {
-    /// Whether a minus stands first.
+    /// Whether a minus comes first.
     pub minus: bool,
     /// The whole units, or the cap where there are more.
     pub units: u64,
@@ -62,7 +62,7 @@ fn digit_of(byte: u8) -> u64
     u64::from(byte.saturating_sub(b'0'))
 }
 
-// The number that `digits` stand for behind those of `start`, up to the cap.
+// The number that `digits` represent after those of `start`, up to the cap.
 pub(crate) fn value_after(start: u64, digits: &[u8]) -> u64
     requires { start ≤ CAP }
     ensures { result ≡ min (digits_after start digits.now) CAP }
@@ -74,14 +74,14 @@ pub(crate) fn value_after(start: u64, digits: &[u8]) -> u64
     value
 }
 
-// The number that the digits of two parts stand for, up to the cap.
+// The number that the digits of two parts represent, up to the cap.
 fn value_of(first: &[u8], second: &[u8]) -> u64
     ensures { result ≡ min (digits_value (first.now ++ second.now)) CAP }
 {
     value_after(value_after(0, first), second)
 }
 
-// The number that digits stand for, up to `FAR`.
+// The number that digits represent, up to `FAR`.
 pub(crate) fn far_value_of(digits: &[u8]) -> u128
     ensures { result ≡ min (digits_value digits.now) FAR }
 {

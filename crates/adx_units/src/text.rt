@@ -8,7 +8,7 @@ use arrayvec::ArrayString;
 use std::alloc::Global;
 use std::marker::Model;
 
-/// The longest text, in bytes, that stands in its value and takes no memory of its own.
+/// The longest text, in bytes, that is in its value and takes no memory of its own.
 const SHORT: usize = 16;
 
 // Most texts of a request are a few bytes long: each of them saves an allocation.

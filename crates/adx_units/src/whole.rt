@@ -6,7 +6,7 @@ ghost use Rattle.adx_units.specs.Number.{whole_up_to as whole_of_text};
 use crate::numeral::is_whole;
 use crate::scale::far_value_of;
 
-/// The whole number that a text of decimal digits stands for, without a sign or a leading zero, where it is
+/// The whole number that a text of decimal digits represents, without a sign or a leading zero, where it is
 /// at most `most`. None exactly where the text isn't of that form or its number is above `most`.
 pub fn whole_up_to(text: &[u8], most: u64) -> Option<u64>
     ensures value { result ≡ whole_of_text most text.now }

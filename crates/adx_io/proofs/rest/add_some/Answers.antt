@@ -1,4 +1,4 @@
--- The bytes that were taken stand behind those that were there.
+-- The bytes that were taken come after those that were there.
 use Rattle.std.proofs.Common.{◌≡◌, ◌++◌, length, take, drop, ap, ◌∙◌, arith}
 use Rattle.adx_io.proofs.Rests.{taken_behind, fills_adds, within_taken}
 use Rattle.adx_io.proofs.rest.add_some.Given.{Over}
@@ -7,7 +7,7 @@ use Rattle.adx_io.proofs.rest.add_some.Goals as goal
 start_is : (g : Over) (c : goal.After-truncate g) → (length c.as_slice-start.result.now) ≡ length c.args.out.now.items
 start_is g c = ap length c.as_slice-start.ensures.value
 
--- what stands in out, by what was taken
+-- what is in out, by what was taken
 added : (g : Over) (c : goal.After-truncate g) → c.truncate.new.self.items ≡ c.args.out.now.items ++ take c.in-Ok.count (drop (length c.as_slice-start.result.now) c.take_behind.new.out.items)
 added g c =
     taken_behind (length c.as_slice-start.result.now) c.in-Ok.count c.args.out.now.items c.take_behind.new.out.items c.truncate.new.self.items
