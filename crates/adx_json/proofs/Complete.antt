@@ -48,7 +48,7 @@ first_item_value : (limit : ℕ) (fs : List Frame) (v r : List ℕ) → BeginsVa
 first_item_value limit fs v r h =
     ap (λ x. stop_of limit at_first_item fs (x ++ r)) h.2 ∙ first_item_as limit fs h.0 (h.1 ++ r) h.3 h.4 ∙ ap (λ x. stop_of limit at_value (in_list ∷ fs) (x ++ r)) (sym h.2)
 
--- what comes behind a value in a list, an object or at the end
+-- what comes after a value in a list, an object or at the end
 space_ends : (b : ℕ) → is_space b ≡ true → ends_number b ≡ true
 space_ends b h = grind (arith, nat_tests)
 

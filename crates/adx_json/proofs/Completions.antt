@@ -9,7 +9,7 @@ use Rattle.adx_json.specs.declared.utf8.Tail.{Tail}
 use Rattle.adx_json.proofs.Utf8Steps.{utf8_run}
 use Rattle.adx_json.specs.Scan.{accepts}
 
--- further items, the closing bracket, and what comes behind it
+-- further items, the closing bracket, and what comes after it
 pub record MoreItemsThen (limit depth : ℕ) (After : List ℕ → Type 0) (bytes : List ℕ) : Type 0 where
   pub later : Items
   pub space : List ℕ
@@ -32,13 +32,13 @@ pub record MoreMembersThen (limit depth : ℕ) (After : List ℕ → Type 0) (by
   pub shallow : members_levels later ≤ limit - suc depth
   pub after : After behind
 
--- what comes behind a value, by the lists and objects around it
+-- what comes after a value, by the lists and objects around it
 abbrev pub Behind : ℕ → List Frame → List ℕ → Type 0
 Behind limit [] bytes = IsSpace bytes
 Behind limit (in_list ∷ fs) bytes = MoreItemsThen limit (length fs) (Behind limit fs) bytes
 Behind limit (in_object ∷ fs) bytes = MoreMembersThen limit (length fs) (Behind limit fs) bytes
 
--- a value, and what comes behind it
+-- a value, and what comes after it
 pub record ValueThen (limit depth : ℕ) (After : List ℕ → Type 0) (bytes : List ℕ) : Type 0 where
   pub tree : Tree
   pub space : List ℕ
@@ -50,7 +50,7 @@ pub record ValueThen (limit depth : ℕ) (After : List ℕ → Type 0) (bytes : 
   pub shallow : levels tree ≤ limit - depth
   pub after : After behind
 
--- a list's inside, its closing bracket, and what comes behind
+-- a list's inside, its closing bracket, and what comes after
 pub record ItemsThen (limit depth : ℕ) (After : List ℕ → Type 0) (bytes : List ℕ) : Type 0 where
   pub list : Items
   pub items : List ℕ
@@ -69,7 +69,7 @@ pub record MembersThen (limit depth : ℕ) (After : List ℕ → Type 0) (bytes 
   pub shallow : members_levels object ≤ limit - suc depth
   pub after : After behind
 
--- a colon, a value, further members, the closing brace, and what comes behind
+-- a colon, a value, further members, the closing brace, and what comes after
 pub record ColonThen (limit depth : ℕ) (After : List ℕ → Type 0) (bytes : List ℕ) : Type 0 where
   pub tree : Tree
   pub later : Members
@@ -85,7 +85,7 @@ pub record ColonThen (limit depth : ℕ) (After : List ℕ → Type 0) (bytes : 
   pub shallow : members_levels later ≤ limit - suc depth
   pub after : After behind
 
--- a member's name, and what comes behind it
+-- a member's name, and what comes after it
 pub record NameThen (limit depth : ℕ) (After : List ℕ → Type 0) (bytes : List ℕ) : Type 0 where
   pub text : List ℕ
   pub space : List ℕ
@@ -96,13 +96,13 @@ pub record NameThen (limit depth : ℕ) (After : List ℕ → Type 0) (bytes : L
   pub is : IsString text name
   pub colon : ColonThen limit depth After behind
 
--- a word's rest, and what comes behind it
+-- a word's rest, and what comes after it
 pub record WordThen (word : List ℕ) (After : List ℕ → Type 0) (bytes : List ℕ) : Type 0 where
   pub behind : List ℕ
   pub whole : bytes ≡ word ++ behind
   pub after : After behind
 
--- the pieces of a string and its closing quotation mark, and what comes behind
+-- the pieces of a string and its closing quotation mark, and what comes after
 pub record PiecesThen (After : List ℕ → Type 0) (bytes : List ℕ) : Type 0 where
   pub pieces : List Piece
   pub behind : List ℕ
@@ -110,7 +110,7 @@ pub record PiecesThen (After : List ℕ → Type 0) (bytes : List ℕ) : Type 0 
   pub each : AllByRecursion IsPiece pieces
   pub after : After behind
 
--- the rest of a number, and what comes behind it
+-- the rest of a number, and what comes after it
 pub record NumberThen (accept : List ℕ → Bool) (After : List ℕ → Type 0) (bytes : List ℕ) : Type 0 where
   pub number : List ℕ
   pub behind : List ℕ
@@ -150,7 +150,7 @@ CompletesText (characters (Some t)) After bytes = CharacterThen t (PiecesThen Af
 CompletesText escaped After bytes = EscapeThen (PiecesThen After) bytes
 CompletesText (digits k) After bytes = DigitsThen k (PiecesThen After) bytes
 
--- what comes behind a string
+-- what comes after a string
 abbrev pub BehindText : ℕ → Role → List Frame → List ℕ → Type 0
 BehindText limit a_name fs bytes = ColonThen limit (length fs) (Behind limit fs) bytes
 BehindText limit a_value fs bytes = Behind limit fs bytes

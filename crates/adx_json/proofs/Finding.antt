@@ -25,7 +25,7 @@ rows_found under found names at (n ∷ left) is h =
     let tail : drop (suc at) names ≡ left = cc in
     (h at n low head, rows_found under found names (suc at) left tail h)
 
--- behind the last member, what was found is the whole
+-- after the last member, what was found is the whole
 pub end_met : (name : List ℕ) (items : List Member) (i : ℕ) (found whole : Option Tree) → length items ≤ i → found_or name found (members_of (members_view (drop i items))) ≡ whole → found ≡ whole
 end_met name items i found whole end h =
     sym (met_all name found) ∙ sym (at_drop_all (λ left. found_or name found (members_of (members_view left))) items i end) ∙ h
@@ -53,7 +53,7 @@ put_step names old before after m place name low item here others done left k n 
     ∙ ap (λ p. with_member name.now (seen (get_or old p None)) m) (sym e) ∙ ap (λ (x : Bor (List ℕ)). with_member x.now (seen (get_or old k None)) m) (sym same)
 put_step names old before after m place name low item here others done left k n near is (inr other) = ap seen (others k other) ∙ done k n (omega arith) is
 
--- the same, where the member is told otherwise
+-- the same, where the member is found otherwise
 pub put_more : (names : List (Bor (List ℕ))) (old before after : List (Option (Bor Json))) (m other : List ℕ × Tree) (place : ℕ) (name : Bor (List ℕ)) → place < length names → name ≡ get_or names place name → other ≡ m
     → seen (get_or after place None) ≡ with_member name.now (seen (get_or before place None)) other
     → ((k : ℕ) → k ≢ place → get_or after k None ≡ get_or before k None)

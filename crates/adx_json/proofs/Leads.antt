@@ -1,4 +1,4 @@
--- Where a byte leads, what completes a text behind it does so with the byte before it.
+-- Where a byte leads, what completes a text after it does so with the byte before it.
 use Rattle.std.proofs.Common.{◌≡◌, ℕ, suc, ◌<◌, ◌≤◌, List, [], ◌∷◌, ◌++◌, length, Bool, true, false, cond, ◌&&◌, ◌||◌, ◌⊎◌, inl, inr, Option, Some, None, refl, sym, ap, ◌∙◌, subst, arith, eqb, ltb, leb, append_assoc}
 use Rattle.std.proofs.lemmas.Bool.{cond_both, eqb-true, ltb-true, ltb-false, and_from}
 use Rattle.std.proofs.lemmas.Bool.Decides.{nat_tests}
@@ -154,7 +154,7 @@ value_item limit fs r v =
       after = m.after;
     }
 
--- the same behind a comma
+-- the same after a comma
 pub comma_item : (limit : ℕ) (fs : List Frame) (r : List ℕ) → ValueThen limit (suc (length fs)) (Behind limit (in_list ∷ fs)) r → Behind limit (in_list ∷ fs) (44 ∷ r)
 comma_item limit fs r v =
     let m = v.after in

@@ -39,7 +39,7 @@ members_found name (text t) = refl
 members_found name (list ts) = refl
 members_found name (object ms) = refl
 
--- behind the last member, what was found is the value of the tree's member
+-- after the last member, what was found is the value of the tree's member
 pub all_met : (name : List ℕ) (t : Tree) (items : List Member) (i : ℕ) (found : Option Tree) → length items ≤ i → members_of (members_view items) ≡ members_by t → found_or name found (members_of (members_view (drop i items))) ≡ value_of name (members_of (members_view items)) → found ≡ member_in name t
 all_met name t items i found end is h =
     sym (met_all name found)

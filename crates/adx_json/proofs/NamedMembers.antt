@@ -10,7 +10,7 @@ use Rattle.adx_json.specs.declared.tree.Member.{Member, out-Member}
 use Rattle.adx_json.proofs.Names.{has_name_of, name_is}
 use Rattle.adx_json.proofs.Views.{member_of_parts}
 
--- the first member with the name stands at that place
+-- the first member with the name is at that place
 abbrev pub FirstAt : List ℕ → List Member → ℕ → Type 0
 FirstAt name [] at = ⊥
 FirstAt name (m ∷ ms) zero = has_name_of name m ≡ true

@@ -11,7 +11,7 @@ use Rattle.adx_json.specs.declared.number.Numeral.TheVariants.{Start, Minus, Zer
 abbrev pub from : Option Numeral → List ℕ → Bool
 from o bs = elim o [ Some m ↦ accepts m bs | None ↦ false ]
 
--- what stands before and behind the first byte of a kind, by recursion
+-- what comes before and after the first byte of a kind, by recursion
 abbrev front : (ℕ → Bool) → List ℕ → List ℕ
 front p [] = []
 front p (b ∷ t) = cond (p b) [] (b ∷ front p t)

@@ -10,7 +10,7 @@ use Rattle.adx_json.specs.Scan.{accepts}
 use Rattle.adx_json.specs.declared.number.Numeral.{Numeral}
 use Rattle.adx_json.proofs.Stops.{Ended, ends_number, ends_all, accept_at, bare_parts}
 
--- within a string: between characters, behind a backslash, within four digits
+-- within a string: between characters, after a backslash, within four digits
 data At : Type 0 where
   between : Option ℕ → At
   behind_backslash : Option ℕ → At
@@ -22,7 +22,7 @@ Read = List ℕ × List ℕ
 abbrev behind : List ℕ → Read → Read
 behind bytes x = (bytes ++ x.0, x.1)
 
--- the text up to the closing quotation mark, and the bytes behind it
+-- the text up to the closing quotation mark, and the bytes after it
 abbrev read_from : At → List ℕ → Read
 read_from at [] = ([], [])
 read_from (between w) (b ∷ bs) =

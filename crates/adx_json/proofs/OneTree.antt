@@ -62,7 +62,7 @@ one_kind t u a b r s h k e =
     let same : x.first ≡ y.first = head_of x.first y.first (x.rest ++ r) (y.rest ++ s) (sym (ap (λ z. z ++ r) x.whole) ∙ e ∙ ap (λ z. z ++ s) y.whole) in
     sym x.kind ∙ ap kind_of same ∙ y.kind
 
--- what may follow white space behind a value
+-- what may follow white space after a value
 abbrev Closed : List ℕ → Type 0
 Closed r = Ended r × Stops is_space r
 

@@ -1,4 +1,4 @@
--- Items and members that wait for the end of their list or object, behind those of the lists and objects around it.
+-- Items and members that wait for the end of their list or object, after those of the lists and objects around it.
 use Rattle.std.proofs.Common.{◌≡◌, ◌≢◌, ℕ, suc, ◌+◌, ◌≤◌, List, [], ◌∷◌, ◌++◌, length, take, drop, Some, refl, sym, ap, ◌∙◌, subst, arith, append_assoc, append-nil, length-append}
 use Rattle.std.proofs.lemmas.List.{map-append}
 use Rattle.adx_json.specs.Tree.{items_of, members_of}
@@ -24,7 +24,7 @@ drop_old : {A : Type 0} (old these : List A) → drop (length old) (old ++ these
 drop_old [] these = refl
 drop_old (x ∷ old) these = drop_old old these
 
--- the items of a list so far, behind the old ones
+-- the items of a list so far, after the old ones
 pub record ItemsPending (n : ℕ) (bytes : List ℕ) (old now : List Json) (left : List ℕ) : Type 0 where
   pub these : List Json
   pub split : now ≡ old ++ these
@@ -62,7 +62,7 @@ items_stop n bytes old now left e s h = items_refused n bytes (trees_of s.these)
 pub items_lack : (n : ℕ) (bytes : List ℕ) (old now : List Json) (left : List ℕ) (x : Json) (rest : List ℕ) → ItemsPending n bytes old now left → FoundElement n left (tree_of x) rest → ((more : List ℕ) → rest ≢ 44 ∷ more) → ((more : List ℕ) → rest ≢ 93 ∷ more) → (fs : List Frame) → suc (length fs) + n ≡ 64 → stop_of 64 at_first_item fs bytes ≡ Some (Syntax (length rest))
 items_lack n bytes old now left x rest s found comma close = items_unended n bytes (trees_of s.these) left (tree_of x) rest s.so_far found comma close
 
--- the members of an object so far, behind the old ones
+-- the members of an object so far, after the old ones
 pub record MembersPending (n : ℕ) (bytes : List ℕ) (old now : List Member) (left : List ℕ) : Type 0 where
   pub these : List Member
   pub split : now ≡ old ++ these

@@ -34,7 +34,7 @@ name_whole limit depth After r v =
     let c = v.colon in
     v.whole ∙ ap (λ x. v.space ++ (v.name ++ x)) c.whole ∙ regroup_member v.space v.name c.space c.value c.members c.behind
 
--- a member from its name on, first or behind a comma
+-- a member from its name on, first or after a comma
 name_member : (limit depth : ℕ) (After : List ℕ → Type 0) (r : List ℕ) → NameThen limit depth After r → MembersThen limit depth After r
 name_member limit depth After r v =
     let c = v.colon in

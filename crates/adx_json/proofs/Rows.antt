@@ -3,7 +3,7 @@ use Rattle.std.proofs.Common.{ℕ, List, Bool, true, false}
 use Rattle.adx_json.specs.Tree.{Items, Members}
 use Rattle.adx_json.specs.Spelling.{items_spelling, more_items_spelling, members_spelling, more_members_spelling}
 
--- the items that are left, first or behind others
+-- the items that are left, first or after others
 abbrev pub left_items : Bool → Items → List ℕ
 left_items true ts = items_spelling ts
 left_items false ts = more_items_spelling ts

@@ -85,7 +85,7 @@ drop_front : (front rest : List ℕ) → drop (length front) (front ++ rest) ≡
 drop_front [] rest = refl
 drop_front (b ∷ front) rest = drop_front front rest
 
--- the cut in front of what is left
+-- the cut before what is left
 pub cut_before : (bytes front rest : List ℕ) (k : ℕ) → bytes ≡ front ++ rest → k ≡ length bytes - length rest → (take k bytes ≡ front) × (drop k bytes ≡ rest)
 cut_before bytes front rest k e h =
     let same : k ≡ length front = h ∙ ap (λ x. length x - length rest) e ∙ omega (arith, length-append front rest) in

@@ -1,4 +1,4 @@
--- What is told of each member from the end on, by the set of the names behind it, and what is kept by that.
+-- What is said of each member from the end on, by the set of the names after it, and what is kept by that.
 use Rattle.std.proofs.Common.{◌≡◌, ℕ, List, [], ◌∷◌, ◌++◌, append_assoc, append-nil, reverse, Bool, true, false, cond, not, ◌||◌, Ordering, Less, Equal, Greater, nat_cmp, is_eq, Bor, refl, sym, ap, ap₂, ◌∙◌}
 use Rattle.std.proofs.lemmas.List.{reverse-append, reverse-reverse}
 use Rattle.std.proofs.lemmas.Map.Text.{is_eq-slice_cmp}
@@ -18,7 +18,7 @@ use Rattle.adx_json.specs.declared.tree.Member.{Member}
 use Rattle.adx_json.proofs.KeptMembers.{last_at, before_view, before_none}
 use Rattle.adx_json.proofs.ReadMembers.{before_members}
 
--- a set of names with their marks: names with one mark are told apart by their bytes
+-- a set of names with their marks: names with one mark are distinguished by their bytes
 abbrev pub marked_cmp : ℕ × Bor (List ℕ) → ℕ × Bor (List ℕ) → Ordering
 marked_cmp x y = ordering_then (nat_cmp x.0 y.0) (slice_cmp nat_cmp x.1.now y.1.now)
 
@@ -45,7 +45,7 @@ met_more s n mark name e u q =
     ∙ ap (λ m. cond (is_eq (ordering_then (nat_cmp m (mark_from 0 q)) (slice_cmp nat_cmp name.now q))) true (has_met s q)) e
     ∙ ap (λ b. cond b true (has_met s q)) (marked_same name.now q)
 
--- what was told from the end on, and the names that were met
+-- what was said from the end on, and the names that were met
 pub record ToldSoFar (all left : List Member) (told : List Bool) (seen : List ℕ → Bool) : Type 0 where
   pub later : List Member
   pub whole : all ≡ left ++ later
@@ -81,7 +81,7 @@ all_stay (m ∷ later) h =
     let at = stays_at (has_name (member_of m).0 (members_of (members_view later))) (stays later) h in
     ap (member (member_of m).0 (member_of m).1) (all_stay later at.1) ∙ sym (last_at m later false at.0)
 
--- those kept so far, those that are left from the end on, and what is told of these
+-- those kept so far, those that are left from the end on, and what is said of these
 pub record KeptByFlags (all left kept : List Member) (told : List Bool) : Type 0 where
   pub same : before_members (members_view kept) (last_of_each (members_of (members_view (reverse left)))) ≡ last_of_each (members_of (members_view all))
   pub flags : told ≡ stays (reverse left)

@@ -14,7 +14,7 @@ use Rattle.adx_json.proofs.Utf8Steps.{runs_on, run_utf8, within_parts}
 use Rattle.adx_json.proofs.Completions.{PiecesThen, CharacterThen, EscapeThen, DigitsThen, CompletesText, BehindText, Completes}
 use Rattle.adx_json.proofs.Leads.{Leads, LeadsTo, Stands, both, steps, place_of, tail_of, depth_of, plain_utf8}
 
--- one more piece in front
+-- one more piece before
 piece_more : (After : List ℕ → Type 0) (p : Piece) (bytes r : List ℕ) → IsPiece p → bytes ≡ piece_bytes p ++ r → PiecesThen After r → PiecesThen After bytes
 piece_more After p bytes r ok e v = record {
   pieces = p ∷ v.pieces;

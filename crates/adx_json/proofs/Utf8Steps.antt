@@ -217,7 +217,7 @@ step_ends None b bs =
 step_ends (Some t) b bs =
     cond_both (is_within (tail_low t) (tail_high t) b) _ _ (StepEnds (Some t) b bs) (λ w e. let k = within_parts _ _ b w in tail_ends t b bs k.0 k.1 e) (λ w. tt)
 
--- where one byte leads, what ends a character behind it ends one before it
+-- where one byte leads, what ends a character after it ends one before it
 pub ends_before : (t next : Option Tail) (b : ℕ) (bs : List ℕ) → utf8_step t b ≡ Some next → EndsChar next bs → EndsChar t (b ∷ bs)
 ends_before t next b bs e h = let f = subst (StepEnds t b bs) e (step_ends t b bs) in f h
 
@@ -228,7 +228,7 @@ run_at t b bs (Some next) e later h = ends_before t next b bs e (later next h)
 some_none : (t : Option Tail) → Some t ≡ Some None → None ≡ t
 some_none t e = cc
 
--- bytes that a run ends behind whole characters of are UTF-8
+-- bytes that a run ends after whole characters of are UTF-8
 pub run_utf8 : (t : Option Tail) (bs : List ℕ) → utf8_run t bs ≡ Some None → EndsChar t bs
 run_utf8 t [] h = subst (λ s. EndsChar s []) (some_none t h) IsUtf8-nil
 run_utf8 t (b ∷ bs) h = run_at t b bs (utf8_step t b) refl (λ next k. run_utf8 next bs k) h
@@ -300,6 +300,6 @@ chars_run (c ∷ cs) s =
     let parts = and_parts _ _ s in
     char_run c (encode_utf8_all cs) parts.0 (cases_lt c 128) (cases_lt c 2048) (cases_lt c 65536) ∙ chars_run cs parts.1
 
--- UTF-8 is read to its end, behind a whole character
+-- UTF-8 is read to its end, after a whole character
 pub utf8_runs : (bs : List ℕ) → IsUtf8 bs → utf8_run None bs ≡ Some None
 utf8_runs bs u = ap (utf8_run None) (sym u.1.1) ∙ chars_run u.0 u.1.0

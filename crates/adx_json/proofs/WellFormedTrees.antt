@@ -8,7 +8,7 @@ use Rattle.adx_json.specs.Tree.{Tree, null, boolean, number, text, list, object,
 use Rattle.adx_json.specs.Grammar.{IsValue, AreItems, AreMoreItems, AreMembers, AreMoreMembers, has_name, last_of_each, resolved, resolved_items, resolved_members, IsJson}
 use Rattle.adx_json.specs.WellFormed.{IsWellFormed, AreWellFormed, HaveWellFormed}
 
--- names that differ from those behind them
+-- names that differ from those after them
 pub differ_cons : (n : List ℕ) (ns : List (List ℕ)) → ((j : ℕ) (d : List ℕ) → j < length ns → n ≢ get_or ns j d) → AllPairs (λ a b. a ≢ b) ns → AllPairs (λ a b. a ≢ b) (n ∷ ns)
 differ_cons n ns new h zero zero d low high = absurd (omega arith)
 differ_cons n ns new h zero (suc j) d low high = new j d (omega arith)

@@ -22,16 +22,18 @@ pub record BeginsLevel65 (bytes : List ℕ) (at : ℕ) : Type 0 where
   pub opens : (slice_index bytes at ≡ 91) ⊎ (slice_index bytes at ≡ 123)
   pub deeper : BeginsText 65 (take (at + 1) bytes)
 
--- where a byte stands: outside strings, inside one, or there directly behind a backslash (section 7)
+-- where a byte is: outside strings, inside one, or there directly after a backslash (section 7)
 pub data Place : Type 0 where
   outside inside behind_backslash : Place
 
+-- where the next byte is, after the byte `b` was read at a place: a quotation mark begins or ends a string, and the byte
+-- after a backslash never ends one
 abbrev pub next_place : Place → ℕ → Place
 next_place outside b = if b == 34 then inside else outside
 next_place inside b = if b == 34 then outside else (if b == 92 then behind_backslash else inside)
 next_place behind_backslash b = inside
 
--- the place behind some bytes
+-- the place after some bytes
 abbrev pub place_behind : Place → List ℕ → Place
 place_behind place [] = place
 place_behind place (b ∷ bytes) = place_behind (next_place place b) bytes

@@ -13,7 +13,7 @@ use Rattle.adx_json.specs.declared.number.Numeral.TheVariants.{Start}
 use Rattle.adx_json.specs.declared.fault.Stop.{Stop}
 use Rattle.adx_json.specs.declared.fault.Stop.TheVariants.{Utf8}
 
--- a fault tells where bytes stop that are read from a mode on, inside so many lists and objects that n levels are left
+-- a fault says where bytes stop that are read from a mode on, inside so many lists and objects that n levels are left
 abbrev pub StopsAt : Stop → ℕ → Mode → List ℕ → Type 0
 StopsAt e n m bytes = (fs : List Frame) → length fs + n ≡ 64 → Tells e (stop_of 64 m fs bytes)
 
@@ -25,7 +25,7 @@ StopsInside e n m bytes = (fs : List Frame) → suc (length fs) + n ≡ 64 → T
 abbrev pub StopsWord : Stop → List ℕ → List ℕ → Type 0
 StopsWord e bytes word = (c : ℕ) (cs : List ℕ) (fs : List Frame) → word ≡ c ∷ cs → Tells e (stop_of 64 (in_word c cs) fs bytes)
 
--- a string's run of bytes stops being UTF-8 where so many are left of it, before anything that doesn't stand for itself
+-- a string's run of bytes stops being UTF-8 where so many are left of it, before anything that doesn't represent itself
 abbrev pub BreaksIn : List ℕ → ℕ → Type 0
 BreaksIn bytes left =
     (role : Role) (fs : List Frame) (rest : List ℕ) → Stops is_bare rest
@@ -62,18 +62,18 @@ pub record FoundUnit (bytes : List ℕ) (value : ℕ) (rest : List ℕ) : Type 0
   pub means : value ≡ unit_value a b c d
   pub goes : (role : Role) (fs : List Frame) → stop_of 64 (in_text role (digits 3)) fs bytes ≡ stop_of 64 (in_text role (characters None)) fs rest
 
--- a run of bytes that stand for themselves, as pieces
+-- a run of bytes that represent themselves, as pieces
 abbrev pub run_pieces : List ℕ → List Piece
 run_pieces [] = []
 run_pieces (b ∷ bytes) = run (b ∷ bytes) ∷ []
 
--- a run was put behind what was there, and what waits now
+-- a run was put after what was there, and what waits now
 pub record AddsRun (waiting : Option ℕ) (bytes before : List ℕ) (now : Option ℕ) (after : List ℕ) : Type 0 where
   pub each : AllByRecursion IsPiece (run_pieces bytes)
   pub adds : (more : List Piece) → after ++ decoded now more ≡ before ++ decoded waiting (run_pieces bytes ++ more)
   pub high : IfSome waiting (λ h. IsTrue (is_high_surrogate h)) → IfSome now (λ h. IsTrue (is_high_surrogate h))
 
--- an escape behind its backslash, of that code unit
+-- an escape after its backslash, of that code unit
 pub record FoundEscape (bytes : List ℕ) (u : ℕ) (rest : List ℕ) : Type 0 where
   pub piece : Piece
   pub is : IsPiece piece
@@ -81,7 +81,7 @@ pub record FoundEscape (bytes : List ℕ) (u : ℕ) (rest : List ℕ) : Type 0 w
   pub means : (waiting : Option ℕ) (more : List Piece) → decoded waiting (piece ∷ more) ≡ unit_text waiting u ++ decoded (waits u) more
   pub goes : (role : Role) (fs : List Frame) → stop_of 64 (in_text role escaped) fs bytes ≡ stop_of 64 (in_text role (characters None)) fs rest
 
--- a text behind its opening quotation mark
+-- a text after its opening quotation mark
 pub record FoundText (bytes t rest : List ℕ) : Type 0 where
   pub pieces : List Piece
   pub each : AllByRecursion IsPiece pieces
@@ -99,7 +99,7 @@ pub record FoundValue (n : ℕ) (bytes : List ℕ) (t : Tree) (rest : List ℕ) 
   pub means : t ≡ resolved written
   pub goes : (fs : List Frame) → length fs + n ≡ 64 → stop_of 64 at_value fs bytes ≡ stop_of 64 behind_value fs rest
 
--- the same with the white space before and behind it
+-- the same with the white space before and after it
 pub record FoundElement (n : ℕ) (bytes : List ℕ) (t : Tree) (rest : List ℕ) : Type 0 where
   pub written : Tree
   pub value : List ℕ
@@ -110,7 +110,7 @@ pub record FoundElement (n : ℕ) (bytes : List ℕ) (t : Tree) (rest : List ℕ
   pub ends : Stops is_space rest
   pub goes : (fs : List Frame) → length fs + n ≡ 64 → stop_of 64 at_value fs bytes ≡ stop_of 64 behind_value fs rest
 
--- the items of at most n levels behind a list's opening bracket
+-- the items of at most n levels after a list's opening bracket
 pub record FoundItems (n : ℕ) (bytes : List ℕ) (ts : Items) (rest : List ℕ) : Type 0 where
   pub written : Items
   pub inside : List ℕ
@@ -140,7 +140,7 @@ pub record FoundMember (n : ℕ) (bytes name : List ℕ) (t : Tree) (rest : List
   pub ends : Stops is_space rest
   pub goes : (fs : List Frame) → suc (length fs) + n ≡ 64 → stop_of 64 at_name fs bytes ≡ stop_of 64 behind_value (in_object ∷ fs) rest
 
--- the members behind an object's opening brace, as they stand
+-- the members after an object's opening brace, as they are
 pub record FoundMembers (n : ℕ) (bytes : List ℕ) (ms : Members) (rest : List ℕ) : Type 0 where
   pub written : Members
   pub inside : List ℕ

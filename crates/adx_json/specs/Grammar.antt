@@ -11,15 +11,16 @@ use Rattle.adx_units.specs.JsonTexts.{is_bare}
 abbrev pub is_space : ℕ → Bool
 is_space b = b == 32 || b == 9 || b == 10 || b == 13
 
+-- bytes that are all white space; no bytes are, too
 abbrev pub IsSpace : List ℕ → Type 0
 IsSpace bytes = IsTrue (list_all is_space bytes)
 
--- the bytes are of that form, with white space before and behind
+-- the bytes are of that form, with white space before and after
 abbrev pub IsPadded : (List ℕ → Type 0) → List ℕ → Type 0
 IsPadded form bytes =
     (before inside behind : List ℕ) × (bytes ≡ before ++ (inside ++ behind)) × IsSpace before × form inside × IsSpace behind
 
--- a piece of a text between its quotation marks (section 7): characters that stand for themselves, a backslash
+-- a piece of a text between its quotation marks (section 7): characters that represent themselves, a backslash
 -- and one character, or a backslash, u and four hexadecimal digits
 pub data Piece : Type 0 where
   run : List ℕ → Piece
@@ -34,7 +35,7 @@ is_short b = b == 34 || b == 92 || b == 47 || b == 98 || b == 102 || b == 110 ||
 abbrev pub is_hex : ℕ → Bool
 is_hex b = is_digit b || (nat_le 65 b && nat_le b 70) || (nat_le 97 b && nat_le b 102)
 
--- the piece may stand in a text: what stands for itself is UTF-8 with no quotation mark, backslash or control byte
+-- the piece may be in a text: what represents itself is UTF-8 with no quotation mark, backslash or control byte
 abbrev pub IsPiece : Piece → Type 0
 IsPiece (run bytes) = (0 < length bytes) × IsUtf8 bytes × IsTrue (list_all is_bare bytes)
 IsPiece (short b) = IsTrue (is_short b)
@@ -46,7 +47,7 @@ piece_bytes (run bytes) = bytes
 piece_bytes (short b) = 92 ∷ b ∷ []
 piece_bytes (unit a b c d) = 92 ∷ 117 ∷ a ∷ b ∷ c ∷ d ∷ []
 
--- the character that a short escape stands for: b, f, n, r and t stand for control characters, others for themselves
+-- the character that a short escape represents: b, f, n, r and t represent control characters, others for themselves
 abbrev pub short_value : ℕ → ℕ
 short_value b =
     if b == 98 then 8 else (if b == 102 then 12 else (if b == 110 then 10 else (if b == 114 then 13 else (if b == 116 then 9 else b))))
@@ -59,7 +60,7 @@ hex_value b = if nat_le b 57 then b - 48 else (if nat_le b 70 then b - 55 else b
 abbrev pub unit_value : ℕ → ℕ → ℕ → ℕ → ℕ
 unit_value a b c d = 4096 * hex_value a + 256 * hex_value b + 16 * hex_value c + hex_value d
 
--- U+FFFD, which a surrogate with no partner stands for
+-- U+FFFD, which a surrogate with no partner represents
 abbrev pub replacement : List ℕ
 replacement = 239 ∷ 191 ∷ 189 ∷ []
 
@@ -68,22 +69,22 @@ abbrev pub unpaired : Option ℕ → List ℕ
 unpaired None = []
 unpaired (Some high) = replacement
 
--- a low surrogate, behind a high one that waits or behind none
+-- a low surrogate, after a high one that waits or after none
 abbrev pub low_text : Option ℕ → ℕ → List ℕ
 low_text None low = replacement
 low_text (Some high) low = encode_utf8 (surrogate_pair_char high low)
 
--- the text that a code unit adds, behind a high surrogate that waits or behind none
+-- the text that a code unit adds, after a high surrogate that waits or after none
 abbrev pub unit_text : Option ℕ → ℕ → List ℕ
 unit_text waiting u =
     if is_low_surrogate u then low_text waiting u
     else (if is_high_surrogate u then unpaired waiting else unpaired waiting ++ encode_utf8 u)
 
--- a high surrogate waits for what comes directly behind it
+-- a high surrogate waits for what comes directly after it
 abbrev pub waits : ℕ → Option ℕ
 waits u = if is_high_surrogate u then Some u else None
 
--- the text that the pieces stand for, behind a high surrogate that waits or behind none
+-- the text that the pieces represent, after a high surrogate that waits or after none
 abbrev pub decoded : Option ℕ → List Piece → List ℕ
 decoded waiting [] = unpaired waiting
 decoded waiting (run bytes ∷ ps) = unpaired waiting ++ (bytes ++ decoded None ps)
@@ -99,7 +100,7 @@ pub record IsString (t bytes : List ℕ) : Type 0 where
   pub means : t ≡ decoded None pieces
 
 abbrev mutual
-  -- the bytes are that value (section 3), members of an object with one name as they stand
+  -- the bytes are that value (section 3), members of an object with one name as they are
   pub IsValue : Tree → List ℕ → Type 0
   IsValue null bytes = bytes ≡ codes "null"
   IsValue (boolean b) bytes = bytes ≡ (if b then codes "true" else codes "false")
@@ -108,25 +109,25 @@ abbrev mutual
   IsValue (list ts) bytes = (inside : List ℕ) × (bytes ≡ 91 ∷ (inside ++ 93 ∷ [])) × AreItems ts inside
   IsValue (object ms) bytes = (inside : List ℕ) × (bytes ≡ 123 ∷ (inside ++ 125 ∷ [])) × AreMembers ms inside
 
-  -- what stands between a list's brackets (section 5)
+  -- what is between a list's brackets (section 5)
   pub AreItems : Items → List ℕ → Type 0
   AreItems no_items bytes = IsSpace bytes
   AreItems (item t ts) bytes =
       (first more : List ℕ) × (bytes ≡ first ++ more) × IsPadded (IsValue t) first × AreMoreItems ts more
 
-  -- each further item behind its comma
+  -- each further item after its comma
   pub AreMoreItems : Items → List ℕ → Type 0
   AreMoreItems no_items bytes = bytes ≡ []
   AreMoreItems (item t ts) bytes =
       (first more : List ℕ) × (bytes ≡ 44 ∷ (first ++ more)) × IsPadded (IsValue t) first × AreMoreItems ts more
 
-  -- what stands between an object's braces (section 4): names, colons and values
+  -- what is between an object's braces (section 4): names, colons and values
   pub AreMembers : Members → List ℕ → Type 0
   AreMembers no_members bytes = IsSpace bytes
   AreMembers (member n t ms) bytes =
       (name value more : List ℕ) × (bytes ≡ name ++ 58 ∷ (value ++ more)) × IsPadded (IsString n) name × IsPadded (IsValue t) value × AreMoreMembers ms more
 
-  -- each further member behind its comma
+  -- each further member after its comma
   pub AreMoreMembers : Members → List ℕ → Type 0
   AreMoreMembers no_members bytes = bytes ≡ []
   AreMoreMembers (member n t ms) bytes =

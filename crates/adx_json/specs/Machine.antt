@@ -14,7 +14,7 @@ use Rattle.adx_json.specs.declared.fault.Stop.TheVariants.{Syntax, Utf8, Depth, 
 pub data Frame : Type 0 where
   in_list in_object : Frame
 
--- within a string: between characters or within a character's bytes, behind a backslash, or where so many further
+-- within a string: between characters or within a character's bytes, after a backslash, or where so many further
 -- hexadecimal digits follow the next one
 pub data Within : Type 0 where
   characters : Option Tail → Within
@@ -213,7 +213,7 @@ stop_of limit m fs (b ∷ bytes) =
       | too_deep ↦ Some (Depth (suc (length bytes)))
     ]
 
--- a fault tells where the bytes stop, but for memory
+-- a fault says where the bytes stop, but for memory
 abbrev pub Tells : Stop → Option Stop → Type 0
 Tells (Syntax left) o = o ≡ Some (Syntax left)
 Tells (Utf8 left) o = o ≡ Some (Utf8 left)

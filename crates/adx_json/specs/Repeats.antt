@@ -5,14 +5,14 @@ use Rattle.adx_json.specs.Grammar.{has_name}
 use Rattle.adx_json.specs.View.{member_of, members_view}
 use Rattle.adx_json.specs.declared.tree.Member.{Member}
 
--- the member at the place, those behind it, and whether one of these has its name
+-- the member at the place, those after it, and whether one of these has its name
 pub record ComesAgain (members : List Member) (at : ℕ) (again : Bool) : Type 0 where
   pub member : Member
   pub later : List Member
   pub whole : drop at members ≡ member ∷ later
   pub is : again ≡ has_name (member_of member).0 (members_of (members_view later))
 
--- of each member whether no one behind it has its name
+-- of each member whether no one after it has its name
 abbrev pub stays : List Member → List Bool
 stays [] = []
 stays (m ∷ later) = not (has_name (member_of m).0 (members_of (members_view later))) ∷ stays later

@@ -36,9 +36,9 @@ abbrev pub names_of : Members → List (List ℕ)
 names_of no_members = []
 names_of (member n t ms) = n ∷ names_of ms
 
--- how many lists and objects stand one within the other
+-- how many lists and objects are one within the other
 abbrev mutual
-  -- how many lists and objects stand one within the other
+  -- how many lists and objects are one within the other
   pub levels : Tree → ℕ
   levels null = 0
   levels (boolean b) = 0

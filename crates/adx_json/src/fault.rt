@@ -39,7 +39,7 @@ impl fmt::Display for JsonFault {
 
 impl std::error::Error for JsonFault {}
 
-/// A fault, by how many bytes are left where it stands.
+/// A fault, by how many bytes are left where it is.
 #[derive(Clone, Copy, Debug, PartialEq, Eq)]
 pub(crate) enum Stop {
     Syntax(usize),

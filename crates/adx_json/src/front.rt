@@ -5,7 +5,7 @@ use adx_units::{OutOfMemory, Text};
 use std::alloc::Global;
 use std::str;
 
-/// The bytes behind this first byte. None where they don't begin so.
+/// The bytes after this first byte. None where they don't begin so.
 pub(crate) fn after(bytes: &[u8], first: u8) -> Option<&[u8]>
     ensures { MatchOption result ((rest : List ℕ) → bytes.now ≢ first ∷ rest) (λ rest. bytes.now ≡ first ∷ rest.now) }
 {

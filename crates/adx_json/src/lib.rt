@@ -7,7 +7,7 @@
 //! reader of a tree states its tests as a list of `Check`, and its contract as `Gives`: its answer is the view where
 //! each test holds, and else the fault of the first that fails.
 //!
-//! Stands on `adx_units` and `itoa`.
+//! Uses `adx_units` and `itoa`.
 #![tactic(auto)]
 
 mod fault;

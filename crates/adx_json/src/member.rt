@@ -12,7 +12,7 @@ ghost use Rattle.adx_json.specs.Walks.{members_by, with_member};
 
 use crate::tree::{Json, Member};
 
-/// Finds what stands under each of some names in an object that may be absent, in one walk over its members: of members
+/// Finds what is under each of some names in an object that may be absent, in one walk over its members: of members
 /// with one name the first counts, and null is there. Each name has its place in `found`.
 pub fn find_members<'a>(object: Option<&'a Json>, names: &[&str], found: &mut [Option<&'a Json>])
     requires { length found.old ≡ length names.now }
@@ -97,7 +97,7 @@ pub fn members_in(tree: &Json) -> &[Member]
     }
 }
 
-/// What stands under a name, once a further member was met: the first member of that name counts.
+/// What is under a name, once a further member was met: the first member of that name counts.
 /// One walk over an object's members finds the values of several names, each kept by a call of this.
 pub fn met<'a>(found: Option<&'a Json>, name: &str, member: &'a Member) -> Option<&'a Json>
     ensures { option_map (λ t. tree_of t.now) result ≡ with_member name.now (option_map (λ t. tree_of t.now) found.entry) (member_of member.now) }

@@ -74,7 +74,7 @@ fn scanned(bytes: &[u8]) -> (Numeral, &[u8])
     }
 }
 
-/// The number at the front, and the bytes behind it.
+/// The number at the front, and the bytes after it.
 pub(crate) fn number_at(alloc: Global, bytes: &[u8]) -> Result<(Text, &[u8]), Stop>
     ensures found { IfOk result (λ x. FoundNumber bytes.now x.0 x.1.now) }
     ensures stops { IfErr result (λ e. (fs : List Frame) → Tells e (stop_of 64 (in_number Numeral.Start) fs bytes.now)) }

@@ -20,7 +20,7 @@ use crate::tree::{Json, Member};
 use adx_units::Text;
 use std::alloc::Global;
 
-/// How many lists and objects may stand one within the other.
+/// How many lists and objects may be one within the other.
 const LEVELS: usize = 64;
 
 /// The items and members of the lists and objects whose end is still to come, those of the innermost last. Each takes its
@@ -43,7 +43,7 @@ fn space_len(bytes: &[u8]) -> usize
     bytes.iter().take_while(|byte| is_space(**byte)).count()
 }
 
-/// The bytes behind the white space at the front.
+/// The bytes after the white space at the front.
 fn after_space(bytes: &[u8]) -> &[u8]
     ensures { FoundSpace bytes.now result.now }
 {
@@ -51,7 +51,7 @@ fn after_space(bytes: &[u8]) -> &[u8]
     rest
 }
 
-/// The bytes behind a word's rest.
+/// The bytes after a word's rest.
 fn word_at<'a>(bytes: &'a [u8], word: &[u8]) -> Result<&'a [u8], Stop>
     ensures found { IfOk result (λ rest. bytes.now ≡ word.now ++ rest.now) }
     ensures stops { IfErr result (λ e. StopsWord e bytes.now word.now) }
@@ -69,7 +69,7 @@ fn word_at<'a>(bytes: &'a [u8], word: &[u8]) -> Result<&'a [u8], Stop>
     Ok(left)
 }
 
-/// The value of at most so many levels at the front, and the bytes behind it.
+/// The value of at most so many levels at the front, and the bytes after it.
 #[cycle(json)]
 fn value_at<'a>(
     alloc: Global,
@@ -124,7 +124,7 @@ fn value_at<'a>(
     }
 }
 
-/// The value at the front with the white space around it, and the bytes behind.
+/// The value at the front with the white space around it, and the bytes after.
 #[cycle(json)]
 fn element_at<'a>(
     alloc: Global,
@@ -142,7 +142,7 @@ fn element_at<'a>(
     Ok((value, end))
 }
 
-/// The items behind a list's opening bracket, and the bytes behind its closing one.
+/// The items after a list's opening bracket, and the bytes after its closing one.
 #[cycle(json)]
 fn items_at<'a>(
     alloc: Global,
@@ -174,7 +174,7 @@ fn items_at<'a>(
     }
 }
 
-/// The members behind an object's opening brace as they stand, and the bytes behind its closing one.
+/// The members after an object's opening brace as they are, and the bytes after its closing one.
 #[cycle(json)]
 fn members_at<'a>(
     alloc: Global,
@@ -206,7 +206,7 @@ fn members_at<'a>(
     }
 }
 
-/// A member at the front with the white space around it, and the bytes behind.
+/// A member at the front with the white space around it, and the bytes after.
 #[cycle(json)]
 fn member_at<'a>(
     alloc: Global,
@@ -223,7 +223,7 @@ fn member_at<'a>(
     Ok((Member { name, value }, rest))
 }
 
-/// A member's name with the white space around it, and the bytes behind its colon.
+/// A member's name with the white space around it, and the bytes after its colon.
 fn name_at(alloc: Global, bytes: &[u8]) -> Result<(Text, &[u8]), Stop>
     ensures found { IfOk result (λ x. FoundName bytes.now x.0 x.1.now) }
     ensures stops { IfErr result (λ e. (fs : List Frame) → Tells e (stop_of 64 at_name fs bytes.now)) }
@@ -257,7 +257,7 @@ fn whole(alloc: Global, bytes: &[u8]) -> Result<Json, Stop>
 }
 
 /// The tree of a JSON text (RFC 8259) with at most 64 levels: of members with one name the last stays, in its own
-/// place, and a surrogate escape with no partner stands for U+FFFD.
+/// place, and a surrogate escape with no partner represents U+FFFD.
 pub fn read(alloc: Global, bytes: &[u8]) -> Result<Json, JsonFault>
     ensures found { IfOk result (λ j. IsJson bytes.now (tree_of j)) }
     ensures only { IfOk result (λ j. (t : Tree) → IsJson bytes.now t → t ≡ tree_of j) }

@@ -13,7 +13,7 @@ use adx_units::OutOfMemory;
 use std::alloc::Global;
 use std::collections::BTreeSet;
 
-/// Up to so many members a name is looked up among those behind it.
+/// Up to so many members a name is looked up among those after it.
 const FEW: usize = 16;
 
 /// What the mark of a name is multiplied by at each byte: the prime of FNV-1a for 64 bits.
@@ -32,7 +32,7 @@ pub(crate) fn without_repeats(
     last_of_many(alloc, members)
 }
 
-/// The same by what is told of each member.
+/// The same by what is said of each member.
 fn last_of_many(alloc: Global, members: Vec<Member>) -> Result<Vec<Member>, OutOfMemory>
     ensures { IfOk result (λ ms. members_of (members_view ms.items) ≡ last_of_each (members_of (members_view members.items))) }
 {
@@ -43,7 +43,7 @@ fn last_of_many(alloc: Global, members: Vec<Member>) -> Result<Vec<Member>, OutO
     kept_of(alloc, members, told.as_slice())
 }
 
-/// Of each member whether no one behind it has its name: from the end on, with the set of the names that were met.
+/// Of each member whether no one after it has its name: from the end on, with the set of the names that were met.
 fn which_stay(alloc: Global, members: &[Member]) -> Result<Vec<bool>, OutOfMemory>
     ensures { IfOk result (λ told. told.items ≡ stays members.now) }
 {
@@ -60,7 +60,7 @@ fn which_stay(alloc: Global, members: &[Member]) -> Result<Vec<bool>, OutOfMemor
     Ok(told)
 }
 
-/// A number of a name, by which most names are told apart without a look at their bytes.
+/// A number of a name, by which most names are distinguished without a look at their bytes.
 fn mark_of(name: &[u8]) -> u64
     ensures { result ≡ mark_from 0 name.now }
 {
@@ -79,7 +79,7 @@ fn mark_behind(mark: u64, byte: u8) -> u64
     mark.wrapping_add(byte as u64).wrapping_mul(MARK_FACTOR)
 }
 
-/// Whether a member is told not to stay.
+/// Whether a member is reported not to stay.
 fn has_repeats(told: &[bool]) -> bool
     ensures { result ≡ list_any not told.now }
 {
@@ -107,7 +107,7 @@ fn kept_of(alloc: Global, members: Vec<Member>, told: &[bool]) -> Result<Vec<Mem
     Ok(kept)
 }
 
-/// The first of what is told, and what is told behind it.
+/// The first of what is reported, and what is reported after it.
 fn first_flag(told: &[bool]) -> (bool, &[bool])
     requires { 0 < length told.now }
     ensures { told.now ≡ result.0 ∷ result.1.now }
@@ -137,7 +137,7 @@ fn last_of_few(members: Vec<Member>) -> Vec<Member>
     kept
 }
 
-/// Whether a member's name is that of one behind it.
+/// Whether a member's name is that of one after it.
 fn comes_again(members: &[Member], at: usize) -> bool
     requires { at < length members.now }
     ensures { ComesAgain members.now at result }

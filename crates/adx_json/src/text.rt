@@ -14,7 +14,7 @@ use crate::utf8::broken;
 use adx_units::{OutOfMemory, Text, bare_len, unescaped_len, utf8_text};
 use std::alloc::Global;
 
-/// The text behind its opening quotation mark, and the bytes behind its closing one.
+/// The text after its opening quotation mark, and the bytes after its closing one.
 pub(crate) fn text_at(alloc: Global, bytes: &[u8]) -> Result<(Text, &[u8]), Stop>
     ensures found { IfOk result (λ x. FoundText bytes.now x.0 x.1.now) }
     ensures stops { IfErr result (λ e. (role : Role) (fs : List Frame) → Tells e (stop_of 64 (in_text role (characters None)) fs bytes.now)) }
@@ -27,7 +27,7 @@ pub(crate) fn text_at(alloc: Global, bytes: &[u8]) -> Result<(Text, &[u8]), Stop
     pieces_at(alloc, bytes)
 }
 
-/// The ASCII with no escape at the front, and what stands behind it.
+/// The ASCII with no escape at the front, and what comes after it.
 fn unescaped_run(bytes: &[u8]) -> (&[u8], &[u8])
     ensures whole { bytes.now ≡ result.0.now ++ result.1.now }
     ensures bare { IsTrue (list_all is_bare_byte result.0.now) }
@@ -37,7 +37,7 @@ fn unescaped_run(bytes: &[u8]) -> (&[u8], &[u8])
     bytes.split_at(len)
 }
 
-/// A text piece by piece: runs of bytes that stand for themselves, and escapes between them.
+/// A text piece by piece: runs of bytes that represent themselves, and escapes between them.
 fn pieces_at(alloc: Global, bytes: &[u8]) -> Result<(Text, &[u8]), Stop>
     ensures found { IfOk result (λ x. FoundText bytes.now x.0 x.1.now) }
     ensures stops { IfErr result (λ e. (role : Role) (fs : List Frame) → Tells e (stop_of 64 (in_text role (characters None)) fs bytes.now)) }
@@ -64,7 +64,7 @@ fn pieces_at(alloc: Global, bytes: &[u8]) -> Result<(Text, &[u8]), Stop>
     }
 }
 
-/// What stands for itself at the front, and what stands behind it.
+/// What represents itself at the front, and what comes after it.
 fn bare_run(bytes: &[u8]) -> (&[u8], &[u8])
     ensures whole { bytes.now ≡ result.0.now ++ result.1.now }
     ensures bare { IsTrue (list_all is_bare_byte result.0.now) }
@@ -74,7 +74,7 @@ fn bare_run(bytes: &[u8]) -> (&[u8], &[u8])
     bytes.split_at(len)
 }
 
-/// Puts a run of bytes that stand for themselves at the end, behind a high surrogate that waits or behind none.
+/// Puts a run of bytes that represent themselves at the end, after a high surrogate that waits or after none.
 fn push_run(
     out: &mut String,
     waiting: Option<u16>,
@@ -100,7 +100,7 @@ fn push_run(
     }
 }
 
-/// Puts what a high surrogate with no partner stands for at the end, if one waits.
+/// Puts what a high surrogate with no partner represents at the end, if one waits.
 fn push_unpaired(out: &mut String, waiting: Option<u16>) -> Result<(), OutOfMemory>
     ensures { OnOk result (string_bytes out.new ≡ string_bytes out.old ++ unpaired waiting) }
 {
@@ -122,7 +122,7 @@ fn is_low(unit: u16) -> bool
     0xDC00 <= unit && unit < 0xE000
 }
 
-/// Puts a code unit's text at the end, behind a high surrogate that waits or behind none. Answers a high surrogate that waits
+/// Puts a code unit's text at the end, after a high surrogate that waits or after none. Answers a high surrogate that waits
 /// now.
 fn push_unit(out: &mut String, waiting: Option<u16>, unit: u16) -> Result<Option<u16>, OutOfMemory>
     requires { IfSome waiting (λ h. IsTrue (is_high_surrogate h)) }
@@ -158,7 +158,7 @@ fn push_low(out: &mut String, waiting: Option<u16>, low: u16) -> Result<(), OutO
     Ok(())
 }
 
-/// The code unit of an escape behind its backslash, and the bytes behind it.
+/// The code unit of an escape after its backslash, and the bytes after it.
 fn escape_at(bytes: &[u8]) -> Result<(u16, &[u8]), Stop>
     ensures found { IfOk result (λ x. FoundEscape bytes.now x.0 x.1.now) }
     ensures stops { IfErr result (λ e. (role : Role) (fs : List Frame) → Tells e (stop_of 64 (in_text role escaped) fs bytes.now)) }
@@ -176,7 +176,7 @@ fn escape_at(bytes: &[u8]) -> Result<(u16, &[u8]), Stop>
     Ok((unit, rest))
 }
 
-/// What a backslash and one character stand for. None where no such escape is.
+/// What a backslash and one character represent. None where no such escape is.
 fn short_value(byte: u8) -> Option<u16>
     ensures { MatchOption result (is_short byte ≡ false) (λ u. (is_short byte ≡ true) × (u ≡ short_value_of byte)) }
 {
@@ -202,7 +202,7 @@ fn fault_within(byte: u8, left: usize) -> Stop
     }
 }
 
-/// The code unit of four hexadecimal digits, and the bytes behind them.
+/// The code unit of four hexadecimal digits, and the bytes after them.
 fn unit_at(bytes: &[u8]) -> Result<(u16, &[u8]), Stop>
     ensures found { IfOk result (λ x. FoundUnit bytes.now x.0 x.1.now) }
     ensures stops { IfErr result (λ e. (role : Role) (fs : List Frame) → Tells e (stop_of 64 (in_text role (digits 3)) fs bytes.now)) }
@@ -214,7 +214,7 @@ fn unit_at(bytes: &[u8]) -> Result<(u16, &[u8]), Stop>
     Ok((4096 * a + 256 * b + 16 * c + d, rest))
 }
 
-/// The hexadecimal digit at the front, and the bytes behind it.
+/// The hexadecimal digit at the front, and the bytes after it.
 fn digit_at(bytes: &[u8]) -> Result<(u16, &[u8]), Stop>
     ensures found { IfOk result (λ x. FoundDigit bytes.now x.0 x.1.now) }
     ensures small { IfOk result (λ x. x.0 < 16) }

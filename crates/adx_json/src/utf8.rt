@@ -5,7 +5,7 @@ ghost use Rattle.adx_units.specs.JsonTexts.{is_bare};
 ghost use Rattle.adx_json.specs.Found.{BreaksIn};
 ghost use Rattle.adx_json.specs.Machine.{after_lead as after_lead_of, tail_low, tail_high, tail_next, utf8_step as utf8_step_of};
 
-/// What has to follow of a character: one, two or three continuation bytes, or those behind a first byte that
+/// What has to follow of a character: one, two or three continuation bytes, or those after a first byte that
 /// leaves out a part of them.
 #[derive(Clone, Copy, Debug, PartialEq, Eq)]
 pub(crate) enum Tail {
@@ -71,7 +71,7 @@ impl Tail {
     }
 }
 
-/// What has to follow behind one more byte. None where that byte can't come there.
+/// What has to follow after one more byte. None where that byte can't come there.
 fn utf8_step(tail: Option<Tail>, byte: u8) -> Option<Option<Tail>>
     ensures { result ≡ utf8_step_of tail byte }
 {
@@ -86,7 +86,7 @@ fn utf8_step(tail: Option<Tail>, byte: u8) -> Option<Option<Tail>>
     }
 }
 
-/// Of bytes that stand for themselves and aren't UTF-8, how many are left where they break it. None are left where
+/// Of bytes that represent themselves and aren't UTF-8, how many are left where they break it. None are left where
 /// they only lack a character's end.
 pub(crate) fn broken(run: &[u8]) -> usize
     requires bare { IsTrue (list_all is_bare run.now) }

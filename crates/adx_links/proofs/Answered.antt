@@ -1,4 +1,4 @@
--- What an acceptor tells once a call has answered, from what the call ensures.
+-- What an acceptor reports once a call has answered, from what the call ensures.
 use Rattle.std.proofs.Common.{◌≡◌, ℕ, List, [], ◌∷◌, ◌++◌, if◌then◌else◌, length, map, Bool, true, false, refl, sym, ap, ◌∙◌, subst, Option, Some, None, Result, Ok, Err}
 use Rattle.std.specs.Prelude.{IfSome, nat_lt, option_map}
 use Rattle.std.proofs.lemmas.List.{map-append, length-map}
@@ -6,7 +6,7 @@ use Rattle.adx_io.specs.declared.failed.Failed.{Failed}
 use Rattle.adx_io.specs.Streams.{HasCause, WhereTold}
 use Rattle.adx_links.specs.Pairs.{PairTold, PairsTold, AcceptorTold, GivesOut, GetsBack, acceptor_told, is_over_after, pairs_told}
 
--- an acceptor answered, by what it tells before and now
+-- an acceptor answered, by what it reports before and now
 pub record Accepts (t u : AcceptorTold) (r : Result (Option PairTold) Failed) : Type 0 where
   pub gives : WhereTold t.pairs u.pairs (GivesOut r)
   pub over : u.is_over ≡ is_over_after t.is_over r

@@ -54,7 +54,7 @@ module _ {P : Type 0} where
   out_more (Some t) None x taken e h = absurd e
   out_more (Some t) (Some u) x taken e h = let l = ap (λ (v : PairsTold P). length v.out) e in let m = length-append t.out (x ∷ []) in omega arith
 
-  -- what holds of the pairs told stays, where a call changes none
+  -- what holds of the pairs reported stays, where a call changes none
   pub pairs_stay : (Q : PairsTold P → Type 0) (o o' : Option (PairsTold P)) → WhereTold o o' (λ t u. u ≡ t) → IfSome o Q → IfSome o' Q
   pairs_stay Q None o' e h = subst (λ (q : Option (PairsTold P)). IfSome q Q) (sym e) tt
   pairs_stay Q (Some t) None e h = absurd e
@@ -66,7 +66,7 @@ module _ {P : Type 0} where
   back_stays Q (Some t) None x e h = absurd e
   back_stays Q (Some t) (Some u) x e h = subst (λ (v : PairsTold P). Q v.back) (sym e) h
 
--- two passes that a lobby can't tell apart
+-- two passes that a lobby can't distinguish
 pub record Alike {I F N : Type 0} (p q : PassView I F N) : Type 0 where
   pub turnstile : q.turnstile ≡ p.turnstile
   pub is_first : q.is_first ≡ p.is_first
@@ -217,7 +217,7 @@ module _ {I F N : Type 0} (served : List I → ServedPair N → Type 0) (first :
       none_back None h = tt
       none_back (Some t) h = h.1
 
-  -- the lists told, once a pair was given back
+  -- the lists reported, once a pair was given back
   back_out : (o o' : Option (PairsTold PairTold)) (x : PairTold) (taken : ℕ) → WhereTold o o' (GetsBack x) → IfSome o (λ t. length t.out ≡ taken) → IfSome o' (λ t. length t.out ≡ taken)
   back_out None o' x taken e h = subst (λ (q : Option (PairsTold PairTold)). IfSome q (λ t. length t.out ≡ taken)) (sym e) tt
   back_out (Some t) None x taken e h = absurd e

@@ -34,7 +34,7 @@ asking bytes e = record e { asked = e.asked ++ bytes }
 abbrev pub answering : List ℕ → Exchange → Exchange
 answering bytes e = record e { answered = e.answered ++ bytes }
 
--- A start ends the exchange that went on. One that succeeds begins another; one that fails may stand as an exchange
+-- A start ends the exchange that went on. One that succeeds begins another; one that fails may count as an exchange
 -- in which nothing was asked.
 abbrev pub Begins : List ℕ → ℕ → Result Unit Failed → Exchanges → Exchanges → Type 0
 Begins host port (Ok done) old new = new ≡ record { past = exchanges_in old; now = Some (begun host port) }
@@ -77,12 +77,12 @@ abbrev pub one_nearer : Option ℕ → Option ℕ
 one_nearer None = None
 one_nearer (Some n) = if n == 0 then None else Some (n - 1)
 
--- the course of a link by its plan: the connection that stands, and the starts to come
+-- the course of a link by its plan: the connection that is open, and the starts to come
 pub record Course : Type 0 where
   pub now : Option Connection
   pub plan : Plan
 
--- a start ends the connection that stood, and does what comes next in the plan
+-- a start ends the connection that was open, and does what comes next in the plan
 abbrev pub Connects : Result Unit Failed → Course → Course → Type 0
 Connects (Ok done) old new = new ≡ record { now = Some (connection_of (next_start old.plan)); plan = after_start old.plan }
 Connects (Err e) old new = new ≡ record { now = None; plan = after_start old.plan }
@@ -110,7 +110,7 @@ pub record Takes (out : List ℕ) (result : Result ℕ Failed) (old new : Course
 abbrev pub FailsStart : Course → Type 0
 FailsStart c = IsTrue (next_start c.plan).start_fails
 
--- the next put fails: by the plan, or because no connection stands
+-- the next put fails: by the plan, or because no connection is open
 abbrev pub FailsPut : Option Connection → Type 0
 FailsPut None = ⊤
 FailsPut (Some c) = IsTrue c.put_fails

@@ -39,10 +39,10 @@ module _ {I F N : Type 0} (served : List I → ServedPair N → Type 0) where
     pub each : All (WasServed served p.seen) rows
     -- where memory was wanting for one, it was wanting
     pub short : All (λ (s : ServedPair N). s.wanting ≡ true → wanting ≡ true) rows
-    -- their turns are all that the pass has, one pair's behind another's
+    -- their turns are all that the pass has, one pair's after another's
     pub turns : p.turns ≡ flat_map (λ (s : ServedPair N). s.turns) rows
     pub given_is : length rows ≡ given
-    -- where the acceptor tells its pairs, these are they
+    -- where the acceptor reports its pairs, these are they
     pub out : IfSome acceptor.pairs (λ t. length t.out ≡ taken)
     pub back : IfSome acceptor.pairs (λ t. t.back ≡ map (λ (s : ServedPair N). s.told) rows)
 

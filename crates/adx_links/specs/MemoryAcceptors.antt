@@ -14,7 +14,7 @@ pub record AcceptorState : Type 0 where
   pub faults : ℕ
   pub over : Bool
 
--- what a pair in memory tells
+-- what a pair in memory reports
 abbrev pub pair_told : SourceState × SinkState → PairTold
 pair_told p = record { tape = Some p.0.tape; read_faults = p.0.habits.faults; held = Some p.1.bytes; write_faults = p.1.habits.faults }
 

@@ -3,14 +3,14 @@ use Rattle.std.specs.Prelude.{◌≡◌, ℕ, nat_lt, List, [], ◌∷◌, ◌++
 use Rattle.adx_io.specs.declared.failed.Failed.{Failed}
 use Rattle.adx_io.specs.Streams.{Tape}
 
--- what a pair tells: its source's bytes and its sink's, where they tell them, and their counts of faults
+-- what a pair reports: its source's bytes and its sink's, where they report them, and their counts of faults
 pub record PairTold : Type 0 where
   pub tape : Option Tape
   pub read_faults : ℕ
   pub held : Option (List ℕ)
   pub write_faults : ℕ
 
--- what a pair tells, by what its source and its sink tell
+-- what a pair reports, by what its source and its sink report
 abbrev pub told_of : {I O : Type 0} → (I → Option Tape) → (I → ℕ) → (O → Option (List ℕ)) → (O → ℕ) → I × O → PairTold
 told_of tape read_faults held write_faults p = record {
   tape = tape p.0;
@@ -19,7 +19,7 @@ told_of tape read_faults held write_faults p = record {
   write_faults = write_faults p.1;
 }
 
--- the pair is as new: nothing was taken or put, where it tells so, and nothing failed
+-- the pair is as new: nothing was taken or put, where it says so, and nothing failed
 pub record IsNew (p : PairTold) : Type 0 where
   pub untaken : IfSome p.tape (λ t. t.taken ≡ [])
   pub unread : p.read_faults ≡ 0
@@ -48,13 +48,13 @@ is_over_after over (Ok (Some p)) = over
 is_over_after over (Ok None) = true
 is_over_after over (Err e) = over
 
--- all that an acceptor tells, its pairs by what they tell
+-- all that an acceptor reports, its pairs by what they report
 pub record AcceptorTold : Type 0 where
   pub faults : ℕ
   pub is_over : Bool
   pub pairs : Option (PairsTold PairTold)
 
--- the lists by what their pairs tell
+-- the lists by what their pairs report
 abbrev pub pairs_told : {P : Type 0} → (P → PairTold) → PairsTold P → PairsTold PairTold
 pairs_told told t = record { out = map told t.out; back = map told t.back }
 

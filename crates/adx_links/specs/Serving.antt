@@ -5,13 +5,13 @@ use Rattle.turnstile.specs.declared.noted.Noted.{Noted}
 use Rattle.turnstile.specs.Passes.{PassView}
 use Rattle.adx_links.specs.Pairs.{PairTold}
 
--- a pair that was served: what it tells then, the turns that were made for it, and whether memory was wanting
+-- a pair that was served: what it reports then, the turns that were made for it, and whether memory was refused
 pub record ServedPair (N : Type 0) : Type 0 where
   pub told : PairTold
   pub turns : List (Noted N)
   pub wanting : Bool
 
--- the pair that tells this, served by this pass
+-- the pair that reports this, served by this pass
 abbrev pub served_pair : {I F N : Type 0} → PairTold → PassView I F N → Bool → ServedPair N
 served_pair told p wanting = record { told = told; turns = p.turns; wanting = wanting }
 

@@ -1,4 +1,4 @@
--- The count of an acceptor over sockets, and what its pairs and their sinks tell. This project's own.
+-- The count of an acceptor over sockets, and what its pairs and their sinks report. This project's own.
 use Rattle.std.specs.Prelude.{ℕ, Bool, None}
 use Rattle.adx_io.specs.declared.std_source.StdSource.{StdSource}
 use Rattle.adx_io.specs.Adapters.{sink_faults, source_faults}
@@ -18,6 +18,6 @@ peer_faults s = sink_faults s.sink
 abbrev pub is_closed : {W : Type 0} → PeerSink W → Bool
 is_closed s = s.closed
 
--- a pair over a connection tells no bytes
+-- a pair over a connection reports no bytes
 abbrev pub pair_told : {R W : Type 0} → StdSource R × PeerSink W → PairTold
 pair_told p = record { tape = None; read_faults = source_faults p.0; held = None; write_faults = peer_faults p.1 }

@@ -19,7 +19,7 @@ pub trait Acceptor {
     /// How often the acceptor has failed; it never falls.
     ghost faults: { Self → ℕ };
 
-    /// The pairs given out and given back, where the acceptor tells them.
+    /// The pairs given out and given back, where the acceptor reports them.
     ghost pairs: { Self → Option (PairsTold (Self.In × Self.Out)) };
 
     /// It said that no more connections come.

@@ -16,16 +16,16 @@ pub trait Link {
     /// How often the link has failed; it never falls.
     ghost faults: { Self → ℕ };
 
-    /// What was asked and answered since each start, where the link tells it.
+    /// What was asked and answered since each start, where the link reports it.
     ghost exchanges: { Self → Option Exchanges };
 
-    /// What the connection that stands and the starts to come do, where the link has a plan and tells it.
+    /// What the open connection and the starts to come do, where the link has a plan and reports it.
     ghost course: { Self → Option Course };
 
-    /// The references that the link stands on, which no call exchanges.
+    /// The references that the link uses, which no call exchanges.
     ghost place: { Self → List GName } = { λ _. own_place };
 
-    /// Ends the connection that stands, and calls a host at a port. After a fault no connection stands.
+    /// Ends the connection that is open, and calls a host at a port. After a fault no connection is open.
     fn start(&mut self, host: &str, port: u16) -> Result<(), Failed>
         ensures begins { WhereTold (exchanges self.old) (exchanges self.new) (Begins host.now port result) }
         ensures connects { WhereTold (course self.old) (course self.new) (Connects result) }

@@ -15,7 +15,7 @@ use std::snapshot::Snapshot;
 /// A pair in memory.
 type MemoryPair = (MemorySource, MemorySink);
 
-/// An acceptor that gives out the pairs that it was made with, in their order, and fails by a list. It tells all.
+/// An acceptor that gives out the pairs that it was made with, in their order, and fails by a list. It reports all.
 #[derive(Drop)]
 pub struct MemoryAcceptor {
     all: Snapshot<Vec<MemoryPair>>,

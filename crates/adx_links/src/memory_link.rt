@@ -143,7 +143,7 @@ impl Running {
     }
 }
 
-/// A link in memory that answers by a plan, and keeps what it was asked. It tells all.
+/// A link in memory that answers by a plan, and keeps what it was asked. It reports all.
 #[derive(Debug, Drop)]
 pub struct MemoryLink {
     plan: Vec<Planned>,
@@ -201,7 +201,7 @@ impl MemoryLink {
     }
 
     /// The bytes asked since the start with this number, from 0; None where there was no such start. A
-    /// start that failed for want of memory has no number.
+    /// start that failed for lack of memory has no number.
     pub fn asked(&self, start: u32) -> Option<&[u8]>
         ensures { option_map (λ r. r.now) result ≡ slice_get (map (λ (e : Exchange). e.asked) (exchanges_in (exchanges_of self.now))) start }
     {

@@ -46,7 +46,7 @@ impl<W: Write> PeerSink<W> {
 
 impl<S: Read + Write + OpenStream + Drop> PeerSink<S> {
     /// Shuts the connection down in both directions, and reads out what its peer has sent and nobody took, so that a peer that
-    /// goes on sending isn't kept waiting. What is wanting for that is passed over: the socket is closed once its handles are
+    /// goes on sending isn't kept waiting. A lack of memory for that is passed over: the socket is closed once its handles are
     /// dropped.
     pub fn close(&mut self)
         ensures closed { is_closed self.new ≡ true }

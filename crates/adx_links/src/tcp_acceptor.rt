@@ -11,7 +11,7 @@ use adx_io::{Failed, StdSource};
 use std::io;
 use std::net::{Net, OpenListener, OpenStream};
 
-/// A listener of std's sockets as an acceptor. It tells no pairs, since no contract can know who calls, and it never says
+/// A listener of std's sockets as an acceptor. It reports no pairs, since no contract can know who calls. It never says
 /// that no more connections come.
 #[derive(Drop)]
 pub struct TcpAcceptor<R: Net> {

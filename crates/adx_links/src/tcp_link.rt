@@ -14,7 +14,7 @@ use std::time::Duration;
 /// How long a link waits for a host to take a call, to take bytes or to give some, in milliseconds.
 pub const LONGEST_WAIT: u64 = 1_000;
 
-/// Connections of std's sockets as a link, one at a time. It tells no bytes, since no contract can know
+/// Connections of std's sockets as a link, one at a time. It reports no bytes, since no contract can know
 /// what a host is asked or answers. A host that is silent for `LONGEST_WAIT` is a fault.
 #[derive(Drop)]
 pub struct TcpLink<R: Net> {

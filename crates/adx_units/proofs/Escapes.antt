@@ -18,13 +18,13 @@ empty_of : (bs : List ℕ) → length bs ≡ 0 → bs ≡ []
 empty_of [] e = refl
 empty_of (b ∷ bs) e = absurd (omega arith)
 
--- behind the last run nothing is left
+-- after the last run nothing is left
 pub runs_end : (out put left run behind whole : List ℕ) → put ≡ out ++ run → left ≡ run ++ behind → list_all is_bare run ≡ true → length behind ≡ 0 → out ++ flat_map escape left ≡ whole → put ≡ whole
 runs_end out put left run behind whole e cut bare none kept =
     let spelled = escaped_run left run behind cut bare ∙ ap (λ bs. run ++ flat_map escape bs) (empty_of behind none) ∙ append-nil run in
     e ∙ ap (λ bs. out ++ bs) (sym spelled) ∙ kept
 
--- behind another run a byte is escaped
+-- after another run a byte is escaped
 pub runs_more : (out put next left run behind whole : List ℕ) (b : ℕ) (rest : List ℕ) → put ≡ out ++ run → left ≡ run ++ behind → list_all is_bare run ≡ true → behind ≡ b ∷ rest → next ≡ put ++ escape b → out ++ flat_map escape left ≡ whole
     → next ++ flat_map escape rest ≡ whole
 runs_more out put next left run behind whole b rest e cut bare first escaped kept =
@@ -35,7 +35,7 @@ runs_more out put next left run behind whole b rest e cut bare first escaped kep
     ∙ ap (λ bs. out ++ bs) (sym spelled)
     ∙ kept
 
--- a text may be cut behind a byte that needs an escape
+-- a text may be cut after a byte that needs an escape
 pub behind_escaped : (bs : List ℕ) (b : ℕ) (rest : List ℕ) → IsUtf8 bs → bs ≡ b ∷ rest → Stops is_bare bs → IsCharBoundary bs 1
 behind_escaped bs b rest u e stops =
     let needs : is_bare b ≡ false = subst (Stops is_bare) e stops in

@@ -66,7 +66,7 @@ module _ {A : Type 0} (a : Answering A) where
       took = took_none before.held;
     })
 
-    -- read behind the lines so far
+    -- read after the lines so far
     behind : (x y : Tape) (bytes more left : List ℕ) → x.left ≡ bytes ++ y.left → y.left ≡ more ++ left → x.left ≡ (bytes ++ more) ++ left
     behind x y bytes more left read next = read ∙ ap (λ b. bytes ++ b) next ∙ sym (append_assoc bytes more left)
 
@@ -90,7 +90,7 @@ module _ {A : Type 0} (a : Answering A) where
         abbrev Ends : A → Result Outcome Stop → Type 0
         Ends now result = WhereTold before.tape told (λ x y. Wrote (script a s first before.allowed now) x.left y.left before.held held_now result)
 
-        -- what was put behind what was put before
+        -- what was put after what was put before
         all : (put out : List ℕ) → Took before.held mid.held put → Took read.held held_now out → Took before.held held_now (put ++ out)
         all put out first_took took = took_both before.held mid.held held_now put out first_took (subst (λ h. Took h held_now out) same took)
 

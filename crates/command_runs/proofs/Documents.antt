@@ -56,7 +56,7 @@ module _ (limit : ℕ) (judges : Judging) (held held_now : Option (List ℕ)) wh
       told_unread pending tape now _ none (told_map tape now (ReadsRest limit [] bytes (Err stop)) _ reads (λ x y r.
       stopped stop x.left bytes y.left (r.2 ∙ ap (λ b. b ++ y.left) (sym r.1)) (small bytes within) same))
 
-  -- memory was refused behind the document
+  -- memory was refused after the document
   unjudged : (rest : Rest) (bytes : List ℕ) (old new : Tape) → ReadsRest limit [] bytes (Ok rest) old new → Within limit [] bytes → held_now ≡ held → Wrote (document limit judges) old.left new.left held held_now (Err Stop.OutOfMemory)
   unjudged Rest.Whole bytes old new reads within same = (bytes, [], [], [], [], reads.0.2 ∙ ap (λ b. b ++ new.left) (sym reads.0.1), (refl, inr (refl, omega (arith, small bytes within))), refl, same ∙ took_none held)
   unjudged Rest.PastLimit bytes old new reads within same = (

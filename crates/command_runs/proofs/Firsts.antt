@@ -53,12 +53,12 @@ lacks_end limit NoLine.Cut line left none few ends short = (none, short, few, en
 lacks_end limit NoLine.Long line left none few ends long = inr (inl (none, long, few, ends))
 
 module _ {H : Type 0} (heads : Heads H) (limit : ℕ) where
-  -- a line that was found to tell a head
+  -- a line that was found to have a head
   pub found_led : (line before now : List ℕ) (h : H) → FindsFirst heads limit line before now (Some h) → (length line ≤ line_limit) × heads.tells line h
   found_led line before now h (inl found) = (found.0, found.1.0)
   found_led line before now h (inr found) = absurd (cc found.1)
 
-  -- what was written behind a line that told a head
+  -- what was written after a line that had a head
   module _ (h : H) (rest : ℕ → Meaning) (line : List ℕ) (allowed : ℕ) (input mid left : List ℕ) (held held_now : Option (List ℕ))
       (none : HasNoNewline line) (short : length line ≤ line_limit) (tells : heads.tells line h) (is : input ≡ ended line ++ mid) (counted : limit ≡ length (ended line) + allowed) where
     more : (taken : List ℕ) → mid ≡ taken ++ left → input ≡ (ended line ++ taken) ++ left
@@ -99,7 +99,7 @@ module _ {H : Type 0} (heads : Heads H) (limit : ℕ) where
 
   -- what a talk read
   module _ (before mid : TalkState) (whole : before.allowed ≡ limit) where
-    -- a line, which told a head
+    -- a line, which had a head
     pub told_led : (h : H) (rest : ℕ → Meaning) (tape_now : Option Tape) (held_now : Option (List ℕ)) (result : Result Outcome Stop)
         → WhereTold before.tape mid.tape (ReadsNext line_limit before mid (Ok Next.Line)) → ((line : List ℕ) → Keeps line_limit mid.overlong mid.line line → (length line ≤ line_limit) × heads.tells line h)
         → WhereTold mid.tape tape_now (λ x y. Wrote (rest mid.allowed) x.left y.left before.held held_now result) → WhereTold before.tape tape_now (λ x y. Wrote (led heads limit h rest) x.left y.left before.held held_now result)

@@ -7,10 +7,10 @@ use Rattle.adx_io.specs.Streams.{Took}
 use Rattle.adx_io.specs.declared.stop.Stop.{Stop}
 use Rattle.command_runs.specs.declared.outcome.Outcome.{Outcome}
 
--- What a command means, by what came beside its input. Where its run ends of its own: how, behind which bytes of the
--- input, with which bytes left of it, and which bytes it has written. Where the source fails: behind which bytes, and
--- which bytes it has written. Where the sink fails or memory is refused: behind which bytes, with which left, which bytes
--- stood in the sink before its last step, and which bytes that step was to add.
+-- What a command means, by what came beside its input. Where its run ends of its own: how, after which bytes of the
+-- input, with which bytes left of it, and which bytes it has written. Where the source fails: after which bytes, and
+-- which bytes it has written. Where the sink fails or memory is refused: after which bytes, with which left, which bytes
+-- were in the sink before its last step, and which bytes that step was to add.
 pub record Meaning : Type 1 where
   pub ends : Outcome → List ℕ → List ℕ → List ℕ → Type 0
   pub awaits : List ℕ → List ℕ → Type 0

@@ -20,16 +20,16 @@ pub record HasRunCauses (read read_now write write_now : ℕ) (result : Result O
 -- A command of this meaning ran over a source and a sink, and ended so.
 pub record Runs {S K : Type 0} (s : source.Ghosts S) (k : sink.Ghosts K) (m : Meaning) (old new : S) (sink_old sink_new : K)
     (result : Result Outcome Stop) : Type 0 where
-  -- what it wrote for what it took, where the source tells its bytes
+  -- what it wrote for what it took, where the source reports its bytes
   pub wrote : WhereTold (s.tape old) (s.tape new)
       (λ before now. Wrote m before.left now.left (k.held sink_old) (k.held sink_new) result)
   -- the causes of its end
   pub causes : HasRunCauses (s.faults old) (s.faults new) (k.faults sink_old) (k.faults sink_new) result
-  -- the source and the sink stand on what they stood on
+  -- the source and the sink use what they used before
   pub source_same : s.place new ≡ s.place old
   pub sink_same : k.place sink_new ≡ k.place sink_old
 
--- A command ran so, and its exit status tells how it ended. On its course it left what it stands on so, and wrote what it
+-- A command ran so, and its exit status says how it ended. On its course it left what it uses so, and wrote what it
 -- means on that course.
 pub record RunsAs {S K W C : Type 0} (s : source.Ghosts S) (k : sink.Ghosts K)
     (leaves : W → W → C → Result Outcome Stop → Type 0) (meaning : C → Meaning)

@@ -1,5 +1,5 @@
 -- A command that answers its input line by line. This project's own.
--- Example: three lines, and a sink that fails at the second answer: the answer to the first stands there whole, a
+-- Example: three lines, and a sink that fails at the second answer: the answer to the first is there whole, a
 -- front of the second's, and the third line wasn't answered. Of two lines of which the second passes the limit of
 -- the input, with a sink that fails, the second wasn't answered.
 use Rattle.std.specs.Prelude.{◌≡◌, ◌⊎◌, ℕ, suc, ◌+◌, ◌≤◌, List, [], ◌∷◌, ◌++◌, length, All, Option, Result, Ok, Err}
@@ -14,7 +14,7 @@ use Rattle.command_runs.specs.declared.outcome.Outcome.{Outcome}
 
 -- How lines are answered, by the state of what answers them and the line's number: what a line is answered, and the state
 -- that it leaves; the state that it leaves where memory was refused before its answer was written; how the run ends
--- behind the last line, by a last piece without a newline, which may be empty, and what is written then; and what is
+-- after the last line, by a last piece without a newline, which may be empty, and what is written then; and what is
 -- written where the input passes its limit.
 pub record Answering (A : Type 0) : Type 1 where
   pub answers : A → ℕ → List ℕ → List ℕ → A → Type 0
@@ -23,7 +23,7 @@ pub record Answering (A : Type 0) : Type 1 where
   pub passes : ℕ → List ℕ
 
 module _ {A : Type 0} (a : Answering A) where
-  -- what lines are answered, each in the state that those before it left, and the state behind the last
+  -- what lines are answered, each in the state that those before it left, and the state after the last
   abbrev pub Answers : A → ℕ → List (List ℕ) → List ℕ → A → Type 0
   Answers s number [] out now = (out ≡ []) × (now ≡ s)
   Answers s number (line ∷ lines) out now =
@@ -38,14 +38,14 @@ module _ {A : Type 0} (a : Answering A) where
     pub answered : Answers s first lines out now
     pub numbered : number ≡ first + length lines
 
-  -- behind whole lines a last piece came, and the input ended or passed its limit, so this is written and the run ends so
+  -- after whole lines a last piece came, and the input ended or passed its limit, so this is written and the run ends so
   abbrev pub Closes : ℕ → A → ℕ → List ℕ → List ℕ → Outcome → List ℕ → List ℕ → List ℕ → Type 0
   Closes allowed now number bytes piece outcome taken left last =
       ((left ≡ []) × (taken ≡ bytes ++ piece) × (length taken ≤ allowed) × a.closes now number piece outcome last)
       ⊎ ((more : ℕ) × (taken ≡ (bytes ++ piece) ++ more ∷ []) × (length (bytes ++ piece) ≡ allowed)
       × (outcome ≡ Outcome.Refused) × (last ≡ a.passes number))
 
-  -- What came behind whole lines whose answers all stood in the sink, where the run was cut short: no further line was
+  -- What came after whole lines whose answers were all in the sink, where the run was cut short: no further line was
   -- answered; one further line was, and its answer was being put; one was taken, and memory was refused before its answer
   -- was written; or the end of the output was being put. The lines that were answered are within what may be read.
   abbrev pub CutShort : ℕ → (mid now : A) → ℕ → (bytes taken left last : List ℕ) → Type 0

@@ -12,7 +12,7 @@ use Rattle.command_runs.specs.declared.outcome.Outcome.{Outcome}
 use Rattle.command_runs.specs.Meanings.{Meaning, Wrote}
 
 -- From there on a run of this meaning wrote so, by how it ended: of what was pending and what the source had, that is left
--- in the source now. Nothing is said where the source doesn't tell its bytes.
+-- in the source now. Nothing is said where the source doesn't report its bytes.
 abbrev pub TalkWrote : {S K : Type 0} {s : source.Ghosts S} {k : sink.Ghosts K} → Meaning → (old new : Talk S K s k)
     → Result Outcome Stop → Type 0
 TalkWrote {s = s} {k = k} m old new result =

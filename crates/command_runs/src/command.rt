@@ -46,14 +46,14 @@ pub trait Command {
         ensures same { place_of talk.new ≡ place_of talk.old }
         ensures stays { place self.new ≡ place self.old };
 
-    /// A run may end for want of memory before it begins: then nothing is read, written or changed.
+    /// A run may end for lack of memory before it begins: then nothing is read, written or changed.
     ghost unbegun: { (self : Self) → (c : course) × leaves self self c (Err Stop.OutOfMemory) × ((left : List ℕ) → (meaning c).breaks [] left [] []) };
 }
 
 /// Runs a command from a source to a sink, and reads at most `INPUT_LIMIT` bytes and one more.
 ///
 /// `Ok`: the run came to this end of its own. `Err`: the source or the sink failed, and its count of faults rose, or
-/// memory was refused. What the sink took by then, for the bytes that the source gave, stands in `specs/Meanings`.
+/// memory was refused. What the sink took by then, for the bytes that the source gave, is in `specs/Meanings`.
 pub fn run_command<C: Command, S: Source, K: Sink>(
     alloc: Global,
     command: &mut C,

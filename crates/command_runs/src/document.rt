@@ -131,7 +131,7 @@ impl<J: Judge> Command for Document<'_, J> {
 /// Nothing is put before the whole document was read.
 ///
 /// `Ok`: the run ended as the document was judged. `Err`: the source or the sink failed, and its count of faults rose, or
-/// memory was refused. What the sink took by then stands in `specs/Documents`.
+/// memory was refused. What the sink took by then is in `specs/Documents`.
 pub fn run_document<J: Judge, S: Source, K: Sink>(
     alloc: Global,
     judge: &mut J,

@@ -203,7 +203,7 @@ impl<L: Led> Command for FirstLine<'_, L> {
 /// `Ok(Outcome::Refused)` where the first line is refused or missing: the sink then took the answer that says why, at most
 /// one piece was taken from the source after the line, and the command's own state is as it was. Any other end is the
 /// command's. `Err`: the source or the sink failed, and its count of faults rose, or memory was refused. What the sink
-/// took by then stands in `specs/Firsts`.
+/// took by then is in `specs/Firsts`.
 pub fn run_led<L: Led, S: Source, K: Sink>(
     alloc: Global,
     led: &mut L,

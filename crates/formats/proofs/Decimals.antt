@@ -1,4 +1,4 @@
--- The decimal of a number is the one whole text of digits that stands for it.
+-- The decimal of a number is the one whole text of digits that represents it.
 use Rattle.std.proofs.Common.{◌≡◌, ℕ, suc, ◌+◌, ◌-◌, ◌*◌, ◌/◌, ◌%◌, ◌^◌, ◌<◌, ◌≤◌, ◌&&◌, ◌||◌, not, ◌==◌, nat_le, List, [], ◌∷◌, ◌++◌, length, get_or, take, Bool, true, false, eqb, refl, sym, ap, ap₂, ◌∙◌, arith, inl, inr, pow-suc, mul-le-mul_right}
 use Rattle.std.specs.List.{list_all}
 use Rattle.std.specs.Fmt.{decimal}
@@ -141,7 +141,7 @@ whole_of n ds w =
 pub decimal_is_whole : (n : ℕ) → n < 10 ^ 64 → is_whole (decimal n) ≡ true
 decimal_is_whole n h = whole_of n (decimal n) (decimal_whole n h)
 
--- a whole text that stands for 0 is one digit
+-- a whole text that represents 0 is one digit
 zero_alone : (ds : List ℕ) → list_all is_digit ds ≡ true → begins_with 48 ds ≡ false → 0 < length ds → digits_value ds ≡ 0 → length ds ≡ 1
 zero_alone [] digits first some none = absurd (omega arith)
 zero_alone (d ∷ []) digits first some none = refl
@@ -149,7 +149,7 @@ zero_alone (d ∷ e ∷ ds) digits first some none =
     let large : 10 ≤ digits_value (d ∷ e ∷ ds) = long_value d (e ∷ ds) (first_above d (and_parts (is_digit d) (list_all is_digit (e ∷ ds)) digits).0 first) (omega arith) in
     absurd (omega (arith, large, none))
 
--- one digit that begins with 0 stands for 0
+-- one digit that begins with 0 represents 0
 one_zero : (ds : List ℕ) → length ds ≡ 1 → begins_with 48 ds ≡ true → digits_value ds ≡ 0
 one_zero [] len h = absurd (omega arith)
 one_zero (d ∷ []) len h = let is : d ≡ 48 = eqb-true d 48 h in omega arith

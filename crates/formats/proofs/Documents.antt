@@ -1,4 +1,4 @@
--- Reading a document line by line: what was read is told by its lines, and they tell one thing.
+-- Reading a document line by line: what was read is what its lines say, and they say one thing.
 use Rattle.std.proofs.Common.{◌≡◌, ℕ, ◌+◌, List, [], ◌∷◌, ◌++◌, length, map, Option, Some, None, refl, sym, ap, ◌∙◌, subst, arith, append-nil, append_assoc, length-append}
 use Rattle.std.specs.List.{flat_map}
 use Rattle.std.proofs.lemmas.Option.{none-some, same_Some}
@@ -81,13 +81,13 @@ module _ {Row Told : Type 0} (d : Document Row Told) (sound : IsSound d) where
   read_past bytes [] told n r whole some = absurd (some refl)
   read_past bytes (b ∷ left) told n r whole some = record { lines = r.lines; told = told; byte = b; rest = left; document = r.document; number = r.number; before = r.before; whole = whole }
 
-  -- ---- the rows of what is told
+  -- ---- the rows of what is said
 
   lines_of : (rows : List Row) → document_of d rows ≡ flat_map ended (map d.row.write rows)
   lines_of [] = refl
   lines_of (r ∷ rows) = flat_map-cons (line_of d) r rows ∙ ap (λ (l : List ℕ). line_of d r ++ l) (lines_of rows) ∙ sym (flat_map-cons ended (d.row.write r) (map d.row.write rows))
 
-  -- a row that comes is the last of those that are told
+  -- a row that comes is the last of those that are said
   pub record TellsRows (rows_of : Told → List Row) : Type 0 where
     pub none : rows_of d.start ≡ []
     pub more : (told next : Told) (row : Row) → d.step told row ≡ Some next → rows_of next ≡ rows_of told ++ row ∷ []
@@ -107,7 +107,7 @@ module _ {Row Told : Type 0} (d : Document Row Told) (sound : IsSound d) where
 
   -- ---- whole documents
 
-  -- rows that come one behind the other
+  -- rows that come one after the other
   pub data Runs : Told → List Row → Told → Type 0 where
     no_row : (told : Told) → Runs told [] told
     row_then : (told next last : Told) (row : Row) (rows : List Row) → d.row.Fits row → d.step told row ≡ Some next → Runs next rows last → Runs told (row ∷ rows) last

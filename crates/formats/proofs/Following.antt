@@ -1,4 +1,4 @@
--- A document is cut into lines in one way, so that what its lines tell is determined.
+-- A document is cut into lines in one way, so that what its lines say is determined.
 use Rattle.std.proofs.Common.{◌≡◌, ◌≢◌, ℕ, List, [], ◌∷◌, ◌++◌, ◌⊎◌, inl, inr, refl, sym, ap, ap₂, ◌∙◌, subst, append_assoc, append-nil}
 use Rattle.std.specs.List.{flat_map}
 use Rattle.std.proofs.lemmas.List.Concat.{flat_map-append, flat_map-cons}
@@ -6,7 +6,7 @@ use Rattle.std.proofs.lemmas.List.Elements.{All-head, All-tail}
 use Rattle.formats.specs.Parts.{ended, IsOneLine}
 use Rattle.formats.specs.Following.{Leads, no_line, line_then, FailsAt, IsCut}
 
--- a line that ends and what stands behind it are told apart in one way
+-- a line that ends and what comes after it are distinguished in one way
 pub one_cut : (a b x y : List ℕ) → IsOneLine a → IsOneLine b → a ++ 10 ∷ x ≡ b ++ 10 ∷ y → (a ≡ b) × (x ≡ y)
 one_cut [] [] x y ha hb e = (refl, cc)
 one_cut [] (c ∷ b) x y ha hb e = let same : c ≡ 10 = cc in absurd (All-head (λ n. n ≢ 10) c b hb same)
@@ -17,7 +17,7 @@ one_cut (c ∷ a) (d ∷ b) x y ha hb e =
     let rest = one_cut a b x y (All-tail (λ n. n ≢ 10) c a ha) (All-tail (λ n. n ≢ 10) d b hb) tails in
     (ap₂ (λ (h : ℕ) (t : List ℕ). h ∷ t) heads rest.0, rest.1)
 
--- a line that ends stands in no bytes without a newline
+-- a line that ends is in no bytes without a newline
 pub no_end_in : (piece a y : List ℕ) → IsOneLine piece → piece ≡ a ++ 10 ∷ y → ⊥
 no_end_in [] [] y h e = cc
 no_end_in [] (c ∷ a) y h e = cc
@@ -30,7 +30,7 @@ first_ended line lines rest =
     ∙ append_assoc (ended line) (flat_map ended lines) rest
     ∙ append_assoc line (10 ∷ []) (flat_map ended lines ++ rest)
 
--- what makes the lines of documents tell one thing
+-- what makes the lines of documents say one thing
 pub record IsGrammar {T : Type 0} (Follows : T → List ℕ → T → Type 0) : Type 0 where
   pub one_line : (told next : T) (line : List ℕ) → Follows told line next → IsOneLine line
   pub same : (told next other : T) (line : List ℕ) → Follows told line next → Follows told line other → next ≡ other
@@ -53,7 +53,7 @@ pub leads_more : {T : Type 0} (Follows : T → List ℕ → T → Type 0) (t u v
 leads_more Follows t u v [] line (no_line told) f = line_then t v v line [] f (no_line v)
 leads_more Follows t u v (l ∷ lines) line (line_then t0 n u0 l0 ls0 h a) f = line_then t n v l (lines ++ line ∷ []) h (leads_more Follows n u v lines line a f)
 
--- lines behind lines
+-- lines after lines
 pub leads_join : {T : Type 0} (Follows : T → List ℕ → T → Type 0) (t u v : T) (ls ms : List (List ℕ)) → Leads Follows t ls u → Leads Follows u ms v → Leads Follows t (ls ++ ms) v
 leads_join Follows t u v [] ms (no_line told) b = b
 leads_join Follows t u v (l ∷ ls) ms (line_then t0 n u0 l0 ls0 f a) b = line_then t n v l (ls ++ ms) f (leads_join Follows n u v ls ms a b)
@@ -99,7 +99,7 @@ nothing_left : {T : Type 0} (Follows : T → List ℕ → T → Type 0) (IsWhole
 nothing_left Follows IsWhole end t u [] x w (no_line told) = refl
 nothing_left Follows IsWhole end t u (l ∷ lines) x w (line_then t0 n u0 l0 ls0 f a) = absurd (end.last t n l w f)
 
--- two whole documents at the front of the same bytes tell the same, and the same stands behind them
+-- two whole documents at the front of the same bytes say the same, and the same comes after them
 pub one_document : {T : Type 0} (Follows : T → List ℕ → T → Type 0) (IsWhole : T → Type 0) → IsEnd Follows IsWhole → (start u v : T) (ls ms : List (List ℕ)) (x y : List ℕ) → IsWhole u → IsWhole v → Leads Follows start ls u → Leads Follows start ms v → flat_map ended ls ++ x ≡ flat_map ended ms ++ y → (u ≡ v) × (x ≡ y)
 one_document Follows IsWhole end start u v ls ms x y wu wv a b e =
     elim (apart Follows end.grammar start u v ls ms x y a b e) [
@@ -114,6 +114,6 @@ pushed bytes left line behind lines whole cut =
     let more : flat_map ended (lines ++ line ∷ []) ≡ flat_map ended lines ++ ended line = flat_map-append ended lines (line ∷ []) ∙ ap (λ (t : List ℕ). flat_map ended lines ++ t) (append-nil (ended line)) in
     whole ∙ ap (λ (t : List ℕ). flat_map ended lines ++ t) (cut ∙ sym one) ∙ sym (append_assoc (flat_map ended lines) (ended line) behind) ∙ ap (λ (t : List ℕ). t ++ behind) (sym more)
 
--- the bytes cut behind a line
+-- the bytes cut after a line
 pub cut_there : (bytes left line behind : List ℕ) (lines : List (List ℕ)) → bytes ≡ flat_map ended lines ++ left → left ≡ line ++ 10 ∷ behind → bytes ≡ flat_map ended lines ++ (ended line ++ behind)
 cut_there bytes left line behind lines whole cut = whole ∙ ap (λ (t : List ℕ). flat_map ended lines ++ t) (cut ∙ sym (append_assoc line (10 ∷ []) behind))

@@ -24,7 +24,7 @@ moved {X} f bytes x y r rest e t =
     let second : X × List ℕ = (y, rest) in
     took_pair f bytes y rest (subst (λ (p : X × List ℕ). Took f bytes p.0 p.1) (same_Some first second e) t)
 
--- behind a word
+-- after a word
 module _ {X : Type 0} (word : List ℕ) (f : Format X) where
   pub behind-exact : IsExact f → IsExact (behind word f)
   behind-exact ef = record {
@@ -37,7 +37,7 @@ module _ {X : Type 0} (word : List ℕ) (f : Format X) where
         ∙ ap (λ (o : Option (List ℕ)). o >>= f.reads) (word_again word (f.write x ++ rest)) ∙ ef.again x rest fits ends;
   }
 
--- a byte behind a part
+-- a byte after a part
 module _ {X : Type 0} (b : ℕ) (f : Format X) where
   pub ended_by-exact : IsExact f → ((rest : List ℕ) → f.Ends (b ∷ rest)) → IsExact (ended_by b f)
   ended_by-exact ef ends_there = record {
@@ -62,7 +62,7 @@ nothing-exact = record {
   again = λ x rest fits ends. ap (λ (y : Unit {0}). Some (y, rest)) (same_nothing tt x);
 }
 
--- two parts; what the second writes may stand behind the first
+-- two parts; what the second writes may come after the first
 abbrev pub Meets : {X Y : Type 0} → Format X → Format Y → Type 0
 Meets f g = (y : _) (rest : List ℕ) → g.Fits y → g.Ends rest → f.Ends (g.write y ++ rest)
 
@@ -83,11 +83,11 @@ module _ {X Y : Type 0} (f : Format X) (g : Format Y) where
         ∙ rw (ef.again p.0 (g.write p.1 ++ rest) fits.0 (meets p.1 rest fits.1 ends), eg.again p.1 rest fits.1 ends) refl;
   }
 
--- where anything may stand behind the first
+-- where anything may come after the first
 pub free_then : {X Y : Type 0} {f : Format X} {g : Format Y} → IsExact f → IsFree f → IsExact g → IsExact (f ⊗ g)
 free_then {X} {Y} {f} {g} ef free eg = pair-exact f g ef eg (λ y rest fits ends. free (g.write y ++ rest))
 
--- ---- what was put behind what was there
+-- ---- what was put after what was there
 
 pub adds_both : {X Y : Type 0} {f : Format X} {g : Format Y} {a b c : List ℕ} {x : X} {y : Y} → Adds f a b x → Adds g b c y → Adds (f ⊗ g) a c (x, y)
 adds_both {X} {Y} {f} {g} {a} {b} {c} {x} {y} p q = record {
@@ -113,7 +113,7 @@ module _ {X Y : Type 0} (make : X → Y) (parts : Y → X) (f : Format X) where
         ap (λ (o : Option (X × List ℕ)). o >>= λ x. Some (make x.0, x.1)) (ef.again (parts y) rest fits ends) ∙ ap (λ (z : Y). Some (z, rest)) (back y);
   }
 
--- a test that tells a fact
+-- a test that shows a fact
 pub record Tells {X : Type 0} (P : X → Type 0) (test : X → Bool) : Type 0 where
   pub if_true : (x : X) → test x ≡ true → P x
   pub if_holds : (x : X) → P x → test x ≡ true
@@ -199,7 +199,7 @@ module _ {X : Type 0} (tag : ℕ) (f : Format X) where
   pub last_kind-others : (other : ℕ) → eqb tag other ≡ false → IsKind other (last_kind tag f)
   last_kind-others other ne x fits = (tag, f.write x, refl, ne)
 
--- spellings that don't begin with a word, whatever stands behind them
+-- spellings that don't begin with a word, whatever comes after them
 abbrev pub HasNoWord : {X : Type 0} → List ℕ → Format X → Type 0
 HasNoWord word g = (y : _) (rest : List ℕ) → g.Fits y → behind_word word (g.write y ++ rest) ≡ None
 

@@ -1,4 +1,4 @@
--- Bytes and parts behind their number.
+-- Bytes and parts after their number.
 use Rattle.std.proofs.Common.{◌≡◌, ℕ, zero, suc, ◌≤◌, Bool, true, false, cond, ltb, List, [], ◌∷◌, ◌++◌, length, get_or, take, drop, Option, Some, None, All, refl, sym, ap, ◌∙◌, subst, append_assoc, append-nil, arith, ◌<◌, ◌-◌, ◌+◌}
 use Rattle.std.specs.List.{flat_map}
 use Rattle.std.proofs.lemmas.Bool.{ltb-false, le-ltb}
@@ -88,7 +88,7 @@ module _ {X : Type 0} (part : Format X) where
         ∙ many_again ep pfree xs rest fits.1;
   }
 
--- ---- parts read and written one behind the other, as a loop does
+-- ---- parts read and written one after the other, as a loop does
 
 -- what was read before, and what is still read
 abbrev pub with_front : {X : Type 0} → List X → Option (List X × List ℕ) → Option (List X × List ℕ)
@@ -122,7 +122,7 @@ module _ {X : Type 0} (part : Reads X) where
       let one : with_front front (many_reads part (count - i) bytes) ≡ Some (front, bytes) = rw k (ap (λ (xs : List X). Some (xs, bytes)) (append-nil front)) in
       sym so_far ∙ one
 
--- so many parts put behind their number
+-- so many parts put after their number
 pub record AddsFirst {X : Type 0} (part : Format X) (old new : List ℕ) (xs : List X) (i : ℕ) : Type 0 where
   pub added : new ≡ old ++ flat_map part.write (take i xs)
   pub fits : All part.Fits (take i xs)

@@ -126,7 +126,7 @@ spelt_fewer n rest bytes large s = by_left s.left s.few s.small
     by_left zero few small = absurd (omega arith)
     by_left (suc left) few small = omega arith
 
--- the same behind bytes that were there before
+-- the same after bytes that were there before
 pub record IsSpeltBehind (start : List ℕ) (n : ℕ) (bytes : List ℕ) (rest : ℕ) : Type 0 where
   pub groups : List ℕ
   pub behind : bytes ≡ start ++ groups

@@ -1,4 +1,4 @@
--- Documents of lines: each line has a row, and a row adds to what the rows before it told. This project's own.
+-- Documents of lines: each line has a row, and a row adds to what the rows before it said. This project's own.
 use Rattle.std.specs.Prelude.{◌≡◌, ℕ, ◌+◌, ◌≤◌, List, ◌∷◌, ◌++◌, length, Option, Some}
 use Rattle.std.specs.List.{flat_map}
 use Rattle.formats.specs.Parts.{◌>>=◌, ended}
@@ -9,9 +9,9 @@ use Rattle.formats.specs.Formats.{Format, whole_reads}
 pub record Document (Row Told : Type 0) : Type 1 where
   -- a line
   pub row : Format Row
-  -- what is told before the first line
+  -- what is said before the first line
   pub start : Told
-  -- what a row adds to what was told; None where it may not come there
+  -- what a row adds to what was said; None where it may not come there
   pub step : Told → Row → Option Told
   -- the last line was there
   pub IsWhole : Told → Type 0
@@ -20,6 +20,7 @@ pub record Document (Row Told : Type 0) : Type 1 where
 abbrev pub line_of : {Row Told : Type 0} → Document Row Told → Row → List ℕ
 line_of d row = ended (d.row.write row)
 
+-- the lines of all rows, one after the other
 abbrev pub document_of : {Row Told : Type 0} → Document Row Told → List Row → List ℕ
 document_of d rows = flat_map (line_of d) rows
 
@@ -30,6 +31,7 @@ pub record Follows {Row Told : Type 0} (d : Document Row Told) (told : Told) (li
   pub spelled : line ≡ d.row.write row
   pub comes : d.step told row ≡ Some next
 
+-- no row has this line, or the row that has it may not come here
 abbrev pub DoesNotFollow : {Row Told : Type 0} → Document Row Told → Told → List ℕ → Type 0
 DoesNotFollow d told line = (next : _) → Follows d told line next → ⊥
 
@@ -41,7 +43,7 @@ HasFault d bytes n = FailsAt (Follows d) d.start d.IsWhole (DoesNotFollow d) byt
 abbrev pub HasEnd : {Row Told : Type 0} → Document Row Told → List ℕ → Type 0
 HasEnd d bytes = IsCut (Follows d) d.start d.IsWhole bytes
 
--- a byte stands behind the last line, whose number is one less
+-- a byte comes after the last line, whose number is one less
 pub record HasMore {Row Told : Type 0} (d : Document Row Told) (bytes : List ℕ) (n : ℕ) : Type 0 where
   pub lines : List (List ℕ)
   pub told : Told

@@ -3,7 +3,7 @@ use Rattle.std.specs.Prelude.{◌≡◌, ℕ, ◌+◌, List, [], ◌∷◌, ◌+
 use Rattle.std.specs.List.{flat_map}
 use Rattle.formats.specs.Parts.{ended, IsOneLine}
 
--- lines that follow one another, each with what it makes of all that the lines before it told
+-- lines that follow one another, each with what it makes of all that the lines before it said
 pub data Leads {T : Type 0} (Follows : T → List ℕ → T → Type 0) : T → List (List ℕ) → T → Type 0 where
   no_line : (told : T) → Leads Follows told [] told
   line_then : (told next last : T) (line : List ℕ) (lines : List (List ℕ)) → Follows told line next
@@ -23,7 +23,7 @@ pub record FailsAt {T : Type 0} (Follows : T → List ℕ → T → Type 0) (sta
   pub open_ended : IsWhole told → ⊥
   pub fails : Fails told line
 
--- the lines follow one another and aren't a whole document, and what stands behind them has no newline
+-- the lines follow one another and aren't a whole document, and what comes after them has no newline
 pub record IsCut {T : Type 0} (Follows : T → List ℕ → T → Type 0) (start : T) (IsWhole : T → Type 0) (bytes : List ℕ) : Type 0 where
   pub lines : List (List ℕ)
   pub told : T

@@ -5,7 +5,7 @@ use Rattle.std.proofs.Common.{inl, inr}
 use Rattle.std.specs.List.{flat_map}
 use Rattle.formats.specs.Parts.{◌>>=◌, behind_word, behind_byte, none_left}
 
--- what is read at the front of bytes: the value, and the bytes behind it
+-- what is read at the front of bytes: the value, and the bytes after it
 abbrev pub Reads : Type 0 → Type 0
 Reads X = List ℕ → Option (X × List ℕ)
 
@@ -16,9 +16,9 @@ pub record Format (X : Type 0) : Type 1 where
   pub Fits : X → Type 0
   -- their spelling
   pub write : X → List ℕ
-  -- a spelling at the front, and what is behind it
+  -- a spelling at the front, and what is after it
   pub reads : Reads X
-  -- what may stand behind a spelling, so that it's seen where it ends
+  -- what may come after a spelling, so that it's seen where it ends
   pub Ends : List ℕ → Type 0
 
 -- What is read is spelled so, and nothing else is; what is spelled so is read, whatever may follow.
@@ -26,18 +26,18 @@ pub record IsExact {X : Type 0} (f : Format X) : Type 0 where
   pub takes : (bytes : List ℕ) (x : X) (rest : List ℕ) → f.reads bytes ≡ Some (x, rest) → (bytes ≡ f.write x ++ rest) × f.Fits x
   pub again : (x : X) (rest : List ℕ) → f.Fits x → f.Ends rest → f.reads (f.write x ++ rest) ≡ Some (x, rest)
 
--- a value's spelling put behind what was there
+-- a value's spelling put after what was there
 pub record Adds {X : Type 0} (f : Format X) (old new : List ℕ) (x : X) : Type 0 where
   pub added : new ≡ old ++ f.write x
   pub fits : f.Fits x
 
--- anything may stand behind it
+-- anything may come after it
 abbrev pub IsFree : {X : Type 0} → Format X → Type 0
 IsFree f = (rest : List ℕ) → f.Ends rest
 
 -- ---- one part out of others
 
--- a part behind a word
+-- a part after a word
 abbrev pub behind : {X : Type 0} → List ℕ → Format X → Format X
 behind word f = record {
   Fits = f.Fits;
@@ -46,7 +46,7 @@ behind word f = record {
   Ends = f.Ends;
 }
 
--- a part and a byte behind it
+-- a part and a byte after it
 abbrev pub ended_by : {X : Type 0} → ℕ → Format X → Format X
 ended_by b f = record {
   Fits = f.Fits;
@@ -59,7 +59,7 @@ ended_by b f = record {
 abbrev pub nothing : Format (Unit {0})
 nothing = record { Fits = λ x. Unit {0}; write = λ x. []; reads = λ bytes. Some (tt, bytes); Ends = λ rest. Unit {0} }
 
--- two parts, one behind the other
+-- two parts, one after the other
 infixr 5 ◌⊗◌
 -- one format after the other
 abbrev pub ◌⊗◌ : {X Y : Type 0} → Format X → Format Y → Format (X × Y)
@@ -108,11 +108,13 @@ on_left o = o >>= λ x. Some (inl x.0, x.1)
 abbrev pub on_right : {X Y : Type 0} → Option (Y × List ℕ) → Option ((X ⊎ Y) × List ℕ)
 on_right o = o >>= λ y. Some (inr y.0, y.1)
 
--- a byte that tells the kind of what is behind it, or one of other kinds
+-- a byte that says the kind of what is after it, or one of other kinds
 abbrev pub kind_reads : {X Y : Type 0} → ℕ → Reads X → Reads Y → Reads (X ⊎ Y)
 kind_reads tag f g [] = None
 kind_reads tag f g (b ∷ bytes) = if b == tag then on_left (f bytes) else on_right (g (b ∷ bytes))
 
+-- a byte `tag` and then a value of the first format, or a value of the second, which begins with another byte
+-- Example: with tag 1, `1 7` is a value of the first format spelled `7`, and `2 7` is one of the second.
 abbrev pub kind : {X Y : Type 0} → ℕ → Format X → Format Y → Format (X ⊎ Y)
 kind tag f g = record {
   Fits = either_fits f.Fits g.Fits;
@@ -135,11 +137,13 @@ last_kind tag f = record {
   Ends = f.Ends;
 }
 
--- a word that tells what is behind it, or one of other parts
+-- a word that says what is after it, or one of other parts
 abbrev pub word_reads : {X Y : Type 0} → Option (List ℕ) → Reads X → Option (Y × List ℕ) → Option ((X ⊎ Y) × List ℕ)
 word_reads (Some rest) f others = on_left (f rest)
 word_reads None f others = on_right others
 
+-- a word and then a value of the first format, or a value of the second, whose spelling doesn't begin with that word
+-- Example: with the word `win `, `win 3` is the first format's `3`, and `bill 3` is the second format's.
 abbrev pub worded : {X Y : Type 0} → List ℕ → Format X → Format Y → Format (X ⊎ Y)
 worded word f g = record {
   Fits = either_fits f.Fits g.Fits;
@@ -158,7 +162,7 @@ bytes_reads n bytes = if nat_lt (length bytes) n then None else Some (take n byt
 abbrev pub bytes_of : ℕ → Format (List ℕ)
 bytes_of n = record { Fits = λ l. length l ≡ n; write = λ l. l; reads = bytes_reads n; Ends = λ rest. Unit {0} }
 
--- bytes behind their number
+-- bytes after their number
 abbrev pub sized : Format ℕ → Format (List ℕ)
 sized count = record {
   Fits = λ l. count.Fits (length l);
@@ -167,7 +171,7 @@ sized count = record {
   Ends = λ rest. Unit {0};
 }
 
--- so many parts, one behind the other
+-- so many parts, one after the other
 unfoldable pub many_reads : {X : Type 0} → Reads X → ℕ → Reads (List X)
 many_reads part zero bytes = Some ([], bytes)
 many_reads part (suc n) bytes = do
@@ -175,7 +179,7 @@ many_reads part (suc n) bytes = do
   others ← many_reads part n first.1
   Some (first.0 ∷ others.0, others.1)
 
--- parts behind their number
+-- parts after their number
 abbrev pub counted : {X : Type 0} → Format ℕ → Format X → Format (List X)
 counted count part = record {
   Fits = λ xs. count.Fits (length xs) × All part.Fits xs;

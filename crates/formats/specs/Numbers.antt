@@ -17,7 +17,6 @@ byte_reads [] = None
 byte_reads (b ∷ rest) = if is_byte b then Some (b, rest) else None
 
 -- one byte
--- Example: 300 is the bytes 172 and 2.
 abbrev pub byte : Format ℕ
 byte = record { Fits = λ n. n < 256; write = λ n. n ∷ []; reads = byte_reads; Ends = λ rest. Unit {0} }
 
@@ -36,14 +35,18 @@ abbrev pub whole : ℕ → Format ℕ
 whole limit = record { Fits = λ n. n < limit; write = decimal; reads = number_at limit; Ends = Stops is_digit }
 
 -- at most so many groups of 7 bits, least first, each byte but the last with its top bit set
+-- Example: 300 is the bytes 172 and 2.
 unfoldable pub groups_bytes : ℕ → ℕ → List ℕ
 groups_bytes zero n = []
 groups_bytes (suc groups) n = if nat_lt n 128 then n ∷ [] else (128 + n % 128) ∷ groups_bytes groups (n / 128)
 
--- a group, and what the groups behind it stand for, which isn't 0
+-- a group, and what the groups after it represent, which isn't 0
 abbrev pub with_group : ℕ → ℕ × List ℕ → Option (ℕ × List ℕ)
 with_group b high = if high.0 == 0 then None else Some ((b - 128) + 128 * high.0, high.1)
 
+-- The number that the first bytes spell in at most so many groups of 7 bits, and the bytes after it. None if the last
+-- group that is allowed has its top bit set, if the bytes end early, or if a group of zeros ends a number of several.
+-- Example: 172, 2, 9 is 300, and 9 is left.
 unfoldable pub groups_reads : ℕ → Reads ℕ
 groups_reads zero bytes = None
 groups_reads (suc groups) [] = None
@@ -55,6 +58,7 @@ groups_reads (suc groups) (b ∷ bytes) =
 abbrev pub below : ℕ → ℕ × List ℕ → Option (ℕ × List ℕ)
 below limit x = if nat_lt x.0 limit then Some x else None
 
+-- the number that the first bytes spell in so many groups, if it is below the limit
 abbrev pub groups_below : ℕ → ℕ → Reads ℕ
 groups_below most limit bytes = groups_reads most bytes >>= below limit
 

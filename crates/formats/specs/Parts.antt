@@ -1,5 +1,5 @@
--- A part of a line as it is read from the front of bytes: the part and the bytes behind it, or None where
--- none stands there. And how a part is spelled. This project's own.
+-- A part of a line as it is read from the front of bytes: the part and the bytes after it, or None where
+-- none is there. And how a part is spelled. This project's own.
 use Rattle.std.specs.Prelude.{◌≡◌, ◌≢◌, ℕ, List, [], ◌∷◌, ◌++◌, length, take, drop, Option, Some, None, option_and_then, ◌&&◌, nat_lt, ◌==◌, if◌then◌else◌, Bool, false}
 use Rattle.std.specs.List.{prefix_len, All}
 use Rattle.std.specs.Str.{bytes_eq}
@@ -13,7 +13,7 @@ ended line = line ++ 10 ∷ []
 abbrev pub IsOneLine : List ℕ → Type 0
 IsOneLine line = All (λ b. b ≢ 10) line
 
--- a part behind a space
+-- a part after a space
 abbrev pub part : List ℕ → List ℕ
 part bytes = 32 ∷ bytes
 
@@ -23,11 +23,11 @@ infixl 10 ◌>>=◌
 abbrev pub ◌>>=◌ : {A B : Type 0} → Option A → (A → Option B) → Option B
 o >>= f = option_and_then f o
 
--- the bytes behind a word
+-- the bytes after a word
 unfoldable pub behind_word : List ℕ → List ℕ → Option (List ℕ)
 behind_word word bytes = if bytes_eq (take (length word) bytes) word then Some (drop (length word) bytes) else None
 
--- the bytes behind one byte
+-- the bytes after one byte
 abbrev pub behind_byte : ℕ → List ℕ → Option (List ℕ)
 behind_byte byte [] = None
 behind_byte byte (b ∷ bs) = if b == byte then Some bs else None

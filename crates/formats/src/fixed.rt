@@ -1,4 +1,4 @@
-//! Numbers of a width at the front of bytes, each with the bytes behind it.
+//! Numbers of a width at the front of bytes, each with the bytes after it.
 ghost use Rattle.std.specs.Prelude.{◌≡◌, ◌^◌};
 ghost use Rattle.std.specs.Int.{w16, w32, w64};
 ghost use Rattle.formats.specs.Parts.{Finds};

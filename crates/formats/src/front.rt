@@ -1,8 +1,8 @@
-//! What stands at the front of bytes.
+//! What is at the front of bytes.
 ghost use Rattle.std.specs.Prelude.{◌≡◌};
 ghost use Rattle.formats.specs.Parts.{Finds, behind_word, behind_byte, none_left};
 
-/// The bytes behind this word. None where they don't begin with it.
+/// The bytes after this word. None where they don't begin with it.
 #[tactic(auto, unfolding(crate::specs::Parts::behind_word))]
 pub fn behind<'a>(bytes: &'a [u8], word: &[u8]) -> Option<&'a [u8]>
     ensures { Finds (λ rest. rest.now) result (behind_word word.now bytes.now) }
@@ -10,7 +10,7 @@ pub fn behind<'a>(bytes: &'a [u8], word: &[u8]) -> Option<&'a [u8]>
     bytes.strip_prefix(word)
 }
 
-/// The bytes behind this byte. None where they don't begin with it.
+/// The bytes after this byte. None where they don't begin with it.
 pub fn byte_behind(bytes: &[u8], byte: u8) -> Option<&[u8]>
     ensures { Finds (λ rest. rest.now) result (behind_byte byte bytes.now) }
 {

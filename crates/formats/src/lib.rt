@@ -7,7 +7,7 @@
 //! The form of a day's text: a year of four digits, a month of two, a day of two, with dashes between them. Whether the
 //! calendar has the day isn't asked here.
 //!
-//! Stands on `adx_units`, `arrayvec`, `itoa` and `memchr`.
+//! Uses `adx_units`, `arrayvec`, `itoa` and `memchr`.
 #![tactic(auto)]
 
 mod fixed;

@@ -4,7 +4,7 @@ ghost use Rattle.formats.specs.Parts.{IsOneLine};
 
 use memchr::memchr;
 
-/// The first line, without its newline, and the bytes behind it. None where there is no newline.
+/// The first line, without its newline, and the bytes after it. None where there is no newline.
 pub fn first_line(bytes: &[u8]) -> Option<(&[u8], &[u8])>
     ensures { MatchOption result (IsOneLine bytes.now) (λ cut. (bytes.now ≡ cut.0.now ++ 10 ∷ cut.1.now) × IsOneLine cut.0.now) }
 {

@@ -4,8 +4,8 @@ ghost use Rattle.std.specs.List.{list_all, prefix_len};
 ghost use Rattle.adx_units.specs.Number.{is_digit as is_digit_of, is_whole as is_whole_of, digits_value};
 ghost use Rattle.formats.specs.Parts.{Finds, front_digits, number_at};
 
-/// The whole number of all the digits at the front, and the bytes behind it. None where no digit
-/// stands there, where a zero leads others, or where the number is 2^64 or more.
+/// The whole number of all the digits at the front, and the bytes after it. None where no digit is
+/// there, where a zero leads others, or where the number is 2^64 or more.
 #[tactic(auto, unfolding(crate::specs::Parts::number_at))]
 pub fn number(bytes: &[u8]) -> Option<(u64, &[u8])>
     ensures { Finds (λ found. (found.0, found.1.now)) result (number_at (2 ^ 64) bytes.now) }
@@ -41,7 +41,7 @@ fn digits_len(bytes: &[u8]) -> usize
     bytes.iter().take_while(|byte| is_digit(**byte)).count()
 }
 
-/// All the digits at the front, and the bytes behind them.
+/// All the digits at the front, and the bytes after them.
 fn digits_front(bytes: &[u8]) -> (&[u8], &[u8])
     ensures front { result.0.now ≡ front_digits bytes.now }
     ensures back { result.1.now ≡ drop (prefix_len is_digit_of bytes.now) bytes.now }
@@ -68,7 +68,7 @@ fn is_whole(digits: &[u8]) -> bool
     }
 }
 
-/// The number that a digit behind those of another gives. None where it is 2^64 or more.
+/// The number that a digit after those of another gives. None where it is 2^64 or more.
 fn with_digit(value: u64, byte: u8) -> Option<u64>
     ensures { SomeIff result (10 * value + (byte - 48) < 2 ^ 64) (10 * value + (byte - 48)) }
 {
@@ -78,7 +78,7 @@ fn with_digit(value: u64, byte: u8) -> Option<u64>
     }
 }
 
-/// The number that digits stand for. None where it is 2^64 or more.
+/// The number that digits represent. None where it is 2^64 or more.
 #[tactic(auto, using(crate::proofs::Digits::value_more))]
 fn value_of(digits: &[u8]) -> Option<u64>
     ensures { MatchOption result (2 ^ 64 ≤ digits_value digits.now) (λ n. n ≡ digits_value digits.now) }
@@ -93,7 +93,7 @@ fn value_of(digits: &[u8]) -> Option<u64>
     Some(value)
 }
 
-/// The number that a digit behind those of another gives. None where it is 2^128 or more.
+/// The number that a digit after those of another gives. None where it is 2^128 or more.
 fn with_wide_digit(value: u128, byte: u8) -> Option<u128>
     ensures { SomeIff result (10 * value + (byte - 48) < 2 ^ 128) (10 * value + (byte - 48)) }
 {
@@ -103,7 +103,7 @@ fn with_wide_digit(value: u128, byte: u8) -> Option<u128>
     }
 }
 
-/// The number that digits stand for. None where it is 2^128 or more.
+/// The number that digits represent. None where it is 2^128 or more.
 #[tactic(auto, using(crate::proofs::Digits::value_more))]
 fn wide_value_of(digits: &[u8]) -> Option<u128>
     ensures { MatchOption result (2 ^ 128 ≤ digits_value digits.now) (λ n. n ≡ digits_value digits.now) }

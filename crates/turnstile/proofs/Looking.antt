@@ -32,7 +32,7 @@ module _ {I F N : Type 0} where
   ticket_of_pass : (u : SeatView I F N) → IsPlain u → has_ticket u.stage ≤ is_pass u.role
   ticket_of_pass u plain = ⊎_elim (λ (z : is_pass u.role ≡ 0). let e = ap has_ticket (plain z).0 in omega arith) (λ (z : is_pass u.role ≡ 1). let e = one_ticket u.stage in omega arith) (pass_or_not u.role)
 
-  -- fewer tickets are out than a word can tell apart
+  -- fewer tickets are out than a word can distinguish
   pub few_tickets : (served drawn first out : ℕ) (owner : ℕ → ℕ) (vs : List (SeatView I F N)) → Tickets served drawn owner vs → Passes first out vs → drawn < served + 2 ^ 64
   few_tickets served drawn first out owner vs t p =
       let le = total_le (λ (u : SeatView I F N). has_ticket u.stage) (λ (u : SeatView I F N). is_pass u.role) vs (λ j u a. ticket_of_pass u (p.each j u a).0) in

@@ -7,11 +7,12 @@ abbrev pub total : {A : Type 0} → (A → ℕ) → List A → ℕ
 total f [] = 0
 total f (x ∷ xs) = f x + total f xs
 
+-- 1 for yes, 0 for no
 abbrev pub one_where : Bool → ℕ
 one_where true = 1
 one_where false = 0
 
--- how often the place p stands in the list
+-- how often the place p is in the list
 abbrev pub times : ℕ → List ℕ → ℕ
 times p ps = total (λ q. one_where (eqb q p)) ps
 
@@ -19,11 +20,11 @@ times p ps = total (λ q. one_where (eqb q p)) ps
 abbrev pub within : ℕ → ℕ → ℕ → ℕ
 within a b p = one_where (leb a p && ltb p b)
 
--- no place stands in the list twice
+-- no place is in the list twice
 abbrev pub AreDifferent : List ℕ → Type 0
 AreDifferent ps = (p : ℕ) → times p ps ≤ 1
 
--- the places from a on and below b stand in the list, each once, and no other
+-- the places from a on and below b are in the list, each once, and no other
 abbrev pub AreAllOnce : ℕ → ℕ → List ℕ → Type 0
 AreAllOnce a b ps = (p : ℕ) → times p ps ≡ within a b p
 

@@ -16,7 +16,7 @@ use std::snapshot::Snapshot;
 use std::sync::Wait;
 
 impl<T: Counted + Drop> Turnstile<T> {
-    /// A turnstile for this value, with the first pass. The value is given up where memory is wanting.
+    /// A turnstile for this value, with the first pass. The value is given up if memory is refused.
     pub fn new(alloc: Global, value: T) -> Result<(Turnstile<T>, Pass<T>), OutOfMemory>
         ensures first { IfOk result
             (λ r. r.1 ≡ first_pass r.0.id (T.items value) (T.fault_count value) (T.fixed value)) }

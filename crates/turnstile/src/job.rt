@@ -5,7 +5,7 @@ ghost use Rattle.turnstile.specs.declared.limits.TheConstants.{MOST_ADDED};
 
 use adx_units::Counted;
 
-/// Work on a shared value, done while no other thread has it. It adds to the list and changes nothing of what stands
+/// Work on a shared value, done while no other thread has it. It adds to the list and changes nothing of what is
 /// there, and it says which turns its caller's pass keeps.
 pub trait Job<T: Counted> {
     /// What it changes beside the value, which stays its caller's.
@@ -20,7 +20,7 @@ pub trait Job<T: Counted> {
     // The turns that a job that ran gives the pass, in order. There may be none.
     ghost notes: { Self × Self.Lent → List T.Turn };
 
-    // By how much a job that ran raised the faults, at the least, unless these stand at their last value.
+    // By how much a job that ran raised the faults, at the least, unless these are at their last value.
     ghost risen: { Self × Self.Lent → ℕ };
 
     /// Runs once. What it finds out stays in the job.

@@ -3,7 +3,7 @@
 //! A `Turnstile` keeps the value, and a `Pass` is what one thread has seen of its list and the turns that it made.
 //! The contracts say that all passes see one list: what a pass saw begins what it sees next, each item past the first
 //! ones is of one turn, and two passes that met have seen the same. Nothing is said of waiting, order or fairness.
-//! Stands on adx_units and on the kit's `atomic_table`.
+//! Uses adx_units and the kit's `atomic_table`.
 #![tactic(auto)]
 
 mod calls;

@@ -35,7 +35,7 @@ impl<T: Counted> Model for Pass<T> {
 
 impl<T: Counted> Pass<T> {
     /// What every pass has, whatever was called: the list that it has seen is legal, each of its turns is right at the
-    /// front of it that has the length of the turn's call, and has its item behind that. It does nothing.
+    /// front of it that has the length of the turn's call, and has its item after that. It does nothing.
     pub fn recall(&self)
         ensures legal { (f : T.Fixed) → self.now.fixed ≡ Some f → T.legal f self.now.seen }
         ensures right { (f : T.Fixed) → self.now.fixed ≡ Some f → AreAllRight (T.right f) self.now.seen self.now.turns }

@@ -9,7 +9,7 @@ use adx_units::Counted;
 use std::marker::Brand;
 use std::snapshot::Snapshot;
 
-/// What a run leaves: the value behind it, how many items there were before, how many were added, and by how much the
+/// What a run leaves: the value after it, how many items there were before, how many were added, and by how much the
 /// faults rose.
 #[derive(Drop)]
 struct Run<T> {

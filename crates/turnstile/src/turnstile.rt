@@ -23,7 +23,7 @@ use std::marker::Model;
 use std::snapshot::Snapshot;
 
 /// A value that many threads share, one turn at a time. A contract sees which turnstile it is, and the part of the value
-/// that never changes: all else that is known of the value stands in the passes.
+/// that never changes: all else that is known of the value is in the passes.
 #[derive(Drop)]
 pub struct Turnstile<T: Counted + Drop> {
     pub(crate) table: Table<
@@ -133,7 +133,7 @@ impl<T: Counted + Drop> Turnstile<T> {
         self.table.shared.load::<ReadFront>(seat, FRONT)
     }
 
-    /// Finds that what was told and what was seen begin one list, and takes the longer as seen.
+    /// Finds that what was learned and what was seen begin one list, and takes the longer as seen.
     pub(crate) fn learn(&self, seat: &mut TableSeat<T>)
         requires seat { seat.old.table_id ≡ self.now.id }
         requires idle { seat.old.me.0.stage ≡ Idle }

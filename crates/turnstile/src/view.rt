@@ -1,4 +1,4 @@
-//! What a seat at the table knows. Such values stand in proofs alone.
+//! What a seat at the table knows. Such values are in proofs alone.
 use crate::noted::Noted;
 use std::collections::LinkedList;
 
@@ -11,7 +11,7 @@ pub enum Role {
     Spent,
 }
 
-/// Where a seat stands in its turn, with its ticket.
+/// Where a seat is in its turn, with its ticket.
 pub enum Stage {
     Idle,
     Waits(u64),
