@@ -10,7 +10,7 @@ use Rattle.allocator_core.specs.declared.best.Best.{Best}
 use Rattle.allocator_core.specs.Choice.{Standing, budget_at, fits, weight_of, competes, chosen_at, no_offer, taken_by, standing_at, is_place, decided, reason_at, settled_offers}
 use Rattle.allocator_core.proofs.Lists.{greatest_found, Alike, BestIs, best_end, greatest_alike, sum_by-map, sum_by-filter, sum_by-enumerate, sum_by-none, sum_by-one}
 
--- each campaign stands within its budget
+-- each campaign is within its budget
 abbrev pub StandsWithin : List Units → Standing → Type 0
 StandsWithin budgets standing = (campaign : ℕ) → standing campaign ≤ budget_at budgets campaign
 

@@ -134,7 +134,7 @@ greatest_some {X} p w xs best d is_best =
       | inr misses ↦ or_left (not (p (get_or xs k e))) _ (not_from_false (p (get_or xs k e)) misses)
     ])))
 
--- what stands at the place that is found
+-- what is at the place that is found
 pub greatest_found : {X : Type 0} (p : X → Bool) (w : X → ℕ) (xs : List X) (best : ℕ) (d : X) → position (greatest p w xs) xs ≡ Some best → (best < length xs) × (p (get_or xs best d) ≡ true)
 greatest_found p w xs best d h =
     let found = position-Some (greatest p w xs) xs best d h in

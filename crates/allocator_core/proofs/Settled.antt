@@ -232,7 +232,7 @@ below_more budgets before offers imp =
       ]
     ])
 
--- behind the last impression all offers are settled
+-- after the last impression all offers are settled
 pub below_all : (budgets : List Units) (before : Standing) (offers : List Offer) (imps : ℕ) → All (λ o. o.reason ≡ ADMITTED → o.imp < imps) offers → settled_below budgets before offers imps ≡ settled_offers budgets before offers
 below_all budgets before offers imps within_imps =
     same_lists (settled_below budgets before offers imps) (settled_offers budgets before offers) (length-below budgets before offers imps ∙ sym (length-settled budgets before offers))

@@ -15,7 +15,7 @@ use Rattle.allocator_core.specs.Settling.{standing_in}
 abbrev pub taken_from : List Take → ℕ → ℕ
 taken_from takes campaign = sum_by (λ t. if t.campaign == campaign then t.charge.0 else 0) takes
 
--- what the campaigns stand at beside them
+-- what the campaigns have committed beside them
 abbrev pub standing_with : List Account → List Take → Standing
 standing_with accounts takes = λ campaign. standing_in accounts campaign + taken_from takes campaign
 
@@ -33,7 +33,7 @@ best_with best place None = best
 best_with best place (Some weight) =
     if is_none best.place || nat_lt best.weight weight then record { place = Some place; weight = weight } else best
 
--- an offer behind the pass of an impression, before one is chosen: it has lost or doesn't fit
+-- an offer after the pass of an impression, before one is chosen: it has lost or doesn't fit
 abbrev pub passed : List Units → Standing → ℕ → Offer → Offer
 passed budgets standing imp o =
     if o.imp == imp && o.reason == ADMITTED then record o { reason = decided Bool.false (fits budgets standing o) } else o

@@ -1,9 +1,9 @@
 //! Which offer of each impression is chosen over a book: the greatest weight that fits its budget.
 //!
 //! A contract says the choice by the definitions of `specs/Choice.antt`: the first of the offers with the greatest
-//! discounted charge, at what the campaigns stand at for that impression.
+//! discounted charge, at what the campaigns have committed for that impression.
 //!
-//! Stands on `adx_units` and `campaign_book`.
+//! Uses `adx_units` and `campaign_book`.
 #![tactic(auto)]
 
 mod best;

@@ -54,7 +54,7 @@ at_slab place slab same within =
     ap (λ (t : List ℕ). get_or t place 0) table_is
     ∙ (get_or-map-range_with_len discount 0 101 place place 0 (omega arith) (omega arith) ∙ ap discount same)
 
--- the slab behind that one, as clauses write it
+-- the slab after that one, as clauses write it
 pub discount-next : (slab : ℕ) → discount (slab + 1) ≡ discount (suc slab)
 discount-next slab = let e : slab + 1 ≡ suc slab = omega arith in ap discount e
 

@@ -2,6 +2,6 @@
 -- without a division. This project's own.
 use Rattle.std.specs.Prelude.{ℕ, suc, ◌+◌, ◌*◌, ◌/◌}
 
--- the least committed money of the slab behind that one: the least c with slab + 1 ≤ 100 c / budget
+-- the least committed money of the slab after that one: the least c with slab + 1 ≤ 100 c / budget
 abbrev pub next_threshold : ℕ → ℕ → ℕ
 next_threshold slab budget = (suc slab * budget + 99) / 100

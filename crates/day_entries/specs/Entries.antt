@@ -15,7 +15,7 @@ use Rattle.day_entries.specs.declared.numbers.Numbers.{Numbers}
 use Rattle.formats.specs.Formats.{Format, ◌⊗◌, made, such, kind, last_kind, bytes_of, sized, counted}
 use Rattle.day_entries.specs.Numbers.{numbers_of, small, short, long, wide}
 
--- a text behind its length
+-- a text after its length
 unfoldable pub text : Numbers → Format (List ℕ)
 text n = such IsUtf8 is_utf8 (sized (long n))
 
@@ -60,13 +60,15 @@ parts_of_kept k = (k.bid, (k.seat, (k.bidid, (k.adid, (k.nurl, (k.burl, (k.lurl,
 unfoldable pub kept : Numbers → Format Kept
 kept n = made kept_of_parts parts_of_kept (long n ⊗ (text n ⊗ (text n ⊗ (text n ⊗ (text n ⊗ (text n ⊗ (text n ⊗ text n)))))))
 
--- ids of impressions, offers and texts of bids, each behind their number
+-- ids of impressions, offers and texts of bids, each after their number
 unfoldable pub imps : Numbers → Format (List (List ℕ))
 imps n = counted (small n) (name n)
 
+-- the number of offers, and each offer
 unfoldable pub offers : Numbers → Format (List Offer)
 offers n = counted (long n) (offer n)
 
+-- the number of bids whose texts are kept, and the texts of each
 unfoldable pub all_kept : Numbers → Format (List Kept)
 all_kept n = counted (long n) (kept n)
 

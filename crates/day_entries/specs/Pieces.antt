@@ -1,4 +1,4 @@
--- A payload with the pieces that stand behind it and aren't added yet. This project's own.
+-- A payload with the pieces that come after it and aren't added yet. This project's own.
 use Rattle.std.specs.Prelude.{ℕ, List, ◌++◌}
 use Rattle.adx_io.specs.Frames.{FrameState}
 

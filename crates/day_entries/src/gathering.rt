@@ -13,7 +13,7 @@ pub(crate) const GATHERED: usize = 512;
 /// bytes each.
 pub(crate) const PIECE_ROOM: usize = 128;
 
-/// Pieces that stand behind a payload and aren't added to it yet.
+/// Pieces that come after a payload and aren't added to it yet.
 pub(crate) type Pieces = ArrayVec<u8, GATHERED>;
 
 /// Adds the pieces to the payload.
@@ -27,7 +27,7 @@ pub(crate) fn add_gathered(pieces: &mut Pieces, out: &mut Frame) -> Result<(), O
     Ok(())
 }
 
-/// Makes room for a piece behind the pieces.
+/// Makes room for a piece after the pieces.
 pub(crate) fn make_room(pieces: &mut Pieces, out: &mut Frame) -> Result<(), OutOfMemory>
     ensures same { OnOk result (with_pieces pieces.new.items out.new ≡ with_pieces pieces.old.items out.old) }
     ensures room { OnOk result (length pieces.new.items + PIECE_ROOM ≤ GATHERED) }
@@ -39,7 +39,7 @@ pub(crate) fn make_room(pieces: &mut Pieces, out: &mut Frame) -> Result<(), OutO
     Ok(())
 }
 
-/// Adds a piece behind the pieces.
+/// Adds a piece after the pieces.
 pub(crate) fn gather(piece: &[u8], pieces: &mut Pieces, out: &mut Frame) -> Result<(), OutOfMemory>
     ensures ok { OnOk result (with_pieces pieces.new.items out.new ≡ with_pieces pieces.old.items out.old ++ piece.now) }
     ensures marked { out.new.marked ≡ out.old.marked }

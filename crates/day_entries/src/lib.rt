@@ -4,7 +4,7 @@
 //! so, each byte of it; what is spelled so is read, whatever follows. An ask can be copied, since a history keeps its
 //! own.
 //!
-//! Stands on `adx_units`, `adx_io`, `day_rules`, `formats` and `arrayvec`.
+//! Uses `adx_units`, `adx_io`, `day_rules`, `formats` and `arrayvec`.
 #![tactic(auto)]
 
 mod copying;

@@ -34,7 +34,7 @@ impl Numbers {
         }
     }
 
-    /// The fewest bytes of a name, of one byte behind its length.
+    /// The fewest bytes of a name, of one byte after its length.
     pub(crate) fn least_name(self) -> usize
         ensures { 1 ≤ result }
     {
@@ -220,7 +220,7 @@ impl Numbers {
 }
 
 impl Numbers {
-    /// Adds a number below 2^8 behind the pieces.
+    /// Adds a number below 2^8 after the pieces.
     pub(crate) fn gather_small(
         self,
         number: u8,
@@ -235,7 +235,7 @@ impl Numbers {
         Ok(())
     }
 
-    /// Adds a number below 2^32 behind the pieces.
+    /// Adds a number below 2^32 after the pieces.
     pub(crate) fn gather_long(
         self,
         number: u32,
@@ -250,7 +250,7 @@ impl Numbers {
         Ok(())
     }
 
-    /// Adds a number below 2^64 behind the pieces.
+    /// Adds a number below 2^64 after the pieces.
     pub(crate) fn gather_wide(
         self,
         number: u64,

@@ -32,7 +32,7 @@ pub fn decode(
     }
 }
 
-/// An entry: the byte of its kind, and what it tells.
+/// An entry: the byte of its kind, and what it says.
 #[tactic(auto, unfolding(crate::specs::Entries::entry))]
 fn entry_of(alloc: Global, numbers: Numbers, bytes: &[u8]) -> Result<(Entry, &[u8]), Unread>
     ensures { Gives (λ x. (x.0, x.1.now)) result ((entry numbers).reads bytes.now) }
@@ -90,7 +90,7 @@ fn ask_of(alloc: Global, numbers: Numbers, bytes: &[u8]) -> Result<(Ask, &[u8]),
     Ok((ask, rest))
 }
 
-/// The ids of impressions behind their number.
+/// The ids of impressions after their number.
 #[tactic(auto, unfolding(crate::specs::Entries::imps))]
 fn imps_of(alloc: Global, numbers: Numbers, bytes: &[u8]) -> Result<(Sequence<Id>, &[u8]), Unread>
     ensures { Gives (λ x. (x.0, x.1.now)) result ((imps numbers).reads bytes.now) }
@@ -108,7 +108,7 @@ fn imps_of(alloc: Global, numbers: Numbers, bytes: &[u8]) -> Result<(Sequence<Id
     Ok((Sequence::from(imps), rest))
 }
 
-/// Offers behind their number.
+/// Offers after their number.
 #[tactic(auto, unfolding(crate::specs::Entries::offers))]
 fn offers_of(
     alloc: Global,
@@ -130,7 +130,7 @@ fn offers_of(
     Ok((Sequence::from(offers), rest))
 }
 
-/// The texts of bids behind the number of these bids.
+/// The texts of bids after the number of these bids.
 #[tactic(auto, unfolding(crate::specs::Entries::all_kept))]
 fn all_kept_of(
     alloc: Global,
@@ -152,7 +152,7 @@ fn all_kept_of(
     Ok((Sequence::from(kept), rest))
 }
 
-/// The texts of one bid behind its place.
+/// The texts of one bid after its place.
 #[tactic(auto, unfolding(crate::specs::Entries::kept))]
 fn kept_of(alloc: Global, numbers: Numbers, bytes: &[u8]) -> Result<(Kept, &[u8]), Unread>
     ensures { Gives (λ x. (x.0, x.1.now)) result ((kept numbers).reads bytes.now) }

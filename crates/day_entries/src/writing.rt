@@ -78,7 +78,7 @@ fn push_moment(now: u64, numbers: Numbers, out: &mut Frame) -> Result<(), OutOfM
     numbers.push_wide(now, out)
 }
 
-/// Adds an ask behind its kind.
+/// Adds an ask after its kind.
 fn push_first_ask(ask: &Ask, numbers: Numbers, out: &mut Frame) -> Result<(), OutOfMemory>
     requires { HasBytes ask.now }
     ensures ok { OnOk result (Adds (last_kind 1 (ask_format numbers)) out.old.payload out.new.payload ask.entry.now) }
@@ -112,7 +112,7 @@ fn gather_ask(
     Ok(())
 }
 
-/// Adds a text behind its length.
+/// Adds a text after its length.
 fn gather_text(
     text: &[u8],
     numbers: Numbers,
@@ -131,7 +131,7 @@ fn gather_text(
     Ok(())
 }
 
-/// Adds a name behind its length.
+/// Adds a name after its length.
 fn gather_name(
     id: &Id,
     numbers: Numbers,
@@ -145,7 +145,7 @@ fn gather_name(
     Ok(())
 }
 
-/// Adds the ids of impressions behind their number.
+/// Adds the ids of impressions after their number.
 #[tactic(auto, unfolding(crate::specs::Entries::imps))]
 fn gather_imps(
     imps: &[Id],
@@ -164,7 +164,7 @@ fn gather_imps(
     Ok(())
 }
 
-/// Adds offers behind their number.
+/// Adds offers after their number.
 #[tactic(auto, unfolding(crate::specs::Entries::offers))]
 fn gather_offers(
     offers: &[Offer],
@@ -200,7 +200,7 @@ fn gather_offer(
     Ok(())
 }
 
-/// Puts an offer behind the pieces.
+/// Puts an offer after the pieces.
 fn put_offer(offer: &Offer, numbers: Numbers, pieces: &mut Pieces)
     requires imp { offer.now.imp < 2 ^ 8 }
     requires room { length pieces.old.items + PIECE_ROOM ≤ GATHERED }
@@ -213,7 +213,7 @@ fn put_offer(offer: &Offer, numbers: Numbers, pieces: &mut Pieces)
     numbers.put_short(offer.reason, pieces);
 }
 
-/// Adds the texts of bids behind the number of these bids.
+/// Adds the texts of bids after the number of these bids.
 #[tactic(auto, unfolding(crate::specs::Entries::all_kept))]
 fn gather_all_kept(
     kept: &[Kept],
@@ -233,7 +233,7 @@ fn gather_all_kept(
     Ok(())
 }
 
-/// Adds the texts of one bid behind its place.
+/// Adds the texts of one bid after its place.
 fn gather_kept(
     kept: &Kept,
     numbers: Numbers,
@@ -255,7 +255,7 @@ fn gather_kept(
     Ok(())
 }
 
-/// Adds a change of a campaign's budget behind its kind.
+/// Adds a change of a campaign's budget after its kind.
 #[tactic(auto, unfolding(crate::specs::Entries::change))]
 fn push_budget(
     campaign: u32,

@@ -1,4 +1,4 @@
--- The asks of a legal history stand settled, each award the first of the greatest of its impression.
+-- The asks of a legal history are settled, each award the first of the greatest of its impression.
 use Rattle.std.proofs.Common.{◌≡◌, ◌≢◌, ◌↔◌, ℕ, ◌<◌, List, ◌∷◌, ◌++◌, length, get_or, Bool, true, false, eqb, refl, sym, ap, ◌∙◌, subst, inl, inr, arith, Option, Some, None}
 use Rattle.std.specs.List.{slice_get}
 use Rattle.std.proofs.lemmas.Bool.{cases_eq, eq-eqb, ne_eqb}

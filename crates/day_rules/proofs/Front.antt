@@ -11,7 +11,7 @@ use Rattle.day_rules.specs.OfferTests.{trimmed}
 use Rattle.day_rules.proofs.Items.{moved_back, moved_front, swapped_long}
 use Rattle.day_rules.proofs.Texts.{stays_one}
 
--- of the first texts, those that stay are in front, and the texts behind them are as they were
+-- of the first texts, those that stay come first, and the texts after them are as they were
 pub record IsFront (offers : List Offer) (start kept : List Kept) (place count : ℕ) : Type 0 where
   pub within : count ≤ place
   pub long : length kept ≡ length start

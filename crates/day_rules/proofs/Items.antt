@@ -1,4 +1,4 @@
--- A list whose items are moved to its front, and a list behind a vector that was lent as a slice.
+-- A list whose items are moved to its front, and a list after a vector that was lent as a slice.
 use Rattle.std.proofs.Common.{◌≡◌, ◌<◌, ℕ, ◌+◌, ◌≤◌, List, [], ◌∷◌, ◌++◌, length, set, take, drop, get_or, inl, inr, sym, ap, ◌∙◌, arith}
 use Rattle.std.specs.List.{swap}
 use Rattle.std.proofs.lemmas.Bool.{cases_lt}
@@ -10,7 +10,7 @@ swapped {X} (e ∷ xs) i j d one two =
     ap (λ (x : X). set (set (e ∷ xs) i x) j (get_or (e ∷ xs) i e)) (get_or_default (e ∷ xs) j e d two)
     ∙ ap (λ (x : X). set (set (e ∷ xs) i (get_or (e ∷ xs) j d)) j x) (get_or_default (e ∷ xs) i e d one)
 
--- an item that changes at a place, and is moved behind the first so many
+-- an item that changes at a place, and is moved after the first so many
 pub moved_front : {X : Type 0} (xs : List X) (n p : ℕ) (y : X) → n ≤ p → p < length xs → take (n + 1) (swap (set xs p y) n p) ≡ take n xs ++ y ∷ []
 moved_front {X} xs n p y low within =
     let ys : List X = set xs p y in

@@ -26,7 +26,7 @@ enumerate-append n [] ys = ap (λ k. enumerate_from k ys) (omega arith)
 enumerate-append n (x ∷ xs) ys =
     ap (λ t. (n, x) ∷ t) (enumerate-append (n + 1) xs ys ∙ ap (λ k. enumerate_from (n + 1) xs ++ enumerate_from k ys) (omega arith))
 
--- a list that ends in e, cut at an element: that element is e, or stands before it
+-- a list that ends in e, cut at an element: that element is e, or comes before it
 pub cut_of_push : {X : Type 0} (xs before after : List X) (e x : X) → xs ++ e ∷ [] ≡ before ++ x ∷ after → ((xs ≡ before) × (e ≡ x)) ⊎ ((rest : List X) × (xs ≡ before ++ x ∷ rest))
 cut_of_push [] [] after e x h = inl (refl, cc)
 cut_of_push [] (b ∷ bs) after e x h =
@@ -38,7 +38,7 @@ cut_of_push {X} (y ∷ ys) (b ∷ bs) after e x h =
     let u : y ≡ b = cc in
     elim (cut_of_push ys bs after e x t) [ inl w ↦ inl (let v : ys ≡ bs = w.0 in cc, w.1) | inr w ↦ inr (w.0, let v : ys ≡ bs ++ x ∷ w.0 = w.1 in cc) ]
 
--- what stands at a place of two lists one behind the other
+-- what is at a place of two lists one after the other
 pub get-append_left : {X : Type 0} (xs ys : List X) (k : ℕ) → k < length xs → slice_get (xs ++ ys) k ≡ slice_get xs k
 get-append_left [] ys k h = absurd (omega arith)
 get-append_left (x ∷ xs) ys zero h = refl
@@ -49,7 +49,7 @@ get-append_right [] ys k h = ap (slice_get ys) (omega arith)
 get-append_right (x ∷ xs) ys zero h = absurd (omega arith)
 get-append_right (x ∷ xs) ys (suc k) h = get-append_right xs ys k (omega arith) ∙ ap (slice_get ys) (omega arith)
 
--- what stands at a place of a list that is made item by item, with the places
+-- what is at a place of a list that is made item by item, with the places
 get_enumerated : {X Y : Type 0} (f : ℕ × X → Y) (n : ℕ) (xs : List X) (k : ℕ) → slice_get (map f (enumerate_from n xs)) k ≡ option_map (λ x. f (n + k, x)) (slice_get xs k)
 get_enumerated f n [] k = refl
 get_enumerated f n (x ∷ xs) zero = ap (λ j. Some (f (j, x))) (omega arith)
@@ -89,7 +89,7 @@ pairs_at R x xs above pairs (suc i) (suc j) d before below = pairs i j d (omega 
 pub pairs_cons : {X : Type 0} (R : X → X → Type 0) (x : X) (xs : List X) → All (R x) xs → AllPairs R xs → AllPairs R (x ∷ xs)
 pairs_cons R x xs above pairs = pairs_at R x xs above pairs
 
--- what holds of all items holds of those in front
+-- what holds of all items holds of those that come first
 pub all_front : {X : Type 0} (P : X → Type 0) (xs ys : List X) → All P (xs ++ ys) → All P xs
 all_front P xs ys all k d below =
     subst P (get_or_append_left xs ys d k below) (all k d (omega (arith, length-append xs ys)))

@@ -31,7 +31,7 @@ numbers_are test n (w ∷ ws) =
 pub numbers_is : (test : Option End → Bool) (ws : List Award) → numbers_where test ws ≡ numbers_from test 0 ws
 numbers_is test ws = numbers_are test 0 ws
 
--- behind further awards
+-- after further awards
 keeps_rest : (b : Bool) (x : ℕ) (xs ys zs : List ℕ) → zs ≡ xs ++ ys → cond b (x ∷ zs) zs ≡ cond b (x ∷ xs) xs ++ ys
 keeps_rest true x xs ys zs is = ap (λ (t : List ℕ). x ∷ t) is
 keeps_rest false x xs ys zs is = is

@@ -120,7 +120,7 @@ no_bill history x xs n w agree at kind here of none =
     let loss : has_arrival history NoticeKind.Loss n w (x ∷ xs) = or_left (is_notice_of history NoticeKind.Loss n w x) _ (subst P (sym kind) own) in
     agree n w at (ap is_open none) bill loss)
 
--- an award that is open behind an arrival was open before it
+-- an award that is open after an arrival was open before it
 was_open_by : (b : Bool) (kind : NoticeKind) (w : Award) → is_open (cond b (noticed_award kind w) w).end ≡ true → is_open w.end ≡ true
 was_open_by false kind w still = still
 was_open_by true NoticeKind.Win w still = still

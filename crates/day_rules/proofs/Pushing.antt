@@ -37,7 +37,7 @@ only_end : (n : ℕ) (w : Award) (e : Entry) (o : Option End) → end_by n w e �
 only_end n w e None h = rw h refl
 only_end n w e (Some x) h = rw h refl
 
--- an award whose ask stands before the entry keeps its end, or the entry gives it one
+-- an award whose ask comes before the entry keeps its end, or the entry gives it one
 pub end_push : (n : ℕ) (w : Award) (history : List Entry) (e : Entry) → w.ask < length history → end_of n w (history ++ e ∷ []) ≡ option_or (end_of n w history) (end_by n w e)
 end_push n w history e within =
     ap (λ (es : List Entry). slice_get (filter_map (end_by n w) es) 0) (drop-append-le (w.ask + 1) history (e ∷ []) (omega arith))
@@ -50,7 +50,7 @@ won_push n history e =
     let p : Entry → Bool = counts (notice_of NoticeKind.Win n) in
     list_any-append p history (e ∷ []) ∙ ap (λ (b : Bool). is_won n history || b) (or-false (p e))
 
--- every award's ask stands in the history
+-- every award's ask is in the history
 placed : (place bound : ℕ) (sales : List Sale) → place < bound → All (λ w. w.ask < bound) (map (award_of place) sales)
 placed place bound [] h = All-nil (λ (w : Award). w.ask < bound)
 placed place bound (x ∷ xs) h = All-cons (λ (w : Award). w.ask < bound) (award_of place x) (map (award_of place) xs) h (placed place bound xs h)

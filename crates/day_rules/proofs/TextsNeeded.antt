@@ -14,7 +14,7 @@ use Rattle.day_rules.specs.OfferTests.{are_of, are_short_of, needs_texts}
 use Rattle.day_rules.proofs.Texts.{no_texts}
 use Rattle.day_rules.proofs.AskTests.{needs_decided}
 
--- the texts in front of `next` are of bids below `place`, in order, with those that these bids need; where all stand
+-- the texts before `next` are of bids below `place`, in order, with those that these bids need; where all are
 -- in order, the others are of bids from `place` on
 pub record AreKeptBelow (offers : List Offer) (kept : List Kept) (place next : ℕ) : Type 0 where
   pub within : next ≤ length kept
@@ -137,7 +137,7 @@ too_many offers kept place next w past some are =
     let high : (get_or kept next no_texts).bid < length offers = All-get_or (λ (k : Kept). k.bid < length offers) kept next no_texts inside are.placed in
     omega arith
 
--- what the tests of the next texts tell
+-- what the tests of the next texts say
 of_found : (kept : List Kept) (next place : ℕ) (o : Option Kept) → slice_get kept next ≡ o → are_of place o ≡ true → (next < length kept) × ((get_or kept next no_texts).bid ≡ place)
 of_found kept next place None at h = absurd (false≢true h)
 of_found kept next place (Some k) at h = (

@@ -85,7 +85,7 @@ is_empty bytes = length bytes == 0
 abbrev pub is_winners : List Offer → Kept → Bool
 is_winners offers k = option_map_or (λ o. o.reason == AWARDED) (slice_get offers k.bid) false
 
--- the bid wants to be told of its loss, and its texts fit
+-- the bid wants to be notified of its loss, and its texts fit
 abbrev pub may_be_told : Kept → Bool
 may_be_told k = not (is_empty k.lurl) && nat_le (text_size k) MAX_KEPT
 

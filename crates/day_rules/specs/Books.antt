@@ -69,11 +69,11 @@ abbrev pub end_by : ℕ → Award → Entry → Option End
 end_by n w e =
     option_or (option_and_then (end_by_notice n) (noticed e)) (option_and_then (end_by_moment w.deadline) (expired e))
 
--- how award n ended, if it did: by the first entry behind its ask that ends it
+-- how award n ended, if it did: by the first entry after its ask that ends it
 abbrev pub end_of : ℕ → Award → List Entry → Option End
 end_of n w history = slice_get (filter_map (end_by n w) (drop (w.ask + 1) history)) 0
 
--- a win of award n stands in the history
+-- a win of award n is in the history
 abbrev pub is_won : ℕ → List Entry → Bool
 is_won n history = list_any (counts (notice_of NoticeKind.Win n)) history
 

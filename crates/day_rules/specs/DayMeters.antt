@@ -59,7 +59,7 @@ charge_of n awards = option_map_or (λ w. w.charge.0) (slice_get awards n) 0
 abbrev pub charge_due : ℕ → Award → ℕ
 charge_due now w = if is_due now w then w.charge.0 else 0
 
--- what an entry behind a history does: the awards that it makes, wins or ends, and the charges of those it makes or ends
+-- what an entry after a history does: the awards that it makes, wins or ends, and the charges of those it makes or ends
 abbrev pub step_of : List Entry → Entry → MeterStep
 step_of history (Entry.Ask a) =
     record { kind = StepKind.Ask; count = length (sales_of a); money = sum_by (λ s. s.charge) (sales_of a) }
@@ -73,6 +73,6 @@ step_of history (Entry.Expire now) = record {
 }
 step_of history (Entry.Budget campaign change budget) = record { kind = StepKind.Budget; count = 0; money = 0 }
 
--- the steps of a history: each entry's, behind the entries before it
+-- the steps of a history: each entry's, after the entries before it
 abbrev pub steps_of : List Entry → List MeterStep
 steps_of history = map (λ (p : ℕ × Entry). step_of (take p.0 history) p.1) (enumerate_from 0 history)

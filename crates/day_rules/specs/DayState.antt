@@ -7,7 +7,7 @@ use Rattle.day_rules.specs.Legal.{IsLegal}
 use Rattle.day_rules.specs.Terms.{Terms, AreTerms}
 
 -- for how many more entries and awards there is memory, the auction whose ask may be the next entry: its id
--- stands in the map of ids with the next place of the history, and for how many more changes of each campaign's budget
+-- is in the map of ids with the next place of the history, and for how many more changes of each campaign's budget
 pub record Room : Type 0 where
   pub entries : ℕ
   pub awards : ℕ
@@ -20,7 +20,7 @@ pub record DayState : Type 0 where
   pub history : List Entry
   pub room : Room
 
--- the id that a map has behind those of so many asks, if its place is the next one of the history
+-- the id that a map has after those of so many asks, if its place is the next one of the history
 abbrev pub next_id : ℕ → ℕ → List (List ℕ × ℕ) → Option (List ℕ)
 next_id asks place ids =
     option_and_then (λ (p : List ℕ × ℕ). if p.1 == place then Some p.0 else None) (slice_get ids asks)

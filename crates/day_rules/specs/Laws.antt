@@ -30,7 +30,7 @@ RunsStayLegal =
     (terms : Terms) (history : List Entry) (turns : List Turn) → IsLegal terms history
     → AreTurns (length terms.budgets) turns → IsLegal terms (run terms history turns)
 
--- the choice for an impression of an ask behind some entries, at its turn: by what its campaigns stand at after the
+-- the choice for an impression of an ask after some entries, at its turn: by what its campaigns have committed after the
 -- choices for the impressions before it
 abbrev pub choice_for : Terms → List Entry → Ask → ℕ → Option ℕ
 choice_for terms before a imp =
@@ -38,14 +38,14 @@ choice_for terms before a imp =
     let offers = (undecided a).offers in
     chosen_at budgets (standing_at budgets (committed before) offers imp) offers imp
 
--- an ask as it stands behind some entries: each of its offers has the reason that it gets there, read as admitted where
+-- an ask as it is after some entries: each of its offers has the reason that it gets there, read as admitted where
 -- it is decided, and an offer is awarded exactly where it is the choice for its impression
 pub record StandsSettled (terms : Terms) (before : List Entry) (a : Ask) : Type 0 where
   pub offers : a.offers ≡ settled_offers (budgets_after terms before) (committed before) (undecided a).offers
   pub awarded : (place : ℕ) (o : Offer) → slice_get a.offers place ≡ Some o
       → (o.reason ≡ AWARDED) ↔ (choice_for terms before a o.imp ≡ Some place)
 
--- each ask of a legal history stands settled behind the entries before it
+-- each ask of a legal history is settled after the entries before it
 abbrev pub FirstGreatestChoice : Type 0
 FirstGreatestChoice =
     (terms : Terms) (before : List Entry) (a : Ask) (after : List Entry) → IsLegal terms (before ++ Entry.Ask a ∷ after)
@@ -99,7 +99,7 @@ arrival_reply history x = notice_reply history x.kind x.auction x.award
 abbrev pub after_arrival : List Entry → Arrival → List Entry
 after_arrival history x = with_entry history (arrival_reply history x).entry
 
--- the history after arrivals, one behind the other
+-- the history after arrivals, one after the other
 abbrev pub after_arrivals : List Entry → List Arrival → List Entry
 after_arrivals history [] = history
 after_arrivals history (x ∷ xs) = after_arrivals (after_arrival history x) xs

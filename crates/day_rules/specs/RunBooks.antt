@@ -10,7 +10,7 @@ use Rattle.day_rules.specs.Replies.{reply}
 use Rattle.day_rules.specs.Runs.{Turn, run, once, is_effective, is_repeat}
 use Rattle.day_rules.specs.Terms.{Terms, budgets_after}
 
--- an effective turn behind those of a run answers Repeat exactly where the calls taken once leave it out: they stay as
+-- an effective turn after those of a run answers Repeat exactly where the calls taken once leave it out: they stay as
 -- they are then, and else end in its call
 abbrev pub IsTakenOnce : Terms → List Entry → List Turn → Turn → Type 0
 IsTakenOnce terms start turns turn =
@@ -21,7 +21,7 @@ IsTakenOnce terms start turns turn =
 
 -- the history is that of a run over these turns from the start, and legal. Each campaign's money is that of plain
 -- books over the calls of the run, each taken once. At no point of the history does it pass the campaign's budget. Each
--- ask stands there as its choice was, and each effective turn is a repeat exactly where its call was taken before.
+-- ask is there as its choice was, and each effective turn is a repeat exactly where its call was taken before.
 pub record HasBooks (terms : Terms) (start : List Entry) (turns : List Turn) (history : List Entry) : Type 0 where
   pub ran : history ≡ run terms start turns
   pub legal : IsLegal terms history

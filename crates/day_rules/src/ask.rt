@@ -12,11 +12,11 @@ pub struct Kept {
     pub bidid: Text,
     /// The ad's id (OpenRTB 2.6, Bid, adid); may be empty.
     pub adid: Text,
-    /// Where its win is told (OpenRTB 2.6, Bid, nurl); may be empty.
+    /// Where its win is reported (OpenRTB 2.6, Bid, nurl); may be empty.
     pub nurl: Text,
-    /// Where its bill is told (OpenRTB 2.6, Bid, burl); may be empty.
+    /// Where its bill is reported (OpenRTB 2.6, Bid, burl); may be empty.
     pub burl: Text,
-    /// Where its loss is told (OpenRTB 2.6, Bid, lurl); may be empty.
+    /// Where its loss is reported (OpenRTB 2.6, Bid, lurl); may be empty.
     pub lurl: Text,
     /// The members of the bid that are passed on, as compact JSON.
     pub body: Text,

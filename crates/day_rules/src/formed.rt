@@ -103,7 +103,7 @@ fn are_others(id: &Id, ids: &[Id]) -> bool
     ids.iter().all(|other| is_other(id, other))
 }
 
-/// Whether no id stands there twice.
+/// Whether no id is there twice.
 fn are_distinct(ids: &[Id]) -> bool
     ensures { result ≡ distinct ids.now }
 {

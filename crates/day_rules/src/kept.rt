@@ -36,7 +36,7 @@ pub(crate) fn is_winners(offers: &[Offer], kept: &Kept) -> bool
     }
 }
 
-/// Whether the bid wants to be told of its loss, and its texts fit.
+/// Whether the bid wants to be notified of its loss, and its texts fit.
 pub(crate) fn may_be_told(kept: &Kept) -> bool
     ensures { result ≡ may_be_told_of kept.entry.now }
 {
@@ -62,7 +62,7 @@ fn trim(alloc: Global, offers: &[Offer], kept: &mut Kept)
 }
 
 /// Moves the texts that stay beside offers that were decided to the front, trimmed and in their order,
-/// and tells how many they are.
+/// and says how many they are.
 fn settle_front(alloc: Global, offers: &[Offer], kept: &mut [Kept]) -> usize
     ensures front { take result kept.new ≡ settled_kept offers.now kept.old }
     ensures within { result ≤ length kept.new }

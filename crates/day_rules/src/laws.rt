@@ -7,9 +7,9 @@ pub fn within_budget()
     ensures { StaysWithinBudget }
 {}
 
-/// Each ask of a legal history stands settled behind the entries before it: an offer is awarded
+/// Each ask of a legal history is settled after the entries before it: an offer is awarded
 /// exactly where it is the first of the greatest of its impression, and the other admitted offers
-/// stand there with their reasons.
+/// have their reasons.
 pub fn first_greatest_choice()
     ensures { FirstGreatestChoice }
 {}

@@ -43,7 +43,7 @@ fn lacks_texts(offer: &Offer, kept: &[Kept], next: usize, place: usize) -> bool
     needs_texts(offer) && !are_short_of(kept, next, place)
 }
 
-/// Whether the texts stand in the order of bids, no bid's twice, with those of each bid that needs them.
+/// Whether the texts are in the order of bids, no bid's twice, with those of each bid that needs them.
 pub(crate) fn are_kept_texts(offers: &[Offer], kept: &[Kept]) -> bool
     ensures { IsTrue result ↔ AreKeptTexts offers.now kept.now }
 {

@@ -8,7 +8,7 @@ use crate::meters::Meters;
 
 /// Something that meters are read from. A contract sees the steps that it has seen so far.
 pub trait MeterView {
-    /// What tells where it reads from. No value of it is made.
+    /// What says where it reads from. No value of it is made.
     type Origin;
 
     ghost seen: { Self → List MeterStep };

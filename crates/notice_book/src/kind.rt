@@ -1,5 +1,5 @@
 //! The kinds of notices.
-/// What a bidder's notice tells of an award.
+/// What a bidder's notice says of an award.
 #[derive(Clone, Copy, Debug, PartialEq, Eq)]
 pub enum NoticeKind {
     /// The award was won (OpenRTB 2.6, Bid, nurl).

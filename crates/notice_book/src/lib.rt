@@ -2,7 +2,7 @@
 //!
 //! A contract sees the awards as a list by their numbers. One table rules on a notice, by its kind
 //! and by the award's win and end.
-//! Stands on `adx_units`.
+//! Uses `adx_units`.
 #![tactic(auto)]
 
 mod award;
