@@ -90,7 +90,7 @@ that_one NoticeKind.Loss n NoticeKind.Win m h = absurd (false≢true h)
 that_one NoticeKind.Loss n NoticeKind.Bill m h = absurd (false≢true h)
 that_one NoticeKind.Loss n NoticeKind.Loss m h = record { kind_is = refl; number_is = eqb-true m n h }
 
--- a bill and a loss of one award don't both stand
+-- a bill and a loss of one award aren't both there
 had_open : (kind : NoticeKind) (w : Award) → w.end ≡ None → kind ≢ NoticeKind.Win → had_notice kind (Some w) ≡ false
 had_open NoticeKind.Win w none other = absurd (other refl)
 had_open NoticeKind.Bill w none other = rw none refl

@@ -1,4 +1,4 @@
--- What is held behind each kind of entry, and how many awards have no end.
+-- What is held after each kind of entry, and how many awards have no end.
 use Rattle.std.specs.List.{count_by}
 use Rattle.adx_units.specs.declared.units.Units.{Units}
 use Rattle.day_rules.specs.DayState.{IsDay}

@@ -1,4 +1,4 @@
--- Where the asks of a day stand, by the map of their ids.
+-- Where the asks of a day are, by the map of their ids.
 use Rattle.std.proofs.Common.{◌≡◌, ℕ, zero, suc, ◌+◌, ◌≤◌, List, [], ◌∷◌, ◌++◌, map, length, take, Bool, true, false, cond, not, eqb, ltb, refl, sym, ap, ◌∙◌, inl, inr, arith, Option, Some, None, slice_get, String, string_bytes}
 use Rattle.std.specs.List.{find, position, position_or_len}
 use Rattle.std.specs.Option.{option_and_then, option_map}
@@ -20,7 +20,7 @@ use Rattle.day_rules.specs.Replies.{ask_of, seen_as, seen_in}
 use Rattle.day_rules.proofs.Asked.{asked_at, asks_length, bytes_swapped}
 use Rattle.day_machine.specs.DayFields.{AreIds, place_by, place_in, placed_at}
 
--- the place that stands with an id is at the position of its key
+-- the place that is there with an id is at the position of its key
 abbrev pub bytes_of : String Global × ℕ → List ℕ × ℕ
 bytes_of p = (string_bytes p.0, p.1)
 
@@ -89,7 +89,7 @@ pub place_is : (auction : List ℕ) (asks : ℕ) (es : List (String Global × �
 place_is auction asks es o is =
     ap (λ (o : Option ℕ). place_by asks o (map bytes_of es)) is ∙ (by_position auction asks es ∙ sym (found_by_key auction asks es))
 
--- so it tells where the ask of an auction stands
+-- so it says where the ask of an auction is
 find_map : {X Y : Type 0} (f : X → Y) (p : Y → Bool) (xs : List X) → find p (map f xs) ≡ option_map f (find (λ x. p (f x)) xs)
 find_map f p [] = refl
 find_map {X} {Y} f p (x ∷ xs) = by (p (f x)) (find_map f p xs)
@@ -114,7 +114,7 @@ ask_place h ids asks auction i is =
     twice None = refl
     twice (Some p) = refl
 
--- the ask that was found stands at its place
+-- the ask that was found is at its place
 found_ask : (h : List Entry) (auction : List ℕ) (place : ℕ) (a : Ask) → ask_of auction h ≡ Some (place, a) → placed_at h place ≡ Some (place, a)
 found_ask h auction place a found =
     let n : ℕ = position_or_len (λ (p : ℕ × Ask). bytes_eq p.1.auction auction) (asks_of h) in
@@ -132,7 +132,7 @@ seen_some h auction digest place (Some p) is some =
     ap (λ (k : ℕ). seen_as digest (placed_at h k)) same
     ∙ ap (seen_as digest) (found_ask h auction p.0 p.1 is ∙ sym is)
 
--- the map after so many ids were kept, and one was put behind them
+-- the map after so many ids were kept, and one was put after them
 pub cut_front : (n : ℕ) (es : List (String Global × ℕ)) → map bytes_of (take n es) ≡ take n (map bytes_of es)
 cut_front n es = sym (take-map bytes_of n es)
 

@@ -1,4 +1,4 @@
--- Notices of different awards: each is answered behind those before it as it is where the history stands.
+-- Notices of different awards: each is answered after those before it as it is at the history itself.
 use Rattle.std.proofs.Common.{◌≡◌, ℕ, ◌+◌, ◌<◌, ◌≤◌, List, [], ◌∷◌, ◌++◌, map, length, take, get_or, Bool, true, false, cond, eqb, refl, sym, ◌∙◌, ap, arith, Option, Some, None, IfSome, append_assoc, length-append}
 use Rattle.std.specs.List.{AllByRecursion, flat_map, slice_get, sum_by}
 use Rattle.std.specs.Option.{option_map}
@@ -67,7 +67,7 @@ entry_kept history x y apart =
     ap (λ (o : Option Award). (known_reply (after_arrival history y) x.kind x.auction x.award o).entry) (award_kept history y x.award apart)
     ∙ known_entry history y x (slice_get (awards_of history) x.award) refl
 
--- the answers to notices and the entries that they add, each where the history stands
+-- the answers to notices and the entries that they add, each at the history itself
 abbrev pub answers_now : List Entry → List Arrival → List Answer
 answers_now history xs = map (λ (x : Arrival). (arrival_reply history x).answer) xs
 
@@ -109,7 +109,7 @@ entries_few history (x ∷ xs) =
     let rest = entries_in_turn (after_arrival history x) xs in
     omega (arith, length-append (added_by entry) rest, added_few entry, entries_few (after_arrival history x) xs)
 
--- the history behind them
+-- the history after them
 with_is : (history : List Entry) (o : Option Entry) → with_entry history o ≡ history ++ added_by o
 with_is history None = sym (append-nil history)
 with_is history (Some e) = refl
@@ -158,7 +158,7 @@ module _ (format : ℕ) where
 bytes_some : (format : ℕ) (e : Entry) (es : List Entry) → 1 ≤ length (entries_bytes format (e ∷ es))
 bytes_some format e es = omega (arith, some_bytes format e, ap length (flat_map-cons (entry_bytes format) e es), length-append (entry_bytes format e) (entries_bytes format es))
 
--- one notice more, where the history stands
+-- one notice more, at the history itself
 front_more : (xs : List Arrival) (i : ℕ) (x : Arrival) → i < length xs → x ≡ get_or xs i x → take (i + 1) xs ≡ take i xs ++ x ∷ []
 front_more xs i x low item = take_more xs i x low ∙ ap (λ (y : Arrival). take i xs ++ y ∷ []) (sym item)
 

@@ -128,7 +128,7 @@ metered_none day meters steps spare is none meters_are steps_are = record {
   to_come = subst (λ (h : List Entry). entries_to_come (awards_of h) ≤ spare) (sym none) (none_to_come spare);
 }
 
--- the step of an ask, by the awards behind it
+-- the step of an ask, by the awards after it
 pub ask_step : (terms : Terms) (history after_it : List Entry) (a : Ask) (was now : List Award) (count money : ℕ) → IsLegal terms history → after_it ≡ history ++ Entry.Ask a ∷ []
     → was ≡ awards_of history → now ≡ awards_of after_it → count ≡ length now - length was → money ≡ sum_by (λ w. w.charge.0) (drop (length was) now)
     → ◌≡◌ {A = MeterStep} (record { kind = StepKind.Ask; count = count; money = money }) (step_of history (Entry.Ask a))
@@ -153,12 +153,12 @@ ask_small terms history after_it a was now is follows after_is was_is now_is =
     let range = (next_in_range terms history (Entry.Ask a) (step_of history (Entry.Ask a)) (meters_after history) is follows refl refl).reserved in
     omega (arith, money, range)
 
--- there are no fewer awards behind an ask
+-- there are no fewer awards after an ask
 pub ask_more : (history after_it : List Entry) (a : Ask) (was now : List Award) → after_it ≡ history ++ Entry.Ask a ∷ [] → was ≡ awards_of history → now ≡ awards_of after_it → length was ≤ length now
 ask_more history after_it a was now is was_is now_is =
     omega (arith, ask_count history a, ap (λ (l : List Award). length l) was_is, ap (λ (l : List Award). length l) (now_is ∙ ap awards_of is))
 
--- what is reserved behind a moment
+-- what is reserved after a moment
 pub reserved_behind : (terms : Terms) (history after_it : List Entry) (now : ℕ) (accounts : List Account) → IsDay terms history → MayFollow terms history (Entry.Expire now) → after_it ≡ history ++ Entry.Expire now ∷ []
     → accounts ≡ accounts_in (budgets_after terms after_it) (awards_of after_it) → reserved_in_all accounts ≡ (meters_after (history ++ Entry.Expire now ∷ [])).reserved
 reserved_behind terms history after_it now accounts is follows after_is accounts_are =
@@ -171,7 +171,7 @@ pub reserved_small : (terms : Terms) (history : List Entry) (now : ℕ) → IsDa
 reserved_small terms history now is follows =
     (day_meters terms (history ++ Entry.Expire now ∷ []) (day_push terms history (Entry.Expire now) is follows)).in_range.reserved
 
--- the step of a moment, by what is reserved before and behind it
+-- the step of a moment, by what is reserved before and after it
 pub moment_step : (history : List Entry) (now count before left : ℕ) → count ≡ due_count now (awards_of history) → before ≡ (meters_after history).reserved
     → left ≡ (meters_after (history ++ Entry.Expire now ∷ [])).reserved
     → ◌≡◌ {A = MeterStep} (record { kind = StepKind.Expire; count = count; money = before - left }) (step_of history (Entry.Expire now))

@@ -90,6 +90,6 @@ charges_more (w ∷ ws) (suc n) below =
     let e : suc n + 1 ≡ suc (n + 1) = omega arith in
     charges_more ws n (omega arith) ∙ ap (λ (k : ℕ). charge_of n ws + sum_by (λ w. w.charge.0) (drop k (w ∷ ws))) (sym e)
 
--- behind the last award there is none
+-- after the last award there is none
 pub charges_end : (ws : List Award) → sum_by (λ w. w.charge.0) (drop (length ws) ws) ≡ 0
 charges_end ws = ap (λ (l : List Award). sum_by (λ w. w.charge.0) l) (drop-length ws)

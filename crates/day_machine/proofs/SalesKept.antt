@@ -97,7 +97,7 @@ pub front_within : (front rest all : List Award) (c : ℕ) → all ≡ front ++ 
 front_within front rest all c is =
     omega (arith, held_sum front c, held_sum all c, ap (sum_by (held c)) is, sum_by-append (held c) front rest)
 
--- an award of an impression between those before it and those behind it
+-- an award of an impression between those before it and those after it
 pub sold_here : (place now : ℕ) (offers : List Offer) (imp j : ℕ) (d : Offer) (b : Bool) (w : Award) → b ≡ is_sold imp (get_or offers j d) → b ≡ true → w ≡ award_of place (sold_at now (get_or offers j d)) → j < length offers
     → imp_awards place now offers imp ≡ (imp_awards place now (take j offers) imp ++ w ∷ []) ++ imp_awards place now (drop (j + 1) offers) imp
 sold_here place now offers imp j d b w is sold made within =

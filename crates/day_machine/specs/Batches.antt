@@ -36,7 +36,7 @@ pub record MayJoin (batch : BatchState) (call : Arrival) : Type 0 where
 abbrev pub joined : BatchState → Arrival → BatchState
 joined batch call = record batch { calls = batch.calls ++ call ∷ [] }
 
--- the answers to notices, each behind the history that those before it leave
+-- the answers to notices, each after the history that those before it leave
 abbrev pub answers_in_turn : List Entry → List Arrival → List Answer
 answers_in_turn history [] = []
 answers_in_turn history (x ∷ xs) = (arrival_reply history x).answer ∷ answers_in_turn (after_arrival history x) xs

@@ -9,7 +9,7 @@ use Rattle.notice_book.specs.Rules.{may_end, may_win}
 use Rattle.day_rules.specs.Books.{accounts_in, billed_in, entries_to_come, reserved_in}
 use Rattle.day_machine.specs.declared.places.Places.{Places}
 
--- the budgets of the campaigns, the awards by their numbers, where the notices of each stand, and for how many
+-- the budgets of the campaigns, the awards by their numbers, where the notices of each are, and for how many
 -- more awards there is memory
 pub record LedgerState : Type 0 where
   pub budgets : List Units

@@ -57,7 +57,7 @@ impl Batch {
         })
     }
 
-    /// Adds a notice of an award of an auction behind the others. False, and nothing is changed, exactly where the batch
+    /// Adds a notice of an award of an auction after the others. False, and nothing is changed, exactly where the batch
     /// ran, has 32 calls or one of that award, or the auction's id isn't of 1 to 128 bytes.
     pub fn add(&mut self, kind: NoticeKind, auction: &str, award: u32) -> bool
         ensures { MatchBool result
@@ -117,7 +117,7 @@ impl Batch {
         self.ran = false;
     }
 
-    /// Answers each call by the day as it stands, and puts the bytes of their entries in a journal of this format into
+    /// Answers each call by the day as it is, and puts the bytes of their entries in a journal of this format into
     /// the frame.
     pub fn run(&mut self, format: u8, day: &Day, frame: &mut Frame)
         requires waits { self.old.answers ≡ None }
@@ -134,7 +134,7 @@ impl Batch {
         self.ran = true;
     }
 
-    /// Adds the entries of the calls to the day, each behind those before it, and tells how many awards have no end then, where
+    /// Adds the entries of the calls to the day, each after those before it, and says how many awards have no end then, where
     /// so many had none before.
     pub fn commit(&self, day: &mut MeteredDay, without_end: u64) -> u64
         requires legal { IsDay day.old.terms day.old.history }

@@ -179,7 +179,7 @@ impl Day {
         self.ledger.to_come()
     }
 
-    /// Whether a request stands in the history, by its auction and its digest, or its auction with
+    /// Whether a request is in the history, by its auction and its digest, or its auction with
     /// another request.
     pub fn seen(&self, auction: &str, digest: &[u8; 32]) -> Seen
         ensures { result ≡ seen_in self.now.history auction.now digest.now }
@@ -212,7 +212,7 @@ impl Day {
         }
     }
 
-    /// The answer to an ask of an auction that doesn't stand in the history.
+    /// The answer to an ask of an auction that isn't in the history.
     fn plan_new(&self, ask: Ask) -> (Answer, Option<Entry>)
         requires formed { IsWellFormed (length self.now.terms.budgets) ask }
         requires undecided { IsUndecided ask }
@@ -349,7 +349,7 @@ impl Day {
         }
     }
 
-    /// The change of that campaign and number, if it stands in the history: its place and its budget.
+    /// The change of that campaign and number, if it is in the history: its place and its budget.
     fn kept_change(&self, campaign: u32, change: u32) -> Option<(u32, Units)>
         requires { campaign < length self.now.terms.budgets }
         ensures { (budget : Units) → result ≡ option_map (λ p. (p.0, p.1.budget))
@@ -399,7 +399,7 @@ impl Day {
 
     /// Makes the memory for an entry: for an ask, for two further entries per award of it, beside
     /// those that earlier awards may still get. What was prepared for an ask before is given up with
-    /// another ask, also where memory is wanting.
+    /// another ask, also if memory is refused.
     pub fn prepare(&mut self, entry: &Entry) -> Result<(), OutOfMemory>
         requires { MayFollow self.old.terms self.old.history entry.now }
         ensures room { OnOk result (HasRoomFor self.new entry.now) }

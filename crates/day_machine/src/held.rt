@@ -91,7 +91,7 @@ pub fn held_by(format: u8, day: &Day, without_end: u64) -> u64
     notice * day.to_come() + (expiry_record(format) - notice) * without_end
 }
 
-/// How many awards have no end behind an entry, where so many had none before.
+/// How many awards have no end after an entry, where so many had none before.
 pub fn open_behind(day: &Day, without_end: u64, entry: &Entry) -> u64
     requires legal { IsDay day.now.terms day.now.history }
     requires counted { without_end ≡ open_count (awards_of day.now.history) }

@@ -117,7 +117,7 @@ impl MeteredDay {
     }
 
     /// Makes the memory for an entry and its step, beside what earlier awards may still get. What was prepared for an ask
-    /// before is given up with another ask, also where memory is wanting.
+    /// before is given up with another ask, also if memory is refused.
     pub fn prepare(&mut self, entry: &Entry) -> Result<(), OutOfMemory>
         requires { MayFollow self.old.terms self.old.history entry.now }
         ensures room { OnOk result (HasRoomFor self.new entry.now) }

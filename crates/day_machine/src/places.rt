@@ -1,4 +1,4 @@
-//! Where the notices of an award stand in the history.
+//! Where the notices of an award are in the history.
 ghost use Rattle.std.specs.Prelude.{◌≡◌};
 ghost use Rattle.day_machine.specs.LedgerState.{place_of, placed};
 

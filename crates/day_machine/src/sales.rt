@@ -46,7 +46,7 @@ pub fn sale_count(ask: &Ask) -> usize
     count
 }
 
-/// The award of an offer of the ask whose entry stands at that place.
+/// The award of an offer of the ask whose entry is at that place.
 fn award_of(offer: &Offer, now: u64, place: u32) -> Award
     requires { now < 2 ^ 63 }
     ensures { result ≡ award_by place (record { campaign = offer.now.campaign; charge = offer.now.charge.0; deadline = now + offer.now.life }) }
@@ -80,7 +80,7 @@ fn sell_imp(ledger: &mut Ledger, offers: &[Offer], now: u64, imp: usize, place: 
     }
 }
 
-/// Adds the awards of the ask whose entry stands at that place.
+/// Adds the awards of the ask whose entry is at that place.
 pub(crate) fn sell(ledger: &mut Ledger, ask: &Ask, place: u32)
     requires now { ask.now.now < 2 ^ 63 }
     requires room { length (ask_awards place ask.now) ≤ ledger.old.room }

@@ -71,7 +71,7 @@ impl Waiting {
     }
 }
 
-/// Puts the bytes of an entry behind those in a frame, where there is one, without memory.
+/// Puts the bytes of an entry after those in a frame, where there is one, without memory.
 fn put_behind(format: u8, frame: &mut Frame, entry: Option<Entry>)
     requires kind { IfSome entry IsNoticeOrMoment }
     requires room { 11 ≤ frame.old.spare }
@@ -89,7 +89,7 @@ fn put_behind(format: u8, frame: &mut Frame, entry: Option<Entry>)
     }
 }
 
-/// The answer of a day as it stands to each notice, and in the frame the bytes of all their entries.
+/// The answer of a day as it is to each notice, and in the frame the bytes of all their entries.
 pub(crate) fn plan_all(
     format: u8,
     day: &Day,
@@ -115,7 +115,7 @@ pub(crate) fn plan_all(
     }
 }
 
-/// Adds to a day the entry of a notice, where its reply adds one, and tells how many awards have no end then.
+/// Adds to a day the entry of a notice, where its reply adds one, and says how many awards have no end then.
 fn commit(day: &mut MeteredDay, without_end: u64, call: &Waiting) -> u64
     requires legal { IsDay day.old.terms day.old.history }
     requires counted { without_end ≡ open_count (awards_of day.old.history) }
@@ -134,7 +134,7 @@ fn commit(day: &mut MeteredDay, without_end: u64, call: &Waiting) -> u64
     }
 }
 
-/// Adds to a day the entries of notices in their order, and tells how many awards have no end then.
+/// Adds to a day the entries of notices in their order, and says how many awards have no end then.
 pub(crate) fn commit_all(day: &mut MeteredDay, without_end: u64, calls: &[Waiting]) -> u64
     requires legal { IsDay day.old.terms day.old.history }
     requires counted { without_end ≡ open_count (awards_of day.old.history) }

@@ -47,6 +47,7 @@ pub record DayPlace : Type 0 where
   pub messages : List Message
   pub replies : List Reply
 
+-- a campaign's whole budget, and the exchanges that share it, each with the history of its day
 pub record DayWorld : Type 0 where
   pub whole : ℕ
   pub places : List DayPlace
@@ -83,13 +84,16 @@ day_joined terms campaign = record {
   replies = [];
 }
 
+-- the ledger of an exchange after it was asked for this budget
 abbrev pub day_asks : ℕ → DayPlace → DayPlace
 day_asks budget p = record p { share = asked p.share budget }
 
+-- an exchange to which this change is sent, once more perhaps; without a change nothing is
 abbrev pub day_sent : DayPlace → Option ℕ → DayPlace
 day_sent p None = p
 day_sent p (Some budget) = record p { messages = record { number = p.share.number; budget = budget } ∷ p.messages }
 
+-- the change that the ledger has under way is sent, if there is one
 abbrev pub day_sends : DayPlace → DayPlace
 day_sends p = day_sent p p.share.intended
 
@@ -104,20 +108,25 @@ answered_by p m done =
     record p { history = with_entry p.history r.entry; replies = told m.number (done_of r.answer) p.replies }
 answered_by p m faulted = p
 
+-- a message comes, if there is one, and the call that it makes ends so
 abbrev pub day_came : DayPlace → Option Message → Outcome → DayPlace
 day_came p None outcome = p
 day_came p (Some m) outcome = answered_by p m outcome
 
+-- one of the messages that were sent comes; it may have come before
 abbrev pub day_comes : ℕ → Outcome → DayPlace → DayPlace
 day_comes which outcome p = day_came p (nth p.messages which) outcome
 
+-- a reply comes back to the ledger; where there is none, nothing happens
 abbrev pub day_heard : DayPlace → Option Reply → DayPlace
 day_heard p None = p
 day_heard p (Some r) = record p { share = settled p.share r.number r.done }
 
+-- one of the replies that were sent comes back; it may have come before
 abbrev pub day_hears : ℕ → DayPlace → DayPlace
 day_hears which p = day_heard p (nth p.replies which)
 
+-- an exchange's day after a call that isn't from its controllers
 abbrev pub day_turns : Turn → DayPlace → DayPlace
 day_turns turn p = record p { history = after_turn p.terms p.history turn }
 
@@ -125,6 +134,7 @@ day_turns turn p = record p { history = after_turn p.terms p.history turn }
 abbrev pub day_allowed : DayWorld → DayWorld → DayWorld
 day_allowed old new = if nat_le (may_have_of (map seen new.places)) new.whole then new else old
 
+-- the world after one event
 abbrev pub day_happens : DayWorld → DayEvent → DayWorld
 day_happens w (DayEvent.Joins terms campaign) =
     day_allowed w (record { whole = w.whole; places = day_joined terms campaign ∷ w.places })
@@ -175,6 +185,7 @@ abbrev pub day_run : List DayEvent → DayWorld → DayWorld
 day_run [] w = w
 day_run (e ∷ es) w = day_run es (day_happens w e)
 
+-- each event may happen in the world that those before it leave
 abbrev pub MayAllHappen : DayWorld → List DayEvent → Type 0
 MayAllHappen w [] = Unit {0}
 MayAllHappen w (e ∷ es) = MayHappen w e × MayAllHappen (day_happens w e) es
@@ -184,6 +195,8 @@ pub record IsWithin (w : DayWorld) : Type 0 where
   pub budgets : had_of (map seen w.places) ≤ w.whole
   pub committed : committed_of (map seen w.places) ≤ w.whole
 
+-- Whatever happens, in any order, the exchanges' budgets never come to more than the whole, and neither does the money
+-- that they have committed.
 abbrev pub NeverMoreThanTheWhole : Type 0
 NeverMoreThanTheWhole = (events : List DayEvent) → MayAllHappen day_start events → IsWithin (day_run events day_start)
 
@@ -193,6 +206,8 @@ pub record IsTakenAs (b : Budget) (m : Message) (told : Option Bool) (after : Bu
   pub some : (is : Bool) → told ≡ Some is → (is ≡ is_done b m.number m.budget) × (after ≡ taken b m.number m.budget)
   pub none : told ≡ None → after ≡ b
 
+-- On a day with a legal history, a change of a campaign's budget is answered as the machine of shares answers it, and
+-- leaves the budget that the machine leaves.
 abbrev pub AChangeIsTaken : Type 0
 AChangeIsTaken =
     (terms : Terms) (history : List Entry) (campaign : ℕ) (m : Message) → IsLegal terms history → campaign < length terms.budgets
