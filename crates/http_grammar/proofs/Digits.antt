@@ -110,7 +110,7 @@ all_parts P (x ∷ xs) ys all =
     let rest = all_parts P xs ys (All-tail P x (xs ++ ys) all) in
     (All-cons P x xs (All-head P x (xs ++ ys) all) rest.0, rest.1)
 
--- the longer number is the shorter one exactly where zeros stand before the same digits
+-- the longer number is the shorter one exactly where zeros come before the same digits
 pub padding_from : (long front back short : List ℕ) → long ≡ front ++ back → length back ≡ length short → AllPass is_ascii_digit long → AllPass is_ascii_digit short → digits_value 10 long ≡ digits_value 10 short → All (λ b. b ≡ 48) front × (back ≡ short)
 padding_from long front back short split same longs shorts equal =
     let parts = all_parts (λ b. IsTrue (is_ascii_digit b)) front back (subst (AllPass is_ascii_digit) split longs) in

@@ -53,7 +53,7 @@ name_no_bracket [] port rest is (inr some) e = let b : ◌≡◌ {A = ℕ} 91 58
 name_no_bracket (x ∷ name) port rest is ends e =
     let first : x ≡ 91 = cc in byte_is_not 91 mark_no_left (omega arith) (x ∷ name) 0 (is 0 (omega arith)) first
 
--- behind a left bracket a host value is an address, and else a name
+-- after a left bracket a host value is an address, and else a name
 pub bracketed : (rest : List ℕ) → IsHostValue (91 ∷ rest) → (inner port : List ℕ) × IsAddress inner × IsPort port × (rest ≡ inner ++ 93 ∷ port)
 bracketed rest value = elim value.2 [
   | inl name ↦ absurd (name_no_bracket value.0 value.1 rest name value.3 value.4)

@@ -26,6 +26,8 @@ is_element word element = str_eq_ignore_ascii_case (trim_ows element) word
 abbrev pub names_word : List ℕ → List ℕ → Bool
 names_word word value = list_any (is_element word) (slice_split is_comma value)
 
+-- whether each element of the list, whose elements commas part, is the word
+-- Example: `identity, Identity` names only `identity`.
 abbrev pub names_only : List ℕ → List ℕ → Bool
 names_only word value = list_all (is_element word) (slice_split is_comma value)
 
@@ -41,11 +43,11 @@ lengths fields = values_of (codes "content-length") fields
 abbrev pub transfer_codings : List (List ℕ × List ℕ) → List (List ℕ)
 transfer_codings fields = values_of (codes "transfer-encoding") fields
 
--- whether the other side closes the connection behind this message
+-- whether the other side closes the connection after this message
 abbrev pub says_close : List (List ℕ × List ℕ) → Bool
 says_close fields = list_any (names_word (codes "close")) (values_of (codes "connection") fields)
 
--- whether no content coding but `identity` stands in the head
+-- whether no content coding but `identity` is in the head
 abbrev pub is_plain : List (List ℕ × List ℕ) → Bool
 is_plain fields = list_all (names_only (codes "identity")) (values_of (codes "content-encoding") fields)
 
@@ -75,7 +77,7 @@ is_mark b = is_ascii_alphanumeric b || list_any (λ m. m == b) (codes "-._~!$&'(
 abbrev pub percent : ℕ
 percent = 37
 
--- at this place stands a mark, or a percent sign that two hexadecimal digits follow
+-- there is a mark at this place, or a percent sign that two hexadecimal digits follow
 abbrev pub IsHostByte : List ℕ → ℕ → Type 0
 IsHostByte host k =
     IsTrue (is_mark (slice_index host k))
@@ -106,6 +108,8 @@ IsHost host = IsHostName host ⊎ ((inner : List ℕ) × IsAddress inner × (hos
 abbrev pub IsPort : List ℕ → Type 0
 IsPort port = (port ≡ []) ⊎ ((digits : List ℕ) × AllPass is_ascii_digit digits × (port ≡ colon ∷ digits))
 
+-- the value of a field Host: a host, and perhaps a port
+-- Example: `ads.example.com:8080`, `[::1]:80` and the empty text are such values.
 abbrev pub IsHostValue : List ℕ → Type 0
 IsHostValue value = (host port : List ℕ) × IsHost host × IsPort port × (value ≡ host ++ port)
 

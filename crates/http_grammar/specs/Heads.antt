@@ -1,4 +1,4 @@
--- What a response's head that stands alone in its bytes is read as: this head, whose parts the spans cover, or no head with so
+-- What a response's head that is alone in its bytes is read as: this head, whose parts the spans cover, or no head with so
 -- few fields.
 use Rattle.std.specs.Prelude.{ℕ, ◌≤◌, List, [], length, map, All, Option, Some, None}
 use Rattle.httparse.specs.Grammar.{ResponseHead, ReadsResponse}

@@ -22,6 +22,7 @@ verb_of_method method =
 abbrev pub pairs : RequestHead → List (List ℕ × List ℕ)
 pairs h = map name_and_value h.fields
 
+-- the names and the values of a response's fields
 abbrev pub response_pairs : ResponseHead → List (List ℕ × List ℕ)
 response_pairs h = map name_and_value h.fields
 
@@ -69,6 +70,7 @@ RefusesRequest room limit head fault =
     ((fault ≡ HttpFault.BadHead) × ((h : RequestHead) → ReadsRequest head h [] → length h.fields ≤ room → ⊥))
     ⊎ ((h : RequestHead) × ReadsRequest head h [] × FailsRequest limit h.minor (is_post h) (pairs h) fault)
 
+-- the bytes are a response's head that passes each test, and the parts are its
 pub record SaysResponse (limit : ℕ) (head : List ℕ) (parts : ResponseParts) : Type 0 where
   pub h : ResponseHead
   pub reads : ReadsResponse head h []

@@ -6,7 +6,7 @@ use std::fmt;
 pub enum HttpFault {
     /// The bytes up to the empty line aren't a head of the grammar, or its fields don't agree.
     BadHead,
-    /// So many bytes hold no whole head, or more than 64 lines stand behind its first.
+    /// So many bytes hold no whole head, or more than 64 lines come after its first.
     HeadTooLong,
     /// A POST says no length.
     LengthRequired,

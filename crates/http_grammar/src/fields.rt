@@ -57,7 +57,7 @@ pub(crate) fn values_named<'a>(head: &'a [u8], spans: &[HeaderSpan], name: &[u8]
     found
 }
 
-/// Whether no content coding but `identity` stands in the head.
+/// Whether no content coding but `identity` is in the head.
 pub(crate) fn has_plain_body(head: &[u8], spans: &[HeaderSpan]) -> bool
     requires { AreWithin head.now spans.now }
     ensures { result ≡ is_plain (pairs_at head.now spans.now) }
@@ -71,7 +71,7 @@ pub(crate) fn has_plain_body(head: &[u8], spans: &[HeaderSpan]) -> bool
     true
 }
 
-/// Whether the other side closes the connection behind this message.
+/// Whether the other side closes the connection after this message.
 pub(crate) fn has_close(head: &[u8], spans: &[HeaderSpan]) -> bool
     requires { AreWithin head.now spans.now }
     ensures { result ≡ says_close (pairs_at head.now spans.now) }

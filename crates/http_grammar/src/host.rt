@@ -52,7 +52,7 @@ fn is_name_byte(b: u8) -> bool
     MARKS[b as usize]
 }
 
-/// How many letters, digits and marks stand in front.
+/// How many letters, digits and marks come first.
 fn marks_in(value: &[u8]) -> usize
     ensures within { result ≤ length value.now }
     ensures marks { (k : ℕ) → k < result → IsTrue (is_mark (slice_index value.now k)) }
@@ -64,7 +64,7 @@ fn marks_in(value: &[u8]) -> usize
     end
 }
 
-/// Whether a character of a host's name stands at this place.
+/// Whether a character of a host's name is at this place.
 fn is_host_byte(host: &[u8], k: usize) -> bool
     requires { k < length host.now }
     ensures { IsTrue result ↔ IsHostByte host.now k }
@@ -78,7 +78,7 @@ fn is_host_byte(host: &[u8], k: usize) -> bool
         && host[k + 2].is_ascii_hexdigit()
 }
 
-/// Whether characters of a host's name stand at each place.
+/// Whether characters of a host's name are at each place.
 fn is_host_name(host: &[u8]) -> bool
     ensures { IsTrue result ↔ IsHostName host.now }
 {
@@ -90,7 +90,7 @@ fn is_host_name(host: &[u8]) -> bool
     true
 }
 
-/// Whether characters of a host's name or colons stand at each place.
+/// Whether characters of a host's name or colons are at each place.
 fn is_address(inner: &[u8]) -> bool
     ensures { IsTrue result ↔ IsAddress inner.now }
 {
@@ -147,7 +147,7 @@ fn is_name_and_port(value: &[u8]) -> bool
     is_escaped_name_and_port(value)
 }
 
-/// Whether the bytes behind a left bracket are an address, a right one, and then nothing or a port.
+/// Whether the bytes after a left bracket are an address, a right one, and then nothing or a port.
 fn is_address_and_port(rest: &[u8]) -> bool
     ensures { IsTrue result ↔ ((inner port : List ℕ) × IsAddress inner × IsPort port × (rest.now ≡ inner ++ right_bracket ∷ port)) }
 {

@@ -3,7 +3,7 @@
 //! `request_parts` and `response_parts` say what a head says, or the first test that it fails: the
 //! grammar of `httparse`, the host, how the body is framed, its coding, a missing length, and the
 //! length against the limit. A contract speaks of the head's fields, and of no offset but a target's.
-//! Stands on `httparse` and `memchr`.
+//! Uses `httparse` and `memchr`.
 #![tactic(auto)]
 
 mod fault;

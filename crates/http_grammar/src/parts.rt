@@ -20,7 +20,7 @@ use httparse::spans::{HeaderSpan, RequestSpans, Span, parse_request};
 pub struct RequestParts {
     /// The kind of its method.
     pub verb: Verb,
-    /// Where its target stands in the head.
+    /// Where its target is in the head.
     pub target: Span,
     /// Whether the connection stays: HTTP/1.1 without `Connection: close`.
     pub keep: bool,
@@ -47,7 +47,7 @@ pub struct FirstRequest {
     pub parts: Result<RequestParts, HttpFault>,
 }
 
-/// Whether a connection stays behind a request.
+/// Whether a connection stays after a request.
 fn stays(minor: u8, bytes: &[u8], fields: &[HeaderSpan]) -> bool
     requires { AreWithin bytes.now fields.now }
     ensures { result ≡ ((minor == 1) && not (says_close (pairs_at bytes.now fields.now))) }
@@ -55,7 +55,7 @@ fn stays(minor: u8, bytes: &[u8], fields: &[HeaderSpan]) -> bool
     minor == 1 && !has_close(bytes, fields)
 }
 
-/// What a head says whose parts stand there in the bytes.
+/// What a head says whose parts are there in the bytes.
 fn parts_at(
     found: RequestSpans,
     bytes: &[u8],

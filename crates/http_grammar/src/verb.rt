@@ -1,8 +1,8 @@
-//! The kinds of methods that are told apart.
+//! The kinds of methods that are distinguished.
 ghost use Rattle.std.specs.Prelude.{◌≡◌};
 ghost use Rattle.http_grammar.specs.Requests.{verb_of_method};
 
-/// The kinds of methods that are told apart (RFC 9110, section 9).
+/// The kinds of methods that are distinguished (RFC 9110, section 9).
 #[derive(Clone, Copy, Debug, PartialEq, Eq)]
 pub enum Verb {
     Get,

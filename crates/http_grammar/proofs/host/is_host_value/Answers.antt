@@ -1,4 +1,4 @@
--- Behind a left bracket stands an address, and else a name.
+-- After a left bracket comes an address, and else a name.
 use Rattle.std.proofs.Common.{◌≡◌, ◌∷◌, sym, ap, ◌∙◌, subst, inl}
 use Rattle.http_grammar.specs.Fields.{IsHostValue}
 use Rattle.http_grammar.proofs.Hosts.{from_address, bracketed, unbracketed}

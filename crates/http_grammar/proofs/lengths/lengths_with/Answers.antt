@@ -1,4 +1,4 @@
--- A length that means another number, or one behind an unsound one, makes the lengths unsound.
+-- A length that means another number, or one after an unsound one, makes the lengths unsound.
 use Rattle.std.proofs.Common.{◌∷◌, [], cond, sym, ◌∙◌, subst}
 use Rattle.std.proofs.lemmas.Bool.{false≢true}
 use Rattle.http_grammar.specs.Fields.{IsLength}

@@ -1,4 +1,4 @@
--- What stands between the two places is trimmed to what the bytes are trimmed to.
+-- What is between the two places is trimmed to what the bytes are trimmed to.
 use Rattle.std.proofs.Common.{◌≡◌, ◌-◌, ◌≤◌, length, reverse, slice_range}
 use Rattle.httparse.specs.Grammar.{skip_ows, trim_ows}
 use Rattle.http_grammar.proofs.words.trimmed.Given as goal
