@@ -55,6 +55,7 @@ pub record Plan : Type 0 where
   pub starts : List Planned
   pub past_end : Planned
 
+-- what the next start does
 abbrev pub next_start : Plan → Planned
 next_start p = get_or p.starts 0 p.past_end
 
@@ -69,6 +70,7 @@ pub record Connection : Type 0 where
   pub put_fails : Bool
   pub take_fails : Option ℕ
 
+-- the connection that a planned start begins: nothing is answered yet
 abbrev pub connection_of : Planned → Connection
 connection_of p = record { tape = record { taken = []; left = p.bytes }; put_fails = p.put_fails; take_fails = p.take_fails }
 
