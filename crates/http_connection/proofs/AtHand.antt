@@ -52,7 +52,7 @@ pub record IsPassing (limit room : ℕ) (bytes rest : List ℕ) : Type 0 where
 pub passing_none : (limit : ℕ) (bytes : List ℕ) → IsPassing limit limit bytes bytes
 passing_none limit bytes = record { b = []; has = ([], record { each = All-nil IsChunk; within = omega arith; bytes_are = refl }, refl); count = omega arith }
 
--- what stands behind a chunk's data
+-- what comes after a chunk's data
 abbrev pub IsBehind : List ℕ → ℕ → List ℕ → Type 0
 IsBehind bytes size rest = (b : List ℕ) × (length b ≡ size) × (bytes ≡ (b ++ crlf_bytes) ++ rest)
 

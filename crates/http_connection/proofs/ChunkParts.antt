@@ -87,7 +87,7 @@ line_open before mid old new t p end =
     subst IsOpenLine (sym all) (p.is_line, p.short))
     (flow before mid old new t)
 
--- two bytes stand at the front
+-- two bytes are at the front
 pub two_of : (bytes : List ℕ) → 2 ≤ length bytes → (x y : ℕ) × (rest : List ℕ) × (bytes ≡ x ∷ y ∷ rest)
 two_of [] le = absurd (omega (arith, le))
 two_of (x ∷ []) le = absurd (omega (arith, le))

@@ -12,7 +12,7 @@ use Rattle.http_connection.specs.Lines.{IsLine, ended}
 use Rattle.http_connection.specs.HeadEnds.{IsEmpty, BeginsWithHead}
 use Rattle.http_connection.proofs.HeadWalk.{empty_is_line, fulls_are_lines}
 
--- how many line feeds stand in the bytes
+-- how many line feeds are in the bytes
 abbrev feeds : List ℕ → ℕ
 feeds [] = 0
 feeds (b ∷ bytes) = cond (b == 10) (suc (feeds bytes)) (feeds bytes)
@@ -99,7 +99,7 @@ pub flat_both : (a b : List (List ℕ)) → flat_map ended (a ++ b) ≡ flat_map
 flat_both [] b = refl
 flat_both (x ∷ a) b = ap (λ l. ended x ++ l) (flat_both a b) ∙ sym (append_assoc (ended x) (flat_map ended a) (flat_map ended b))
 
--- behind the empty lines, a head has a line feed for each line
+-- after the empty lines, a head has a line feed for each line
 head_feeds : {bytes head rest : List ℕ} → (h : BeginsWithHead bytes head rest) → feeds (skip head) ≤ length (BeginsWithHead.lines h) + 2
 head_feeds {head = head} h =
     let lines = (h.first ∷ h.lines) ++ h.last ∷ [] in
@@ -119,7 +119,7 @@ section_feeds fields last =
     let c = feeds_end last in
     omega (arith, a, b, c)
 
--- bytes in front don't lessen the count
+-- bytes before don't lessen the count
 feeds_behind : (a b : List ℕ) (n : ℕ) → n ≤ feeds b → n ≤ feeds (a ++ b)
 feeds_behind a b n le = let e = feeds-append a b in omega (arith, e, le)
 

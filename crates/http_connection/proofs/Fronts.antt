@@ -14,7 +14,7 @@ use Rattle.http_connection.specs.Messages.{FailsRequestAt, FailsWithoutHead, Fai
 use Rattle.http_connection.specs.Laws.{RequestStays, RequestFaultStays, ResponseStays, ResponseFaultStays}
 use Rattle.http_connection.proofs.OneHead.{begins_more, no_head_more}
 
--- more behind a front and a rest is more behind the rest
+-- more after a front and a rest is more after the rest
 behind : (bytes front rest more : List ℕ) → bytes ≡ front ++ rest → bytes ++ more ≡ front ++ (rest ++ more)
 behind bytes front rest more e = ap (λ l. l ++ more) e ∙ append_assoc front rest more
 

@@ -80,7 +80,7 @@ fulls n m (x ∷ lines) are e = by_case (fulls (n + 1) m lines (All-tail IsLine 
         let rest = more w in
         (All-cons IsFull x lines (record { is_line = All-head IsLine x lines are; some = is }) rest.0, omega (arith, rest.1))
 
--- lines of which some isn't empty, and none is behind that
+-- lines of which some isn't empty, and none is after that
 pub record Splits (done : List (List ℕ)) (n : ℕ) : Type 0 where
   pub before : List (List ℕ)
   pub first : List ℕ
@@ -185,7 +185,7 @@ pub stepped : (at end : ℕ) (w next : Walk) (b : Bool) (bytes now : List ℕ) �
     → next ≡ step w (is_empty_line (drop at (take (end - 1) now)))
 stepped at end w next b bytes now is line same = is ∙ ap (step w) (line ∙ ap (λ l. is_empty_line (drop at (take (end - 1) l))) same)
 
--- only an empty line behind a line that isn't ends a head
+-- only an empty line after a line that isn't ends a head
 pub step_over : (w : Walk) (b : Bool) (n : ℕ) → ((m : ℕ) → w ≡ Walk.Over m → ⊥) → Walk.Over n ≡ step w b → (w ≡ Walk.Full n) × (b ≡ true)
 step_over Walk.Blank true n not e = absurd (cc)
 step_over Walk.Blank false n not e = absurd (cc)

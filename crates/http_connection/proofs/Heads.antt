@@ -38,7 +38,7 @@ few_lines p left end h = let c = HeadEndsAt.count (HasHead.ends h) in let f = Ha
 pub head_short : (p : List ℕ) (end lines : ℕ) → (h : HeadEndsAt p end lines) → end ≤ HEAD_LIMIT
 head_short p end lines h = let s = BeginsWithHead.short (HeadEndsAt.begins h) in let l = length-take-le end p (HeadEndsAt.within h) in omega (arith, s, l)
 
--- the head that is kept, and the body behind it
+-- the head that is kept, and the body after it
 pub kept_parts : (start now : BufferState) (end : ℕ) (b : List ℕ) → start.kept ≡ [] → end ≤ length start.pending → now.kept ≡ (start.kept ++ take end start.pending) ++ b
     → (take end now.kept ≡ take end start.pending) × (drop end now.kept ≡ b) × (end ≤ length now.kept)
 kept_parts start now end b none within is =
@@ -117,7 +117,7 @@ nothing_comes start mid old new t none end =
     (λ o n last e. let all : coming mid n ≡ [] = ap (λ l. l ++ n.left) none ∙ last in (e ∙ all, all))
     (flow start mid old new t)
 
--- behind a head there is room for any body
+-- after a head there is room for any body
 pub body_room : (start kept : BufferState) (end limit : ℕ) → start.kept ≡ [] → HasHead start.pending end → kept ≡ keeping start end → start.room ≡ 2 * HEAD_LIMIT + limit + PIECE → length kept.kept + limit + HEAD_LIMIT + 2 ≤ kept.room
 body_room start kept end limit none h is room =
     let short = head_short start.pending end (HasHead.lines h) (HasHead.ends h) in

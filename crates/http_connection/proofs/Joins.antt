@@ -70,7 +70,7 @@ joining_more limit room size next before at line now old mid m2 new j l d some f
           (λ m k n c e. (coming line k, c, e)) l.1 d.3);
     }
 
--- what is wrong behind the chunks is wrong with the body
+-- what is wrong after the chunks is wrong with the body
 fails : (limit room : ℕ) (before at : BufferState) (old mid new : Option Tape) (fault : ChunkFault) → (j : IsJoining limit room before at old mid)
     → WhereTold mid new (λ m n. FailsAt limit (length (IsJoining.b j)) (coming at m) fault) → WhereTold old new (λ o n. FailsChunks limit (coming before o) fault)
 fails limit room before at old mid new fault j w =
@@ -91,7 +91,7 @@ line_fronts size = λ bytes rest old new c. record {
   bytes_are = front_is bytes (print_chunk_line (BeginsChunk.line c)) rest old new (BeginsChunk.bytes_are c);
 }
 
--- what came behind the chunks ends within one
+-- what came after the chunks ends within one
 unread : (limit room : ℕ) (before at : BufferState) (old mid new : Option Tape) → (j : IsJoining limit room before at old mid) → Advances old mid
     → HasGiven at mid new (λ bytes. FailsAt limit (length (IsJoining.b j)) bytes ChunkFault.cut) → HasGiven before old new (λ bytes. FailsChunks limit bytes ChunkFault.cut)
 unread limit room before at old mid new j a w =
@@ -185,7 +185,7 @@ trailer_ends limit room size before at line now old mid m2 new (Err HttpFault.He
 trailer_ends limit room size before at line now old mid m2 new (Err HttpFault.LengthRequired) j a l v none t = t
 trailer_ends limit room size before at line now old mid m2 new (Err HttpFault.Coding) j a l v none t = t
 
--- the count stood before the step that failed
+-- the count before the step that failed
 pub reads_fault : (T U : Type 0) (a b c : ℕ) (fault : HttpFault) → b ≡ a → ReadsBy {T = T} b c (Err fault) → ReadsBy {T = U} a c (Err fault)
 reads_fault T U a b c HttpFault.ReadFault e r = subst (λ n. (n ≤ c) × Rises n c) e r
 reads_fault T U a b c HttpFault.BadHead e r = r ∙ e

@@ -8,7 +8,7 @@ use Rattle.http_connection.specs.declared.bodies.Body.{Body}
 use Rattle.http_grammar.specs.declared.fault.HttpFault.{HttpFault}
 use Rattle.http_connection.proofs.OneChunk.{one_line, one_chunk, one_trailer, one_fault, same_front, begins_chunk, end_not_fault, chunk_not_fault}
 
--- some chunks, and those that stand behind them
+-- some chunks, and those that come after them
 record GoesOn (cs ds : List Chunk) (p q : List ℕ) : Type 0 where
   more : List Chunk
   all : ds ≡ cs ++ more
@@ -31,7 +31,7 @@ nested (c ∷ cs) (d ∷ ds) p q is js e =
     behind e (inl g) = inl (goes_on_cons c d cs ds p q e g)
     behind e (inr g) = inr (goes_on_cons d c ds cs q p (sym e) g)
 
--- the first of the chunks behind others
+-- the first of the chunks after others
 first_of : (cs more : List Chunk) (c : Chunk) → All IsChunk (cs ++ c ∷ more) → IsChunk c
 first_of [] more c all = All-head IsChunk c more all
 first_of (x ∷ cs) more c all = first_of cs more c (All-tail IsChunk x (cs ++ c ∷ more) all)
@@ -43,7 +43,7 @@ joined_to (x ∷ cs) more c =
     let less = joined_to cs more c in
     omega (arith, less, length-append x.bytes (joined cs), length-append x.bytes (joined (cs ++ c ∷ more)))
 
--- behind chunks the last line stands where no chunk does
+-- after chunks the last line is where no chunk is
 end_not_chunk : (p : List ℕ) (c : Chunk) (rest behind : List ℕ) → IsChunk c → p ≡ print_chunk c ++ rest → BeginsChunk p 0 behind → ⊥
 end_not_chunk p c rest behind is e z =
     let b = subst (λ l. BeginsChunk l 0 behind) e z in
@@ -75,7 +75,7 @@ one_chunked limit bytes body rest body2 rest2 a b =
     by_order (inl g) = let e = ends_there a.chunks b.chunks a.last b.last a.behind (HasChunks.each b.before) a.zero g in alike (sym e.0) e.1
     by_order (inr g) = let e = ends_there b.chunks a.chunks b.last a.last b.behind (HasChunks.each a.before) b.zero g in alike e.0 (sym e.1)
 
--- behind some of the chunks that are within the limit stands no fault
+-- after some of the chunks that are within the limit there is no fault
 within_not_fault : (limit : ℕ) (cs ds : List Chunk) (p q : List ℕ) (f : ChunkFault) → All IsChunk ds → length (joined ds) ≤ limit → (g : GoesOn cs ds p q) → FailsAt limit (length (joined cs)) p f → (ds ≡ cs) × (p ≡ q)
 within_not_fault limit cs ds p q f js fits g x = by_more g.more g.all g.rest
   where
@@ -119,7 +119,7 @@ one_body limit (Body.Sized n) bytes body rest body2 rest2 a b = same_front body 
 one_body limit Body.Chunked bytes body rest body2 rest2 a b = one_chunked limit bytes body rest body2 rest2 a b
 one_body limit Body.ToEnd bytes body rest body2 rest2 a b = (a.0 ∙ sym b.0, a.1 ∙ sym b.1)
 
--- the fault that stands for a fault of chunks
+-- the fault that represents a fault of chunks
 abbrev fault_of : ChunkFault → HttpFault
 fault_of ChunkFault.bad = HttpFault.BadChunk
 fault_of ChunkFault.too_long = HttpFault.BodyTooLong

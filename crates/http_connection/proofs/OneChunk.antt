@@ -1,4 +1,4 @@
--- What stands first in a body of chunks: a chunk, its end or a fault, and one of them alone.
+-- What comes first in a body of chunks: a chunk, its end or a fault, and one of them alone.
 use Rattle.std.proofs.Common.{◌≡◌, ◌≢◌, ◌⊎◌, ℕ, ◌+◌, ◌<◌, ◌≤◌, List, [], ◌∷◌, ◌++◌, length, take, drop, All, Bool, false, refl, sym, ap, subst, ◌∙◌, append_assoc, append-nil, arith, length-append, inl, inr, Option, Some, None, IsTrue}
 use Rattle.std.specs.List.{flat_map}
 use Rattle.std.proofs.lemmas.Bool.{cases_lt}
@@ -156,7 +156,7 @@ trailer_not_bad : (bytes trailer rest : List ℕ) → IsTrailer trailer → byte
 trailer_not_bad bytes trailer rest t e (inl (lines, rest2, full, many, e2, short)) = trailer_not_many trailer rest rest2 t lines full many (sym e2 ∙ e)
 trailer_not_bad bytes trailer rest t e (inr long) = long.1 trailer rest t e
 
--- a chunk's line, and what stands behind it
+-- a chunk's line, and what comes after it
 abbrev pub begins_chunk : (c : Chunk) (rest : List ℕ) → IsChunk c → BeginsChunk (print_chunk c ++ rest) (length c.bytes) (c.bytes ++ (crlf_bytes ++ rest))
 begins_chunk c rest is = record {
   line = c.line;
@@ -172,7 +172,7 @@ same_front a b p q n e =
     let front : a ≡ b = sym (take_at a p (length a) refl) ∙ ap (take (length a)) e ∙ take_at b q (length a) (sym n) in
     (front, sym (drop_at a p (length a) refl) ∙ ap (drop (length a)) e ∙ drop_at b q (length a) (sym n))
 
--- one chunk stands first
+-- one chunk comes first
 pub one_chunk : (c d : Chunk) (p q : List ℕ) → IsChunk c → IsChunk d → print_chunk c ++ p ≡ print_chunk d ++ q → (c ≡ d) × (p ≡ q)
 one_chunk c d p q is js e =
     let a = begins_chunk c p is in
@@ -218,7 +218,7 @@ long_cut limit n bytes (size, rest, b, some, more) (inl y) = line_not_open bytes
 long_cut limit n bytes (size, rest, b, some, more) (inr (inl (rest2, b2, t2))) = let e = sizes bytes size 0 rest rest2 b b2 in omega (arith, e, some)
 long_cut limit n bytes (size, rest, b, some, more) (inr (inr (size2, rest2, b2, some2, fits, short))) = let e = sizes bytes size size2 rest rest2 b b2 in omega (arith, e, fits, more)
 
--- behind chunks that were read stands one fault
+-- after chunks that were read there is one fault
 pub one_fault : (limit n : ℕ) (bytes : List ℕ) (f g : ChunkFault) → FailsAt limit n bytes f → FailsAt limit n bytes g → f ≡ g
 one_fault limit n bytes ChunkFault.bad ChunkFault.bad x y = refl
 one_fault limit n bytes ChunkFault.too_long ChunkFault.too_long x y = refl
@@ -242,7 +242,7 @@ end_not_fault limit n bytes behind trailer rest ChunkFault.cut z t e (inr (inl (
     unended.1 trailer rest t ((one_line bytes 0 0 rest2 behind b z).1 ∙ e)
 end_not_fault limit n bytes behind trailer rest ChunkFault.cut z t e (inr (inr (size, rest2, b, some, fits, short))) = let k = sizes bytes size 0 rest2 behind b z in omega (arith, k, some)
 
--- nor where a chunk within the limit stands
+-- nor where there is a chunk within the limit
 pub chunk_not_fault : (limit n : ℕ) (c : Chunk) (rest : List ℕ) (f : ChunkFault) → IsChunk c → n + length c.bytes ≤ limit → FailsAt limit n (print_chunk c ++ rest) f → ⊥
 chunk_not_fault limit n c rest f is fits x = by_fault f x
   where

@@ -11,7 +11,7 @@ use Rattle.http_connection.specs.declared.head.TheConstants.{HEAD_LIMIT}
 use Rattle.http_connection.specs.declared.head.Walk.{Walk}
 use Rattle.http_connection.proofs.HeadWalk.{among, walk_append, walk_over, walk_blank, walk_full, head_lines, are_head_lines, head_walk}
 
--- what stands before the last of some lines begins with those before it
+-- what comes before the last of some lines begins with those before it
 pub before_last : {T : Type 0} (front : List T) (x : T) (a : List T) (z : T) (more : List T) → front ++ x ∷ [] ≡ a ++ z ∷ more → (rest : List T) × (front ≡ a ++ rest)
 before_last front x [] z more e = (front, refl)
 before_last [] x (y ∷ a) z more e = let n = ap length e in absurd (omega (arith, n, length-append a (z ∷ more)))
@@ -27,7 +27,7 @@ front_walk h =
     walk_append Walk.Blank h.before (h.first ∷ h.lines) ∙ ap (λ w. walk w (h.first ∷ h.lines)) (walk_blank h.before h.empty)
     ∙ ap (λ b. walk (step Walk.Blank b) h.lines) (IsFull.some (All-head IsFull h.first h.lines h.full)) ∙ walk_full 0 h.lines (All-tail IsFull h.first h.lines h.full)
 
--- no head goes on behind another
+-- no head goes on after another
 no_more : {bytes head rest head2 rest2 : List ℕ} → (a : BeginsWithHead bytes head rest) → (b : BeginsWithHead bytes head2 rest2) → (more : List (List ℕ)) → head_lines b ≡ head_lines a ++ more → head_lines b ≡ head_lines a
 no_more a b [] e = e ∙ append-nil (head_lines a)
 no_more a b (z ∷ more) e =

@@ -1,4 +1,4 @@
--- A head of the grammar as lines: the empty ones before it, its first line, its fields and the empty line behind them.
+-- A head of the grammar as lines: the empty ones before it, its first line, its fields and the empty line after them.
 use Rattle.std.proofs.Common.{◌≡◌, ◌≢◌, ℕ, ◌+◌, ◌<◌, ◌≤◌, List, [], ◌∷◌, ◌++◌, length, take, drop, map, All, Bool, true, false, refl, sym, ap, subst, ◌∙◌, append_assoc, append-nil, arith, length-append, IsTrue, ◌&&◌, not}
 use Rattle.std.specs.Prelude.{◌==◌, codes}
 use Rattle.std.specs.List.{flat_map, list_all}

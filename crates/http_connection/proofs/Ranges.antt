@@ -8,7 +8,7 @@ use Rattle.std.proofs.lemmas.List.{take-take, drop-drop, drop-append-le, take-ap
 pub part_below : {X : Type 0} (xs ys : List X) (i j n : ℕ) → j ≤ n → take n xs ≡ take n ys → drop i (take j xs) ≡ drop i (take j ys)
 part_below xs ys i j n le e = ap (drop i) (sym (take-take j n xs le) ∙ ap (take j) e ∙ take-take j n ys le)
 
--- a part is the front of what stands behind a place
+-- a part is the front of what comes after a place
 pub part_is : {X : Type 0} (xs : List X) (i n : ℕ) → drop i (take (i + n) xs) ≡ take n (drop i xs)
 part_is xs i n = drop-take i n xs
 
@@ -30,7 +30,7 @@ part_split xs i j k le le2 le3 =
 pub part_take : {X : Type 0} (xs : List X) (i n k : ℕ) → i + n ≤ k → take n (drop i (take k xs)) ≡ drop i (take (i + n) xs)
 part_take xs i n k le = sym (part_is (take k xs) i n) ∙ ap (drop i) (take-take (i + n) k xs le)
 
--- what stands behind them
+-- what comes after them
 pub part_drop : {X : Type 0} (xs : List X) (i n k : ℕ) → drop (i + n) (take k xs) ≡ drop n (drop i (take k xs))
 part_drop xs i n k = sym (drop-drop n i (take k xs))
 

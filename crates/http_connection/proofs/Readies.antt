@@ -65,7 +65,7 @@ bad_first limit bytes first fault b least is =
     let has = first_has limit bytes first b least in
     bad_head limit bytes first.len (HasHead.lines has) fault (HasHead.ends has) (HasHead.few has) (first_fails limit bytes first fault b is)
 
--- behind a sound head the body decides
+-- after a sound head the body decides
 pub whole_has : (limit : ℕ) (bytes : List ℕ) (w : Whole) → IsWhole limit bytes w → HasRequest limit bytes
 whole_has limit bytes w is =
     let head = IsWhole.head is in
@@ -118,7 +118,7 @@ not_unfinished limit bytes (x ∷ given) has none either = absurd (cc (none))
 abbrev pub at_end : Tape
 at_end = record { taken = []; left = [] }
 
--- so reading one behind which nothing comes has no fault
+-- so reading one after which nothing comes has no fault
 pub no_fault : (limit : ℕ) (start : BufferState) (fault : HttpFault) → HasRequest limit start.pending → FaultGives RefusesRequest IsUnfinishedRequest limit start (Some at_end) (Some at_end) fault → ⊥
 no_fault limit start HttpFault.ReadFault has w = not_unfinished limit start.pending w.0 has (Passes.left w.1) w.2
 no_fault limit start HttpFault.BadHead has w = not_refused limit start.pending HttpFault.BadHead has w

@@ -4,7 +4,7 @@ use Rattle.std.proofs.lemmas.List.{drop-append-le, drop_at, length-take-le}
 use Rattle.std.proofs.lemmas.List.Elements.{All-append, All-nil}
 use Rattle.http_connection.specs.Lines.{IsLine, IsFeed, EndsAt, IsTooLong, IsOpen}
 
--- between the two places stands no line feed
+-- there is no line feed between the two places
 pub record IsSeen (from seen : ℕ) (pending : List ℕ) : Type 0 where
   pub front : List ℕ
   pub is_line : IsLine front
@@ -14,7 +14,7 @@ pub record IsSeen (from seen : ℕ) (pending : List ℕ) : Type 0 where
 pub seen_none : (from : ℕ) (pending : List ℕ) → IsSeen from from pending
 seen_none from pending = record { front = []; is_line = All-nil (λ b. b ≢ 10); behind = refl; seen_is = omega arith }
 
--- all that stands there was searched, and then a piece came
+-- all that is there was searched, and then a piece came
 pub seen_all : (from seen : ℕ) (pending now piece : List ℕ) (k : ℕ) → from ≤ length pending → IsSeen from seen pending → IsLine (drop seen pending) → now ≡ pending ++ piece → k ≡ length pending → IsSeen from k now
 seen_all from seen pending now piece k le s line is k_is =
     let behind : drop from now ≡ drop from pending ++ piece = ap (drop from) is ∙ drop-append-le from pending piece le in
@@ -57,7 +57,7 @@ no_feed from bound seen pending within s line le = record {
   long = omega (arith, length-drop from pending);
 }
 
--- the place of a line feed behind the searched ones
+-- the place of a line feed after the searched ones
 pub feed_at : (from n : ℕ) (bytes behind : List ℕ) → from ≤ length bytes → behind ≡ drop from bytes → n < length behind → IsLine (take n behind) → behind ≡ take n behind ++ 10 ∷ drop (n + 1) behind → IsFeed from bytes (from + n)
 feed_at from n bytes behind le is less line cut = record {
   line = take n behind;

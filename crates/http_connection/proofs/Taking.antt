@@ -49,7 +49,7 @@ gives_none out e None (Some t) told = absurd (cc)
 gives_none out e (Some o) None told = absurd told
 gives_none out e (Some o) (Some t) told = record { taken = ap (λ (x : Tape). x.taken) told ∙ sym (append-nil o.taken); left = ap (λ (x : Tape). x.left) (sym told) }
 
--- a piece stands behind the pending bytes
+-- a piece comes after the pending bytes
 pub filled : (before now : BufferState) (xs ys : List ℕ) (o : Offsets) (end n : ℕ) (old new : Option Tape)
     → before.kept ≡ kept_of xs o → before.pending ≡ pending_of xs o → before.room ≡ length xs
     → IsOrdered xs o → n ≤ length xs - o.end → length ys ≡ length xs → take o.end ys ≡ take o.end xs → end ≡ o.end + n

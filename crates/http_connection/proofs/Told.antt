@@ -1,4 +1,4 @@
--- Relations of what a source told, one step after another.
+-- Relations of what a source reported, one step after another.
 use Rattle.std.proofs.Common.{◌≡◌, ℕ, List, [], ◌++◌, Option, Some, None, refl, sym, ap, subst, ◌∙◌, append_assoc, append-nil}
 use Rattle.std.proofs.lemmas.List.{append_cancel_right}
 use Rattle.adx_io.specs.Streams.{Tape, WhereTold}
@@ -65,7 +65,7 @@ front_is bytes front rest old new e =
     let same : bytes ≡ front ++ rest = append_cancel_right bytes (front ++ rest) old (e ∙ sym (append_assoc front rest old)) in
     ap (λ l. l ++ new) same ∙ append_assoc front rest new
 
--- what was given behind a step
+-- what was given after a step
 pub given_then : (before mid : BufferState) (old m new : Option Tape) (R : List ℕ → List ℕ → Type 0) (P Q : List ℕ → Type 0) → IsOfFronts R → ((bytes rest : List ℕ) → R bytes rest → P rest → Q bytes)
     → Advances old m → WhereTold old m (λ o k. R (coming before o) (coming mid k)) → HasGiven mid m new P → HasGiven before old new Q
 given_then before mid None None new R P Q f g a r w = w

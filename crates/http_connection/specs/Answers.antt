@@ -26,8 +26,8 @@ GivesMessage limit bytes (Ok None) rest = (bytes ≡ []) × (rest ≡ [])
 GivesMessage limit bytes (Err HttpFault.ReadFault) rest = ⊤
 GivesMessage limit bytes (Err fault) rest = RefusesRequest limit bytes fault
 
--- The next message, where no fault stands and the bytes held begin with a whole request: it shows that one, and what
--- stands behind it is held, which is at most what a connection has room for. None where they don't, or a fault stands;
+-- The next message, if there was no fault and the bytes held begin with a whole request: it shows that one, and what
+-- comes after it is held, which is at most what a connection has room for. None where they don't, or after a fault;
 -- then nothing changes.
 abbrev pub AnswersHeld : ConnState → ConnState → Option Message → Type 0
 AnswersHeld before now (Some m) =
@@ -36,8 +36,8 @@ AnswersHeld before now (Some m) =
 AnswersHeld before now None = (IsReady before → ⊥) × (now ≡ before)
 
 -- After a fault the answer is `Cut`, and nothing changes. Else the answer is a function of the bytes held and those that
--- the source has left, where it tells them. Where the source fails, the bytes held and those that it gave are unfinished:
--- no whole message stands in them, and none that is refused. What was taken beyond a message is at most what a
+-- the source has left, where it reports them. If the source fails, the bytes held and those it gave are unfinished:
+-- no whole message is in them, and none that is refused. What was taken beyond a message is at most what a
 -- connection has room for.
 pub record AnswersMessage (before now : ConnState) (old new : Option Tape) (result : Result (Option Message) HttpFault) : Type 0 where
   pub limit : now.limit ≡ before.limit
@@ -50,15 +50,21 @@ pub record AnswersMessage (before now : ConnState) (old new : Option Tape) (resu
   pub fits : (m : Message) → result ≡ Ok (Some m) → length now.held ≤ room_of before.limit
   pub advances : Advances old new
 
+-- a response as its caller sees it has the status and the body of the one that was read
 pub record ShowsResponse (m : Response) (r : ResponseRead) : Type 0 where
   pub status : m.status ≡ status_code r.head
   pub body : m.body.now ≡ r.body
 
+-- What these bytes give: a response, and the bytes after it; or the fault that refuses them. A failed read says nothing
+-- of the bytes.
 abbrev pub GivesResponse : ℕ → List ℕ → Result Response HttpFault → List ℕ → Type 0
 GivesResponse limit bytes (Ok m) rest = (r : ResponseRead) × IsResponseThen limit bytes r rest × ShowsResponse m r
 GivesResponse limit bytes (Err HttpFault.ReadFault) rest = ⊤
 GivesResponse limit bytes (Err fault) rest = RefusesResponse limit bytes fault
 
+-- Reading a response. After a fault the answer is `Cut`, and nothing changes. Else the answer is a function of the bytes
+-- held and those that the source has left. Where the source fails, no whole response and none that is refused is in the
+-- bytes so far.
 pub record AnswersResponse (before now : ConnState) (old new : Option Tape) (result : Result Response HttpFault) : Type 0 where
   pub limit : now.limit ≡ before.limit
   pub failed : before.failed ≡ true → (result ≡ Err HttpFault.Cut) × (now ≡ before) × (new ≡ old)

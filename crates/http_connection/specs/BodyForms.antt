@@ -1,4 +1,4 @@
--- The body behind a head (RFC 9112, section 6). It speaks of all bytes that come, and knows no buffer and no pieces.
+-- The body after a head (RFC 9112, section 6). It speaks of all bytes that come, and knows no buffer and no pieces.
 use Rattle.std.specs.Prelude.{◌≡◌, ℕ, ◌<◌, ◌≤◌, List, [], ◌++◌, length, Option, Some, None}
 use Rattle.http_grammar.specs.declared.framing.Framing.{Framing}
 use Rattle.http_grammar.specs.declared.fault.HttpFault.{HttpFault}
@@ -11,13 +11,15 @@ body_of_request Framing.Unframed = Body.Absent
 body_of_request Framing.Chunked = Body.Chunked
 body_of_request (Framing.Sized n) = Body.Sized n
 
+-- The body of a response: none where its status allows none; in chunks; of a length; or up to the end of the bytes where
+-- its head says neither.
 abbrev pub body_of_response : Option Framing → Body
 body_of_response None = Body.Absent
 body_of_response (Some Framing.Unframed) = Body.ToEnd
 body_of_response (Some Framing.Chunked) = Body.Chunked
 body_of_response (Some (Framing.Sized n)) = Body.Sized n
 
--- the bytes behind a head are this body and the rest
+-- the bytes after a head are this body and the rest
 abbrev pub IsBodyThen : ℕ → Body → List ℕ → List ℕ → List ℕ → Type 0
 IsBodyThen limit Body.Absent bytes body rest = (body ≡ []) × (rest ≡ bytes)
 IsBodyThen limit (Body.Sized n) bytes body rest = (length body ≡ n) × (bytes ≡ body ++ rest)

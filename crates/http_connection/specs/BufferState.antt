@@ -1,4 +1,4 @@
--- What a buffer stands for, and what it takes of a source. This project's own.
+-- What a buffer represents, and what it takes of a source. This project's own.
 use Rattle.std.specs.Prelude.{◌≡◌, ℕ, List, [], ◌++◌, Option, Some, None, ⊤}
 use Rattle.adx_io.specs.Streams.{Tape, WhereTold}
 
@@ -13,7 +13,7 @@ pub record Passes (piece : List ℕ) (old new : Tape) : Type 0 where
   pub taken : new.taken ≡ old.taken ++ piece
   pub left : old.left ≡ piece ++ new.left
 
--- a piece of the source, which may be empty, came behind the pending bytes
+-- a piece of the source, which may be empty, came after the pending bytes
 pub record Takes (before now : BufferState) (old new : Option Tape) : Type 0 where
   pub piece : List ℕ
   pub pending : now.pending ≡ before.pending ++ piece
@@ -21,7 +21,7 @@ pub record Takes (before now : BufferState) (old new : Option Tape) : Type 0 whe
   pub room : now.room ≡ before.room
   pub told : WhereTold old new (Passes piece)
 
--- the source, where it tells its bytes, has none left
+-- the source, where it reports its bytes, has none left
 abbrev pub IsAtEnd : Option Tape → Type 0
 IsAtEnd None = ⊤
 IsAtEnd (Some t) = t.left ≡ []

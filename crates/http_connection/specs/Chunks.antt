@@ -1,5 +1,5 @@
 -- A body in chunks (RFC 9112, section 7.1). The bounds and the end of a trailer are this project's own.
--- Example, with `/` for CR LF: `5/hello/0//` is the body `hello`, and what stands behind it is the rest.
+-- Example, with `/` for CR LF: `5/hello/0//` is the body `hello`, and what comes after it is the rest.
 use Rattle.std.specs.Prelude.{◌≡◌, ◌≢◌, ◌⊎◌, ℕ, ◌+◌, ◌<◌, ◌≤◌, List, [], ◌∷◌, ◌++◌, length, All}
 use Rattle.std.specs.List.{flat_map}
 use Rattle.httparse.specs.Ascii.{crlf_bytes}
@@ -57,7 +57,7 @@ pub record IsTrailer (trailer : List ℕ) : Type 0 where
 abbrev pub HasNoTrailer : List ℕ → Type 0
 HasNoTrailer bytes = (trailer rest : List ℕ) → IsTrailer trailer → bytes ≡ trailer ++ rest → ⊥
 
--- the body in chunks, and what comes behind it
+-- the body in chunks, and what comes after it
 pub record IsChunkedThen (limit : ℕ) (bytes body rest : List ℕ) : Type 0 where
   pub chunks : List Chunk
   pub last : List ℕ
@@ -87,10 +87,11 @@ IsBadTrailer bytes =
     × (bytes ≡ flat_map ended lines ++ rest) × (length (flat_map ended lines) ≤ HEAD_LIMIT))
     ⊎ ((HEAD_LIMIT ≤ length bytes) × HasNoTrailer bytes)
 
+-- no trailer ends in the bytes yet, they are below the bound, and nothing in them is wrong
 abbrev pub IsOpenTrailer : List ℕ → Type 0
 IsOpenTrailer bytes = (length bytes < HEAD_LIMIT) × HasNoTrailer bytes × (IsBadTrailer bytes → ⊥)
 
--- a chunk's data and the two bytes behind it have come, and those aren't CR and LF
+-- a chunk's data and the two bytes after it have come, and those aren't CR and LF
 pub record EndsBadly (size : ℕ) (bytes : List ℕ) : Type 0 where
   pub data_bytes : List ℕ
   pub x : ℕ
@@ -100,11 +101,11 @@ pub record EndsBadly (size : ℕ) (bytes : List ℕ) : Type 0 where
   pub bytes_are : bytes ≡ data_bytes ++ x ∷ y ∷ rest
   pub other : (x ∷ y ∷ []) ≢ crlf_bytes
 
--- what is wrong behind chunks that were read
+-- what is wrong after chunks that were read
 pub data ChunkFault : Type 0 where
   bad too_long cut : ChunkFault
 
--- The first that is wrong behind so many bytes of data: the line's form, what follows value 0, the sum, and the data.
+-- The first that is wrong after so many bytes of data: the line's form, what follows value 0, the sum, and the data.
 -- Nothing is judged before it is complete, and at an end before that the bytes are cut.
 abbrev pub FailsAt : ℕ → ℕ → List ℕ → ChunkFault → Type 0
 FailsAt limit so_far bytes ChunkFault.bad =

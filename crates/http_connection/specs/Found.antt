@@ -51,7 +51,7 @@ pub record IsWhole (limit : ℕ) (bytes : List ℕ) (w : Whole) : Type 0 where
   pub head : HasRequestHead limit bytes w.head w.parts
   pub body : HasBody limit (body_of_request w.parts.framing) (drop w.head bytes)
 
--- the offsets stand in their order
+-- the offsets are in their order
 pub record IsWithin (f : Found) (kept : List ℕ) : Type 0 where
   pub head : f.head ≤ length kept
   pub start : f.target.start ≤ f.target.end
@@ -74,7 +74,7 @@ RequestGives limit before now old new (Ok (Some f)) =
 RequestGives limit before now old new (Ok None) = WhereTold old new (λ o n. (coming before o ≡ []) × (coming now n ≡ []))
 RequestGives limit before now old new (Err fault) = FaultGives RefusesRequest IsUnfinishedRequest limit before old new fault
 
--- the whole request that was pending is kept, what was found shows it, and what stood behind it is pending
+-- the whole request that was pending is kept, what was found shows it, and what came after it is pending
 abbrev pub GivesWhole : ℕ → BufferState → BufferState → Found → Type 0
 GivesWhole limit before now f =
     IsWithin f now.kept × ((r : Request) × IsRequestThen limit before.pending r now.pending × FoundShows f now.kept r)

@@ -6,22 +6,24 @@ use Rattle.http_connection.specs.declared.bodies.Body.{Body}
 use Rattle.http_connection.specs.BodyForms.{body_of_response}
 use Rattle.http_connection.specs.Messages.{Request, IsRequestThen, RefusesRequest, ResponseRead, IsResponseThen, RefusesResponse}
 
--- a request and the bytes behind it, a fault, or the end, where there is no byte
+-- a request and the bytes after it, a fault, or the end, where there is no byte
 pub data RequestAnswer : Type 0 where
   request : Request → List ℕ → RequestAnswer
   refusal : HttpFault → RequestAnswer
   ending : RequestAnswer
 
+-- what a reader of requests answers to these bytes
 abbrev pub AnswersRequest : ℕ → List ℕ → RequestAnswer → Type 0
 AnswersRequest limit bytes (request m rest) = IsRequestThen limit bytes m rest
 AnswersRequest limit bytes (refusal fault) = RefusesRequest limit bytes fault
 AnswersRequest limit bytes ending = bytes ≡ []
 
--- a response and the bytes behind it, or a fault
+-- a response and the bytes after it, or a fault
 pub data ResponseAnswer : Type 0 where
   response : ResponseRead → List ℕ → ResponseAnswer
   refused : HttpFault → ResponseAnswer
 
+-- what a reader of responses answers to these bytes
 abbrev pub GivesAnswer : ℕ → List ℕ → ResponseAnswer → Type 0
 GivesAnswer limit bytes (response m rest) = IsResponseThen limit bytes m rest
 GivesAnswer limit bytes (refused fault) = RefusesResponse limit bytes fault
@@ -34,7 +36,7 @@ HasOneRequest = (limit : ℕ) (bytes : List ℕ) (a b : RequestAnswer) → Answe
 abbrev pub HasOneResponse : Type 0
 HasOneResponse = (limit : ℕ) (bytes : List ℕ) (a b : ResponseAnswer) → GivesAnswer limit bytes a → GivesAnswer limit bytes b → a ≡ b
 
--- a request that the front of the bytes gives is given by all of them, and what follows stands behind it
+-- a request that the front of the bytes gives is given by all of them, and what follows comes after it
 abbrev pub RequestStays : Type 0
 RequestStays = (limit : ℕ) (front more : List ℕ) (m : Request) (rest : List ℕ) → IsRequestThen limit front m rest → IsRequestThen limit (front ++ more) m (rest ++ more)
 

@@ -2,7 +2,7 @@
 use Rattle.std.specs.Prelude.{◌≤◌, ℕ, List, length, take, drop}
 use Rattle.http_connection.specs.declared.offsets.Offsets.{Offsets}
 
--- the offsets stand in their order within the bytes
+-- the offsets are in their order within the bytes
 pub record IsOrdered (bytes : List ℕ) (o : Offsets) : Type 0 where
   pub start : o.start ≤ o.joined
   pub joined : o.joined ≤ o.at

@@ -1,4 +1,4 @@
--- Whether a whole request stands in the bytes that were taken.
+-- Whether a whole request is in the bytes that were taken.
 use Rattle.std.specs.Prelude.{◌≡◌, ℕ, List, false}
 use Rattle.http_connection.specs.State.{ConnState}
 use Rattle.http_connection.specs.Messages.{Request, IsRequestThen}
@@ -7,6 +7,6 @@ use Rattle.http_connection.specs.Messages.{Request, IsRequestThen}
 abbrev pub HasRequest : ℕ → List ℕ → Type 0
 HasRequest limit bytes = (m : Request) × (rest : List ℕ) × IsRequestThen limit bytes m rest
 
--- the bytes that were taken and belong to no message that was read begin with a whole request, and no fault stands
+-- the bytes that were taken and belong to no message that was read begin with a whole request, and there was no fault
 abbrev pub IsReady : ConnState → Type 0
 IsReady c = (c.failed ≡ false) × HasRequest c.limit c.held

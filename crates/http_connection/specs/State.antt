@@ -1,4 +1,4 @@
--- What a connection stands for. This project's own.
+-- What a connection represents. This project's own.
 use Rattle.std.specs.Prelude.{ℕ, ◌+◌, ◌*◌, List, Bool}
 use Rattle.http_connection.specs.declared.head.TheConstants.{HEAD_LIMIT}
 use Rattle.http_connection.specs.declared.conn.TheConstants.{PIECE}
@@ -7,7 +7,7 @@ use Rattle.http_connection.specs.declared.conn.TheConstants.{PIECE}
 abbrev pub room_of : ℕ → ℕ
 room_of limit = 2 * HEAD_LIMIT + limit + PIECE
 
--- the bytes that were taken and belong to no message that was read, whether a fault stands, and the limit of a body
+-- the bytes that were taken and belong to no message that was read, whether there was a fault, and the limit of a body
 pub record ConnState : Type 0 where
   pub held : List ℕ
   pub failed : Bool

@@ -11,7 +11,7 @@ use Rattle.http_connection.specs.Chunks.{BeginsChunk, IsBadLine, IsOpenLine, IsT
 use Rattle.http_connection.specs.BodyForms.{IsBodyThen, FailsBody}
 use Rattle.http_connection.specs.declared.bodies.Body.{Body}
 
--- the source, where it tells its bytes, gave some of those that were left
+-- the source, where it reports its bytes, gave some of those that were left
 abbrev pub Advances : Option Tape → Option Tape → Type 0
 Advances old new = WhereTold old new (λ o n. (piece : List ℕ) × Passes piece o n)
 
@@ -31,7 +31,7 @@ ReadsBy before now (Err HttpFault.Coding) = now ≡ before
 abbrev pub coming : BufferState → Tape → List ℕ
 coming b t = b.pending ++ t.left
 
--- the source, where it tells its bytes, gave some of those that were left, and of the bytes pending before with them this
+-- the source, where it reports its bytes, gave some of those that were left, and of the bytes pending before with them this
 -- is so
 abbrev pub HasGiven : BufferState → Option Tape → Option Tape → (List ℕ → Type 0) → Type 0
 HasGiven before old new P = WhereTold old new (λ o n. (piece : List ℕ) × Passes piece o n × P (before.pending ++ piece))
@@ -81,7 +81,7 @@ IsLineOf bytes size = (l : ChunkLine) × IsChunkLine l × (bytes ≡ print_chunk
 abbrev pub IsNoLine : List ℕ → Type 0
 IsNoLine bytes = (l : ChunkLine) → IsChunkLine l → bytes ≡ print_chunk_line l → ⊥
 
--- whether CR and LF stand behind so many bytes
+-- whether CR and LF come after so many bytes
 abbrev pub ends_behind : List ℕ → ℕ → Bool
 ends_behind bytes size = bytes_eq (take 2 (drop size bytes)) crlf_bytes
 

@@ -1,7 +1,7 @@
 //! A source that has come to its end.
 use adx_io::{Failed, Source};
 
-/// A source that has no bytes left. What is read of it stands in what was taken before.
+/// A source that has no bytes left. What is read of it is in what was taken before.
 #[derive(Drop)]
 pub(crate) struct AtEnd;
 

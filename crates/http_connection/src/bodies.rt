@@ -1,4 +1,4 @@
-//! The body of a message, read behind a head that was kept.
+//! The body of a message, read after a head that was kept.
 ghost use Rattle.std.specs.Prelude.{◌≡◌, ◌≤◌, ◌+◌, ℕ, length};
 ghost use Rattle.http_connection.specs.BodyForms.{body_of_request, body_of_response};
 ghost use Rattle.http_connection.specs.Steps.{Advances, ReadsBy, BodyGives, FitsBody};

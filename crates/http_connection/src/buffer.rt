@@ -106,8 +106,8 @@ impl Buffer {
         self.offsets = join(&mut self.bytes, self.offsets, count);
     }
 
-    /// Takes the next bytes of the source behind the pending ones; false at its end. All bytes move
-    /// to the front where there is no room behind them. After a fault nothing was taken.
+    /// Takes the next bytes of the source after the pending ones; false at its end. All bytes move
+    /// to the front where there is no room after them. After a fault nothing was taken.
     pub fn fill<S: Source>(&mut self, source: &mut S) -> Result<bool, Failed>
         requires { length self.old.kept + length self.old.pending < self.old.room }
         ensures takes { Takes self.old self.new (S.tape source.old) (S.tape source.new) }

@@ -11,7 +11,7 @@ use adx_io::Source;
 use http_grammar::HttpFault;
 use httparse::{Status, parse_chunk_size};
 
-/// The greatest number of lines of a trailer, and of those behind the first of a head.
+/// The greatest number of lines of a trailer, and of those after the first of a head.
 pub const LINE_COUNT_LIMIT: usize = 64;
 
 /// The size that a chunk line says; None where the bytes are no chunk line.
@@ -51,7 +51,7 @@ fn read_chunk_line<S: Source>(buffer: &mut Buffer, source: &mut S) -> Result<u64
     }
 }
 
-/// Whether CR and LF stand behind so many bytes.
+/// Whether CR and LF come after so many bytes.
 pub(crate) fn ends_behind(bytes: &[u8], size: usize) -> bool
     requires { size + 2 ≤ length bytes.now }
     ensures { result ≡ ends_behind bytes.now size }

@@ -29,7 +29,7 @@ pub const PIECE: usize = 65_536;
 pub struct Message<'a> {
     /// The kind of its method.
     pub verb: Verb,
-    /// Its target, as it stands in the head.
+    /// Its target, as it is in the head.
     pub target: &'a [u8],
     /// Its body, whose chunks are joined.
     pub body: &'a [u8],
@@ -65,7 +65,7 @@ pub enum ConnEnd {
     OutOfMemory,
 }
 
-/// What of a message in progress stands where.
+/// Where the parts of a message in progress are.
 #[derive(Clone, Copy)]
 pub(crate) struct Found {
     pub verb: Verb,
@@ -125,7 +125,7 @@ impl Conn {
         self.failed = false;
     }
 
-    /// Whether the bytes that were taken and not handed out begin with a whole request; false behind
+    /// Whether the bytes that were taken and not handed out begin with a whole request; false after
     /// a fault. Takes no memory and nothing from a source, and changes nothing.
     pub fn ready(&self) -> bool
         ensures { Decides result (IsReady self.now) }
@@ -138,7 +138,7 @@ impl Conn {
     }
 
     /// The next message where the bytes that were taken and not handed out begin with a whole one. None
-    /// where they don't, and behind a fault; then nothing changes. Takes no memory and nothing from a
+    /// where they don't, and after a fault; then nothing changes. Takes no memory and nothing from a
     /// source.
     pub fn held_message(&mut self) -> Option<Message<'_>>
         ensures* after_borrow { sem 𝓛 (Rests the_row self.entry (λ new. AnswersHeld self.old new result)) }
@@ -203,7 +203,7 @@ impl Conn {
     }
 }
 
-/// What stands behind the head of the message in progress.
+/// What comes after the head of the message in progress.
 fn body(buffer: &Buffer, head: usize) -> &[u8]
     requires { head ≤ length buffer.now.kept }
     ensures { result.now ≡ drop head buffer.now.kept }

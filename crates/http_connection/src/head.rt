@@ -16,7 +16,7 @@ pub const HEAD_LIMIT: usize = 16_384;
 /// Where a head ends.
 #[derive(Clone, Copy, Debug, PartialEq, Eq)]
 pub enum HeadEnd {
-    /// Behind so many bytes, with so many lines between its first line that isn't empty and the
+    /// After so many bytes, with so many lines between its first line that isn't empty and the
     /// empty one that ends it.
     At(usize, usize),
     /// Not within `HEAD_LIMIT` bytes.
@@ -30,9 +30,9 @@ pub enum HeadEnd {
 pub(crate) enum Walk {
     /// There are empty lines alone.
     Blank,
-    /// There is a line that isn't empty, and so many behind it.
+    /// There is a line that isn't empty, and so many after it.
     Full(usize),
-    /// The empty line behind those was read.
+    /// The empty line after those was read.
     Over(usize),
 }
 

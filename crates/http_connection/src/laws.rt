@@ -1,8 +1,8 @@
 //! Laws of the definition of messages: each is a function without a body, whose contract is the law.
 ghost use Rattle.http_connection.specs.Laws.{HasOneRequest, HasOneResponse, RequestFaultStays, RequestStays, ResponseFaultStays, ResponseStays};
 
-/// A list of bytes gives one answer and no two: a request with what stands behind it, a fault, or the
-/// end; or a response with what stands behind it, or a fault.
+/// A list of bytes gives one answer and no two: a request with what comes after it, a fault, or the
+/// end; or a response with what comes after it, or a fault.
 pub fn one_answer()
     ensures request { HasOneRequest }
     ensures response { HasOneResponse }

@@ -1,10 +1,10 @@
 //! HTTP/1.1 messages as they come from a source.
 //!
 //! `next_message` and `read_response` are functions of the bytes that a source gives, whatever its pieces: one
-//! definition cuts all bytes into messages and faults. `held_message` gives the next message where it stands whole in
+//! definition cuts all bytes into messages and faults. `held_message` gives the next message where it is whole in
 //! what was taken. A message is lent from the connection's memory, where its chunks were joined.
 //!
-//! The memory of a connection: what was read of the message in progress, and the bytes behind it. A contract sees a
+//! The memory of a connection: what was read of the message in progress, and the bytes after it. A contract sees a
 //! `Buffer` as two lists, `kept` and `pending`, and its room. `fill` takes as many bytes of a source as fit; whatever
 //! the pieces of the source, pending bytes and bytes left are together what they were. Nothing is moved but where the
 //! room is used up, or bytes are joined. `line_end`, `head_end` and `need` take until a line ends, a head ends, or so
@@ -14,7 +14,7 @@
 //! a length, one in chunks, or all up to the source's end. What it gives is a function of all bytes that come, whatever
 //! the pieces of the source, and each fault is the first that they have. `has_body` looks at bytes at hand alone.
 //!
-//! Stands on `adx_units`, `adx_io`, `http_grammar`, `httparse` and `memchr`.
+//! Uses `adx_units`, `adx_io`, `http_grammar`, `httparse` and `memchr`.
 #![tactic(auto)]
 
 mod at_end;

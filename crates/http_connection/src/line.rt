@@ -11,7 +11,7 @@ use memchr::memchr;
 /// Where a line ends.
 #[derive(Clone, Copy, Debug, PartialEq, Eq)]
 pub enum Line {
-    /// Behind its line feed, which is within the bound.
+    /// After its line feed, which is within the bound.
     At(usize),
     /// Not within the bound.
     TooLong,
@@ -39,7 +39,7 @@ fn feed_behind(bytes: &[u8], from: usize) -> Option<usize>
     }
 }
 
-/// Where a line ends behind the place `from` of the bytes at hand. `Open` where none does and there
+/// Where a line ends after the place `from` of the bytes at hand. `Open` where none does and there
 /// are fewer than `bound` bytes.
 pub fn line_in(bytes: &[u8], from: usize, bound: usize) -> Line
     requires { from ≤ length bytes.now }
@@ -53,7 +53,7 @@ pub fn line_in(bytes: &[u8], from: usize, bound: usize) -> Line
     }
 }
 
-/// Takes bytes until a line ends behind the place `from` of the pending bytes, until `bound` pending
+/// Takes bytes until a line ends after the place `from` of the pending bytes, until `bound` pending
 /// bytes are there, or to the source's end. No byte is searched twice. Where the source fails no line
 /// ends in what came.
 pub fn line_end<S: Source>(

@@ -1,11 +1,11 @@
-//! Where a buffer's bytes stand, and how they move.
+//! Where a buffer's bytes are, and how they move.
 ghost use Rattle.std.specs.Prelude.{◌≡◌, ◌≤◌, ◌<◌, ◌+◌, ◌-◌, ℕ, length, take, drop, ◌++◌, IfOk};
 ghost use Rattle.adx_io.specs.Streams.{HasCause, Moved, WhereTold};
 ghost use Rattle.http_connection.specs.Order.{IsOrdered, kept_of, pending_of};
 
 use adx_io::{Failed, Source};
 
-/// Where the kept bytes and the pending ones stand.
+/// Where the kept bytes and the pending ones are.
 #[derive(Clone, Copy)]
 pub(crate) struct Offsets {
     pub start: usize,
@@ -38,7 +38,7 @@ fn move_down(bytes: &mut [u8], from: usize, to: usize, down: usize)
     bytes.copy_within(from..to, down);
 }
 
-/// Makes room behind the pending bytes: where there is none, all bytes move to the front.
+/// Makes room after the pending bytes: where there is none, all bytes move to the front.
 pub(crate) fn make_room(bytes: &mut [u8], offsets: Offsets) -> Offsets
     requires ordered { IsOrdered bytes.old offsets }
     requires room { (offsets.joined - offsets.start) + (offsets.end - offsets.at) < length bytes.old }
@@ -84,7 +84,7 @@ pub(crate) fn join(bytes: &mut [u8], offsets: Offsets, count: usize) -> Offsets
     joined
 }
 
-/// Takes bytes behind a place.
+/// Takes bytes after a place.
 pub(crate) fn take_behind<S: Source>(
     bytes: &mut [u8],
     end: usize,

@@ -14,7 +14,7 @@ use crate::whole_bodies::has_body;
 use http_grammar::{RequestParts, first_request};
 use httparse::spans::HeaderSpan;
 
-/// The head of a request that stands whole in bytes at hand.
+/// The head of a request that is whole in bytes at hand.
 #[derive(Clone, Copy)]
 pub(crate) struct Whole {
     /// Its length.

@@ -10,7 +10,7 @@ use crate::chunks::{LINE_COUNT_LIMIT, ends_behind, is_empty_to, size_of};
 use crate::head::HEAD_LIMIT;
 use crate::line::{Line, line_in};
 
-/// The size that a chunk line says, and the bytes behind it; None where the bytes begin with none.
+/// The size that a chunk line says, and the bytes after it; None where the bytes begin with none.
 fn chunk_line_in(bytes: &[u8]) -> Option<(u64, &[u8])>
     ensures { MatchOption result (IsBadLine bytes.now ⊎ IsOpenLine bytes.now) (λ c. BeginsChunk bytes.now c.0 c.1.now) }
 {
@@ -27,7 +27,7 @@ fn chunk_line_in(bytes: &[u8]) -> Option<(u64, &[u8])>
     }
 }
 
-/// The bytes behind a chunk's data and its end; None where they aren't there.
+/// The bytes after a chunk's data and its end; None where they aren't there.
 fn behind_data(bytes: &[u8], size: usize) -> Option<&[u8]>
     requires { size < 2 ^ 32 }
     ensures { MatchOption result (EndsBadly size bytes.now ⊎ (length bytes.now < size + 2))

@@ -58,14 +58,14 @@ no_none a h = cc
 none_no : (a : Bool) → None ≡ Some a → ⊥
 none_no a h = cc
 
--- an answer that tells something
+-- an answer that says something
 tells : (b : Budget) (m : Message) (is : Bool) (after : Budget) → is ≡ is_done b m.number m.budget → after ≡ taken b m.number m.budget → IsTakenAs b m (Some is) after
 tells b m is after right same = record {
   some = λ other h. (some_is is other h ∙ right, same);
   none = λ h. absurd (no_none is h);
 }
 
--- an answer that tells nothing changes nothing
+-- an answer that says nothing changes nothing
 tells_nothing : (b : Budget) (m : Message) → IsTakenAs b m None b
 tells_nothing b m = record {
   some = λ other h. absurd (none_no other h);

@@ -156,7 +156,7 @@ turned share terms campaign history ms rs c o call other d =
 pub turns_day : (turn : Turn) (p : DayPlace) → IsCall (length p.terms.budgets) turn.call × IsOther p.campaign turn.call → IsDay p → IsDay (day_turns turn p)
 turns_day turn p may d = turned p.share p.terms p.campaign p.history p.messages p.replies turn.call turn.outcome may.0 may.1 d
 
--- a reply that tells something, and the budget after it
+-- a reply that says something, and the budget after it
 told_sound : (share : Share) (b after : Budget) (ms : List Message) (rs : List machine.Reply) (m : Message) (o : Option Bool) → IsTakenAs b m o after
     → IsSound (record { share = share; budget = b; messages = ms; replies = rs })
     → IsSound (came (record { share = share; budget = b; messages = ms; replies = rs }) (Some m))

@@ -26,14 +26,14 @@ budget_in terms history campaign = record {
   committed = committed history campaign;
 }
 
--- what an answer to a change tells a controller: that it is done, that it isn't, or nothing that settles it
+-- what an answer to a change says to a controller: that it is done, that it isn't, or nothing that settles it
 abbrev pub done_of : Answer → Option Bool
 done_of Answer.Budgeted = Some true
 done_of (Answer.Repeat entry) = Some true
 done_of (Answer.BelowCommitted money) = Some false
 done_of answer = None
 
--- an answer that tells something is a reply to the change of that number
+-- an answer that says something is a reply to the change of that number
 abbrev pub told : ℕ → Option Bool → List Reply → List Reply
 told number None replies = replies
 told number (Some is) replies = record { number = number; done = is } ∷ replies
@@ -200,8 +200,8 @@ pub record IsWithin (w : DayWorld) : Type 0 where
 abbrev pub NeverMoreThanTheWhole : Type 0
 NeverMoreThanTheWhole = (events : List DayEvent) → MayAllHappen day_start events → IsWithin (day_run events day_start)
 
--- The day's answer to a change settles it as the machine's reply does, or tells nothing; and the campaign's budget is then as after the
--- machine's step, or as before where it tells nothing.
+-- The day's answer to a change settles it as the machine's reply does, or says nothing; and the campaign's budget is then as after the
+-- machine's step, or as before where it says nothing.
 pub record IsTakenAs (b : Budget) (m : Message) (told : Option Bool) (after : Budget) : Type 0 where
   pub some : (is : Bool) → told ≡ Some is → (is ≡ is_done b m.number m.budget) × (after ≡ taken b m.number m.budget)
   pub none : told ≡ None → after ≡ b

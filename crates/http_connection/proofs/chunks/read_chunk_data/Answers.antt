@@ -1,4 +1,4 @@
--- The data is the front of what was taken, and two bytes stand behind it.
+-- The data is the front of what was taken, and two bytes come after it.
 use Rattle.std.proofs.Common.{Ok, ap, sym, ◌∙◌}
 use Rattle.http_connection.specs.Steps.{ends_behind}
 use Rattle.http_connection.proofs.ChunkParts.{data_gives, data_bad}

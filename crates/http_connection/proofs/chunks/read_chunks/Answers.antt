@@ -1,4 +1,4 @@
--- A chunk more is joined, or what is wrong behind the chunks is wrong with the body.
+-- A chunk more is joined, or what is wrong after the chunks is wrong with the body.
 use Rattle.std.proofs.Common.{refl, ◌∙◌, arith}
 use Rattle.http_connection.proofs.Told.{advances_both}
 use Rattle.http_connection.proofs.Joins.{line_fails, data_fails, trailer_ends, joining_more}

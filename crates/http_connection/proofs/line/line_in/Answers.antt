@@ -1,4 +1,4 @@
--- The first line feed behind the place, or none.
+-- The first line feed after the place, or none.
 use Rattle.std.proofs.Common.{arith}
 use Rattle.http_connection.proofs.Seen.{seen_none, feed_ends}
 use Rattle.http_connection.proofs.line.line_in.Goals as goal

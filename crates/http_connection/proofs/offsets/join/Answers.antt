@@ -1,4 +1,4 @@
--- The bytes that are joined stand behind the kept ones.
+-- The bytes that are joined come after the kept ones.
 use Rattle.std.proofs.Common.{◌+◌, ◌∙◌, arith}
 use Rattle.http_connection.proofs.Ranges.{joined_here, joined_moved, part_above, part_drop}
 use Rattle.http_connection.proofs.offsets.join.Goals as goal

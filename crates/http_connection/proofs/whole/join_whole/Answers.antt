@@ -1,4 +1,4 @@
--- A body that stands whole is read without a fault.
+-- A body that is whole is read without a fault.
 use Rattle.std.proofs.Common.{Option, Result, Some, subst}
 use Rattle.http_grammar.specs.declared.fault.HttpFault.{HttpFault}
 use Rattle.http_connection.specs.Found.{RequestGives}

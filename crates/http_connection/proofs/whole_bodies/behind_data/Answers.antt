@@ -1,4 +1,4 @@
--- Two bytes stand behind the data, or are wanting.
+-- Two bytes come after the data, or are missing.
 use Rattle.std.proofs.Common.{◌≡◌, Some, [], ◌++◌, drop, refl, sym, ap, subst, ◌∙◌, append-nil, arith, inl, inr}
 use Rattle.std.proofs.lemmas.List.{drop-drop}
 use Rattle.httparse.specs.Ascii.{crlf_bytes}

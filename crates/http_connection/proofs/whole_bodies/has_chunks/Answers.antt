@@ -1,4 +1,4 @@
--- A chunk more is passed over, or what is wrong behind the chunks is wrong with the body.
+-- A chunk more is passed over, or what is wrong after the chunks is wrong with the body.
 use Rattle.std.proofs.Common.{refl, arith}
 use Rattle.http_connection.proofs.AtHand.{passing_none, passing_more, no_line, too_long, no_data, trailer_tells}
 use Rattle.http_connection.proofs.whole_bodies.has_chunks.Goals as goal

@@ -1,4 +1,4 @@
--- What was taken stands behind the pending bytes.
+-- What was taken comes after the pending bytes.
 use Rattle.std.proofs.Common.{◌≡◌, ◌+◌, length, take, drop, refl, sym, ap, ◌∙◌, arith, rules}
 use Rattle.std.specs.Vec.{with_items}
 use Rattle.std.proofs.lemmas.List.{with_items_is}

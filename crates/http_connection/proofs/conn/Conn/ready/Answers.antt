@@ -1,4 +1,4 @@
--- What is held decides, where no fault stands.
+-- What is held decides, where there was no fault.
 use Rattle.std.proofs.Common.{sym, ap, ◌∙◌}
 use Rattle.http_connection.specs.State.{ConnState}
 use Rattle.http_connection.proofs.Readies.{found_ready}
