@@ -1,6 +1,7 @@
 //! The adapters over what std has open: a real file as a disk, and two sockets as a sink and a source.
 
-use adx_io::{Disk, FileDisk, Sink, Source, StdSink, StdSource, put_all};
+use adx_io::{Sink, Source, StdSink, StdSource, put_all};
+use day_journal::{Disk, FileDisk};
 use std::fs::{File, OpenOptions};
 use std::os::unix::net::UnixStream;
 use std::{env, fs, io};

@@ -1,5 +1,6 @@
 //! A disk in memory that keeps its first bytes alone: what is read of it while it is short, and when it is longer.
-use adx_io::{Disk, Failed, WriteOnlyDisk};
+use adx_io::Failed;
+use day_journal::{Disk, WriteOnlyDisk};
 use std::alloc::Global;
 
 /// How many bytes such a disk keeps.

@@ -10,11 +10,11 @@ use crate::messages::{
 use crate::run::status_of_fault;
 use crate::watching::{WatchedAcceptor, WatchedLink};
 use adx_commands::{OUT_OF_MEMORY, READ_FAULT, REFUSED, adx_serve};
-use adx_io::{ByteDisk, Disk, FileDisk};
 use adx_links::{MemoryAcceptor, TcpAcceptor, TcpLink};
 use adx_units::{OutOfMemory, Text};
 use command_notices::first_roster;
 use command_runs::LINE_LIMIT;
+use day_journal::{ByteDisk, Disk, FileDisk};
 use noted_streams::Noting;
 use script_lines::RosterLineFault;
 use std::fs::File;

@@ -6,10 +6,11 @@ use crate::network::{Serving, run_bid, run_post, run_serve};
 use adx_commands::{
     DISK_FAULT, Kept, NO_COMMAND, OUT_OF_MEMORY, adx, adx_in_memory, kept_by_words,
 };
-use adx_io::{FileDisk, StdSink, StdSource};
+use adx_io::{StdSink, StdSource};
 use adx_units::Text;
 use command_words::{Paths, paths_of};
 use day_archive::{Keeper, MemoryKeeper};
+use day_journal::FileDisk;
 use noted_streams::Noting;
 use sql_archive::Opening;
 use std::fs::File;

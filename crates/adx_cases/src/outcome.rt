@@ -1,8 +1,8 @@
 //! What came of a run, as text.
 use crate::runs::{Ran, day_on};
 use crate::step::{Kind, word_of};
-use adx_io::MemoryDisk;
 use adx_units::OutOfMemory;
+use day_journal::MemoryDisk;
 use std::alloc::Global;
 use std::fmt::Write;
 

@@ -1,6 +1,6 @@
 -- An empty file stands for no entry, and so a day on it begins with none.
 use Rattle.std.proofs.Common.{◌≡◌, inl, inr, refl, sym, ap, subst, ◌∙◌, ℕ, List, [], ◌∷◌, length, length-append, arith, Option, Some, None, Ok}
-use Rattle.adx_io.specs.ByteDisks.{ByteDiskState}
+use Rattle.day_journal.specs.ByteDisks.{ByteDiskState}
 use Rattle.adx_io.specs.Streams.{Tape}
 use Rattle.adx_desk.specs.declared.fault.DeskFault.{DeskFault}
 use Rattle.command_gen.specs.GeneratedEnds.{EndsGenerated}

@@ -1,7 +1,7 @@
 -- What words do, by what is read of them.
 use Rattle.std.proofs.Common.{◌≡◌, ◌≢◌, ◌⊎◌, inl, inr, refl, subst, sym, ℕ, List, [], Option, Some, None, Result, Ok, Err, arith, zero-le, true, false}
 use Rattle.std.proofs.lemmas.List.Elements.{All-nil}
-use Rattle.adx_io.specs.declared.disk.Disk as disks
+use Rattle.day_journal.specs.declared.disk.Disk as disks
 use Rattle.adx_io.specs.declared.sink.Sink as sinks
 use Rattle.adx_io.specs.declared.source.Source as sources
 use Rattle.adx_io.specs.declared.stop.Stop.{Stop}

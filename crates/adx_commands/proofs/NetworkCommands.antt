@@ -1,7 +1,7 @@
 -- What words do, by what is read of them.
 use Rattle.std.proofs.Common.{◌≡◌, ◌∙◌, inl, inr, sym, subst, ℕ, List, Option, Some, None, arith}
 use Rattle.adx_links.specs.declared.acceptor.Acceptor as acceptors
-use Rattle.adx_io.specs.declared.disk.Disk as disks
+use Rattle.day_journal.specs.declared.disk.Disk as disks
 use Rattle.adx_io.specs.declared.sink.Sink as sinks
 use Rattle.adx_io.specs.declared.source.Source as sources
 use Rattle.adx_links.specs.declared.link.Link as links

@@ -1,7 +1,7 @@
 -- The causes of a run that ended with an outcome, by its exit status.
 use Rattle.std.proofs.Common.{◌≡◌, ◌≢◌, ◌≤◌, List, ◌⊎◌, ◌∙◌, inl, inr, sym, ap, subst, refl, ℕ, Option, Result, Ok, Err, arith}
 use Rattle.adx_io.specs.Streams.{Rises}
-use Rattle.adx_io.specs.declared.disk.Disk as disks
+use Rattle.day_journal.specs.declared.disk.Disk as disks
 use Rattle.adx_io.specs.declared.stop.Stop.{Stop}
 use Rattle.bidder_core.specs.Seen.{BidderState}
 use Rattle.command_bidder.specs.Bidders.{MayEnd}

@@ -13,7 +13,7 @@ use Rattle.adx_desk.specs.Openings.{HasDiskCause}
 use Rattle.adx_desk.specs.Rosters.{desk_terms}
 use Rattle.adx_desk.specs.declared.fault.DeskFault.{DeskFault}
 use Rattle.adx_io.specs.Streams.{Rises}
-use Rattle.adx_io.specs.declared.disk.Disk as disks
+use Rattle.day_journal.specs.declared.disk.Disk as disks
 use Rattle.adx_io.specs.declared.sink.Sink as sinks
 use Rattle.adx_io.specs.declared.source.Source as sources
 use Rattle.adx_links.specs.declared.link.Link as links

@@ -1,7 +1,7 @@
 -- What words do, by what was read of them.
 use Rattle.std.proofs.Common.{◌≡◌, ℕ, List, subst}
-use Rattle.adx_io.specs.ByteDisks.{ByteDiskState}
-use Rattle.adx_io.specs.declared.disk.Disk as disks
+use Rattle.day_journal.specs.ByteDisks.{ByteDiskState}
+use Rattle.day_journal.specs.declared.disk.Disk as disks
 use Rattle.adx_io.specs.declared.sink.Sink as sinks
 use Rattle.adx_io.specs.declared.source.Source as sources
 use Rattle.command_words.specs.declared.command.Command.{Command}

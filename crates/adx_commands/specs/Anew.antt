@@ -1,8 +1,8 @@
 -- What a day comes to that begins with no journal: the disk's file is empty, and the history with it. This project's own.
 use Rattle.std.specs.Prelude.{◌≡◌, ℕ, List, [], Option, Some, length, ⊤}
-use Rattle.adx_io.specs.ByteDisks.{ByteDiskState, HeldSince}
+use Rattle.day_journal.specs.ByteDisks.{ByteDiskState, HeldSince}
 use Rattle.adx_io.specs.Streams.{Tape, Took}
-use Rattle.adx_io.specs.declared.disk.Disk as disks
+use Rattle.day_journal.specs.declared.disk.Disk as disks
 use Rattle.command_gen.specs.Generated.{generated_history, generated_line}
 use Rattle.adx_desk.specs.Histories.{DeskTerms, IsHistoryOf}
 use Rattle.answer_lines.specs.Table.{closing_table}

@@ -3,7 +3,7 @@ use Rattle.std.specs.Prelude.{◌≡◌, ◌≢◌, Option, Some, None, IfSome, 
 use Rattle.adx_links.specs.declared.acceptor.Acceptor as acceptors
 use Rattle.adx_desk.specs.Endings.{IsWithinRise}
 use Rattle.adx_io.specs.Streams.{Rises}
-use Rattle.adx_io.specs.declared.disk.Disk as disks
+use Rattle.day_journal.specs.declared.disk.Disk as disks
 use Rattle.command_words.specs.declared.network.NetworkCommand.{NetworkCommand}
 use Rattle.adx_commands.specs.Served.{IsGivenBack, KeepsObjects}
 use Rattle.adx_commands.specs.declared.objects.Objects.{Objects}

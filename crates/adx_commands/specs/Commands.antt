@@ -4,7 +4,7 @@
 -- spelling, and do what `clap` reads of them.
 use Rattle.std.specs.Prelude.{◌≡◌, ◌⊎◌, ℕ, List, codes, true, false, Option, Some, None, Result}
 use Rattle.adx_io.specs.Streams.{Tape, Took, WhereTold}
-use Rattle.adx_io.specs.declared.disk.Disk as disks
+use Rattle.day_journal.specs.declared.disk.Disk as disks
 use Rattle.adx_io.specs.declared.stop.Stop.{Stop}
 use Rattle.adx_io.specs.declared.sink.Sink as sinks
 use Rattle.adx_io.specs.declared.source.Source as sources

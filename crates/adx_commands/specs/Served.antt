@@ -1,7 +1,7 @@
 -- What a command gives back of the objects that it was given. This project's own.
 use Rattle.std.specs.Prelude.{◌≡◌, ◌≢◌, ◌⊎◌, ℕ, ◌<◌, [], length, Some, IsSome, IfSome}
 use Rattle.adx_io.specs.Streams.{Rises}
-use Rattle.adx_io.specs.declared.disk.Disk as disks
+use Rattle.day_journal.specs.declared.disk.Disk as disks
 use Rattle.adx_commands.specs.declared.objects.Objects.{Objects}
 use Rattle.adx_commands.specs.declared.served.Served.{Served}
 

@@ -1,8 +1,8 @@
 -- What words do, of any spelling and in plain spelling: the clauses that the top call has with a journal and without one.
 -- This project's own.
 use Rattle.std.specs.Prelude.{◌≡◌, ℕ, List, Some}
-use Rattle.adx_io.specs.ByteDisks.{ByteDiskState}
-use Rattle.adx_io.specs.declared.disk.Disk as disks
+use Rattle.day_journal.specs.ByteDisks.{ByteDiskState}
+use Rattle.day_journal.specs.declared.disk.Disk as disks
 use Rattle.adx_io.specs.declared.sink.Sink as sinks
 use Rattle.adx_io.specs.declared.source.Source as sources
 use Rattle.command_words.specs.Helps.{help_text, version_text}

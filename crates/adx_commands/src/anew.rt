@@ -10,9 +10,10 @@ ghost use Rattle.adx_commands.specs.Words.{DoesWordsAnew};
 ghost use Rattle.adx_commands.specs.Commands.{IsArchive, IsArchiveList, IsArchivePut, IsBidder, IsCheck, IsConnection, IsDay, IsGenerated, RunsBidder};
 
 use crate::command::adx;
-use adx_io::{Sink, Source, WriteOnlyDisk};
+use adx_io::{Sink, Source};
 use adx_units::Text;
 use day_archive::Keeper;
+use day_journal::WriteOnlyDisk;
 use std::alloc::Global;
 
 /// Runs the command that the words name as `adx` does, on a new disk in memory, and gives the exit status. A day begins with

@@ -20,7 +20,7 @@ ghost use Rattle.adx_commands.specs.Words.{DoesWords};
 ghost use Rattle.adx_commands.specs.Commands.{AsksNothing, Does, DoesAsRead, IsArchive, IsArchiveList, IsArchivePut, IsBidder, IsCheck, IsClose, IsCommand, IsConnection, IsDay, IsGenerated, IsHelp, IsNotices, IsRatio, IsReconcile, IsVersion, LeavesDisk, LeavesKeeper, Runs, RunsBidder, RunsConnection, RunsDay, RunsGenerated, RunsPrint, RunsReconcile, Tells};
 
 use crate::status::{DONE, NO_COMMAND, OUT_OF_MEMORY, WRITE_FAULT, status_of_outcome};
-use adx_io::{Disk, Sink, Source, put_all};
+use adx_io::{Sink, Source, put_all};
 use adx_units::Text;
 use command_archive::{Query, keep_day, list_days_of};
 use command_bidder::run_bidder;
@@ -33,6 +33,7 @@ use command_notices::print_notices;
 use command_reconcile::reconcile_ledger;
 use command_words::{Command, VERSION, command_of, help_of};
 use day_archive::Keeper;
+use day_journal::Disk;
 use std::alloc::Global;
 
 /// What is written to the sink where the words aren't a command.

@@ -7,10 +7,10 @@ ghost use Rattle.adx_commands.specs.Served.{KeepsObjects};
 
 use crate::objects::{Objects, give_back};
 use crate::served::Served;
-use adx_io::Disk;
 use adx_links::{Acceptor, Link};
 use command_bidder::bid;
 use command_notices::post_notices;
+use day_journal::Disk;
 use std::alloc::Global;
 use std::sync::Wait;
 

@@ -2,7 +2,7 @@
 use Rattle.std.proofs.Common.{◌≡◌, ◌⊎◌, inl, inr, ℕ, List, [], ◌∷◌, Option, Some, refl, sym, ◌∙◌, subst}
 use Rattle.std.proofs.lemmas.List.Elements.{All-nil}
 use Rattle.std.proofs.lemmas.Option.{same_Some}
-use Rattle.adx_io.specs.Disks.{AsRead, LeavesOnly}
+use Rattle.day_journal.specs.Disks.{AsRead, LeavesOnly}
 use Rattle.day_journal.specs.Openings.{OnlyReads, OpeningState}
 use Rattle.day_journal.specs.Places.{IsClosed, IsFormat, IsPayload, StandsFor, opened}
 use Rattle.day_journal.specs.Tails.{JournalState, Keeps, WithAtMostOne as WithOnePayload}

@@ -4,7 +4,7 @@ use Rattle.std.specs.Prelude.{Err}
 use Rattle.std.specs.List.{flat_map}
 use Rattle.std.proofs.lemmas.Option.{same_Some}
 use Rattle.std.proofs.lemmas.List.Elements.{All-head, All-nil}
-use Rattle.adx_io.specs.Disks.{LeavesOnly}
+use Rattle.day_journal.specs.Disks.{LeavesOnly}
 use Rattle.adx_io.specs.Streams.{last_count}
 use Rattle.day_journal.specs.declared.fault.AppendFault.{AppendFault}
 use Rattle.day_journal.specs.declared.fault.OpeningFault.{OpeningFault}

@@ -1,6 +1,6 @@
 -- What opening a desk leaves, by what its journal's opening left first.
 use Rattle.std.proofs.Common.{◌≡◌, inl, inr, ℕ, List, [], Option, Some, subst}
-use Rattle.adx_io.specs.Disks.{AsRead, LeavesOnly}
+use Rattle.day_journal.specs.Disks.{AsRead, LeavesOnly}
 use Rattle.day_journal.specs.declared.fault.OpeningFault.{OpeningFault}
 use Rattle.day_journal.specs.Faults.{Refuses}
 use Rattle.day_journal.specs.Openings.{OpeningState, StandsBehind}

@@ -2,7 +2,7 @@
 use Rattle.std.proofs.Common.{◌≡◌, ◌⊎◌, inl, inr, ℕ, ◌<◌, ◌≤◌, List, [], ◌∷◌, ◌++◌, length, Option, Some, None, refl, sym, ◌∙◌, ap, subst, arith}
 use Rattle.std.specs.Prelude.{Result, Ok, Err, IfErr}
 use Rattle.std.proofs.lemmas.List.{append-nil}
-use Rattle.adx_io.specs.Disks.{LeavesOnly}
+use Rattle.day_journal.specs.Disks.{LeavesOnly}
 use Rattle.adx_io.specs.Fakes.{counted}
 use Rattle.day_journal.specs.Tails.{JournalState, Keeps, WithAtMostOne as WithOnePayload}
 use Rattle.day_rules.specs.declared.entry.Entry.{Entry}

@@ -2,8 +2,8 @@
 -- a disk tells as one value. This project's own.
 -- Example: of a desk `old`, `reply_to_tick old 60` is `tick_reply old.history 60`.
 use Rattle.std.specs.Prelude.{◌≡◌, ℕ, List, [], Option, Some, Result}
-use Rattle.adx_io.specs.declared.disk.Disk as disk
-use Rattle.adx_io.specs.Disks.{AsRead, LeavesOnly}
+use Rattle.day_journal.specs.declared.disk.Disk as disk
+use Rattle.day_journal.specs.Disks.{AsRead, LeavesOnly}
 use Rattle.notice_book.specs.declared.kind.NoticeKind.{NoticeKind}
 use Rattle.day_journal.specs.Openings.{OpeningState, StandsBehind}
 use Rattle.day_machine.specs.Batches.{entries_in_turn}

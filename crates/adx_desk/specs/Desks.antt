@@ -1,6 +1,6 @@
 -- What a contract sees of a desk, and what its disk keeps of the history. This project's own.
 use Rattle.std.specs.Prelude.{◌≡◌, ℕ, ◌≤◌, Bool, List, [], ◌∷◌, ◌++◌, length, IsTrue}
-use Rattle.adx_io.specs.Disks.{Each}
+use Rattle.day_journal.specs.Disks.{Each}
 use Rattle.day_journal.specs.Tails.{JournalState, Keeps}
 use Rattle.day_rules.specs.declared.entry.Entry.{Entry}
 use Rattle.day_rules.specs.Legal.{IsLegal}

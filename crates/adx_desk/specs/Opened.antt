@@ -1,6 +1,6 @@
 -- What opening a desk leaves, where it is done and where it gives up. This project's own.
 use Rattle.std.specs.Prelude.{◌≡◌, ℕ, List, Option, Some}
-use Rattle.adx_io.specs.Disks.{LeavesOnly}
+use Rattle.day_journal.specs.Disks.{LeavesOnly}
 use Rattle.day_rules.specs.declared.entry.Entry.{Entry}
 use Rattle.adx_desk.specs.declared.fault.DeskFault.{DeskFault}
 use Rattle.adx_desk.specs.Desks.{DeskKeeps, DeskState}

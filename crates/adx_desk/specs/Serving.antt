@@ -1,6 +1,6 @@
 -- What a call of a desk leaves, by the entries that it adds. This project's own.
 use Rattle.std.specs.Prelude.{◌≡◌, ◌⊎◌, ℕ, ◌<◌, List, ◌++◌, length, Option, Result, OnOk, OnErr, IfSome}
-use Rattle.adx_io.specs.Disks.{LeavesOnly}
+use Rattle.day_journal.specs.Disks.{LeavesOnly}
 use Rattle.day_rules.specs.declared.entry.Entry.{Entry}
 use Rattle.day_rules.specs.Replies.{with_entry}
 use Rattle.adx_desk.specs.declared.fault.DeskFault.{DeskFault}

@@ -26,9 +26,9 @@ use crate::copying::{copy_for, copy_in, fitted, swapped};
 use crate::done::Done;
 use crate::fault::DeskFault;
 use crate::framing::{put_notice, put_planned};
-use adx_io::{Disk, Frame};
+use adx_io::Frame;
 use adx_units::{OutOfMemory, Units};
-use day_journal::{AppendFault, Journal};
+use day_journal::{AppendFault, Disk, Journal};
 use day_machine::{
     Batch, Day, GREATEST_SIZE, MeteredDay, expiry_record, held_by, notice_record, open_awards,
     open_behind, sale_count,

@@ -13,8 +13,7 @@ ghost use Rattle.adx_desk.specs.declared.fault.DeskFault.{DeskFault as Fault};
 
 use crate::fault::DeskFault;
 use crate::record_reading::take_record;
-use adx_io::Disk;
-use day_journal::Opening;
+use day_journal::{Disk, Opening};
 use day_machine::MeteredDay;
 use sha2::{Digest, Sha256};
 use std::alloc::Global;

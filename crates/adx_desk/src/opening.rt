@@ -1,6 +1,6 @@
 //! How the day of a roster is opened on a disk.
 ghost use Rattle.std.specs.Prelude.{◌≡◌, ◌⊎◌, ◌+◌, ◌<◌, ◌≤◌, ℕ, List, [], ◌∷◌, length, true, Some, IfOk, IfErr, OnOk};
-ghost use Rattle.adx_io.specs.Disks.{LeavesOnly};
+ghost use Rattle.day_journal.specs.Disks.{LeavesOnly};
 ghost use Rattle.day_journal.specs.Places.{StandsFor, opened};
 ghost use Rattle.day_journal.specs.Tails.{Keeps, size_of};
 ghost use Rattle.day_rules.specs.DayState.{IsDay};
@@ -14,8 +14,8 @@ ghost use Rattle.adx_desk.specs.Openings.{EndsByDisk, IsRefusal, RefusesDesk};
 use crate::fault::DeskFault;
 use crate::journaled_day::JournaledDay;
 use crate::loading::load;
-use adx_io::{Disk, Frame};
-use day_journal::{Journal, Opening};
+use adx_io::Frame;
+use day_journal::{Disk, Journal, Opening};
 use day_machine::MeteredDay;
 use std::alloc::Global;
 

@@ -1,8 +1,8 @@
 //! A desk as a value that threads share: its history, its faults, and what it was opened with.
 use crate::desk::Desk;
 use crate::turn::Turn;
-use adx_io::Disk;
 use adx_units::{Counted, Sequence, Units};
+use day_journal::Disk;
 use day_rules::{DayLimits, Entry};
 
 /// What a desk was opened with, which no call changes: the roster's campaigns and limits, and what is known of the disk

@@ -14,10 +14,11 @@ ghost use Rattle.command_close.specs.ClosedDays.{HasOneDocument, IsClosedDay};
 ghost use Rattle.history_runs.specs.Putting.{PutsBytes, PutsPiece};
 
 use crate::pieces::{Lines, put_lines};
-use adx_io::{Disk, Sink, Source, Stop, Talk};
+use adx_io::{Sink, Source, Stop, Talk};
 use adx_units::OutOfMemory;
 use bid_record::{ImpRow, Record, push_end_line, push_imp_line, push_record_front};
 use command_runs::Outcome;
+use day_journal::Disk;
 use day_rules::Entry;
 use deal_floor::Roster;
 use dual_cert::{Cert, push_beta_line, push_bound_line, push_cert_front};

@@ -10,9 +10,10 @@ ghost use Rattle.ratio_law.specs.Line.{ratio_line};
 ghost use Rattle.command_close.specs.Guarantees.{HasNumbers, HasOneGuarantee, IsGuarantee};
 ghost use Rattle.history_runs.specs.Putting.{PutsBytes};
 
-use adx_io::{Disk, Sink, Source, Stop, Talk};
+use adx_io::{Sink, Source, Stop, Talk};
 use adx_units::OutOfMemory;
 use command_runs::Outcome;
+use day_journal::Disk;
 use day_rules::Entry;
 use deal_floor::Roster;
 use history_runs::{Print, run_history};

@@ -1,7 +1,7 @@
 -- A connection on a desk that was opened on a loan of a disk, told of the disk.
 use Rattle.std.proofs.Common.{◌≡◌, ◌∙◌, subst, ℕ, List, Option, Some, Result}
 use Rattle.adx_io.specs.Streams.{Rises, Tape, WhereTold}
-use Rattle.adx_io.specs.declared.disk.Disk.{Ghosts as DiskGhosts}
+use Rattle.day_journal.specs.declared.disk.Disk.{Ghosts as DiskGhosts}
 use Rattle.adx_io.specs.declared.stop.Stop.{Stop}
 use Rattle.adx_links.specs.declared.link.Link.{Ghosts as LinkGhosts}
 use Rattle.adx_desk.specs.Desks.{OnDisk}

@@ -1,7 +1,7 @@
 -- The disk's count of faults over a run: it rises where the run ended by the disk's fault, and it stays where it was done.
 use Rattle.std.proofs.Common.{◌≡◌, ◌⊎◌, inl, inr, ◌≤◌, List, Option, Some, None, Result, Ok, Err, sym, ap, ◌∙◌, subst, arith}
 use Rattle.adx_io.specs.Streams.{Rises}
-use Rattle.adx_io.specs.declared.disk.Disk as disks
+use Rattle.day_journal.specs.declared.disk.Disk as disks
 use Rattle.adx_io.specs.declared.stop.Stop.{Stop}
 use Rattle.command_day.proofs.DiskCounts.{disk_later as course_later, disk_rises as course_rises, disk_stays as course_stays}
 use Rattle.command_runs.specs.Firsts.{EndsHeadless, LeavesFirst}

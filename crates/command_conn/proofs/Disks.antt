@@ -1,7 +1,7 @@
 -- What a connection on a desk leaves on its disk, where the desk was opened on a loan of it, and how its run ends.
 use Rattle.std.proofs.Common.{◌≡◌, ◌≢◌, ◌⊎◌, ◌∙◌, inl, inr, refl, sym, subst, arith, ℕ, zero, suc, ◌+◌, ◌<◌, ◌≤◌, min, List, [], ◌∷◌, length, Option, Some, None}
 use Rattle.std.proofs.lemmas.List.Elements.{All-nil, All-cons}
-use Rattle.adx_io.specs.Disks.{Each, LeavesOnly}
+use Rattle.day_journal.specs.Disks.{Each, LeavesOnly}
 use Rattle.adx_io.specs.Fakes.{counted}
 use Rattle.adx_io.specs.Streams.{last_count}
 use Rattle.adx_desk.specs.Desks.{DeskKeeps, OnDisk}

@@ -1,6 +1,6 @@
 -- A run by its first line is that of an exchange.
 use Rattle.std.proofs.Common.{◌≡◌, ap, subst, Option, Some, None, Result}
-use Rattle.adx_io.specs.declared.disk.Disk as disks
+use Rattle.day_journal.specs.declared.disk.Disk as disks
 use Rattle.adx_io.specs.declared.sink.Sink as sinks
 use Rattle.adx_io.specs.declared.source.Source as sources
 use Rattle.adx_io.specs.declared.stop.Stop.{Stop}

@@ -1,6 +1,6 @@
 -- What the disk keeps of a day whose notices may be written together, at each moment and at the end. This project's own.
 use Rattle.std.specs.Prelude.{◌≡◌, ◌⊎◌, ℕ, List, [], length, Option, Some}
-use Rattle.adx_io.specs.Disks.{Each, LeavesOnly}
+use Rattle.day_journal.specs.Disks.{Each, LeavesOnly}
 use Rattle.adx_desk.specs.Histories.{DeskTerms, IsHistoryOf, WithOrWithout}
 use Rattle.adx_desk.specs.Openings.{StandsAsRead}
 use Rattle.day_rules.specs.declared.entry.Entry.{Entry}

@@ -3,7 +3,7 @@ use Rattle.std.specs.Prelude.{◌≡◌, ◌≢◌, ◌≤◌, ℕ, List, [], le
 use Rattle.adx_desk.specs.Desks.{OnDisk}
 use Rattle.adx_io.specs.Lines.{tape_behind}
 use Rattle.adx_io.specs.Streams.{Tape}
-use Rattle.adx_io.specs.declared.disk.Disk.{Ghosts as DiskGhosts}
+use Rattle.day_journal.specs.declared.disk.Disk.{Ghosts as DiskGhosts}
 use Rattle.adx_io.specs.declared.line_buffer.TheConstants.{CHUNK}
 use Rattle.adx_io.specs.declared.stop.Stop.{Stop}
 use Rattle.adx_links.specs.declared.link.Link.{Ghosts as LinkGhosts}

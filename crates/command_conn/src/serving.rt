@@ -17,10 +17,11 @@ ghost use Rattle.http_service.specs.Connections.{HasCauses as ConnCauses};
 
 use crate::lanes::roster_lanes;
 use adx_desk::Desk;
-use adx_io::{Disk, LineBuffer, Lines, Sink, Source, Stop, Talk};
+use adx_io::{LineBuffer, Lines, Sink, Source, Stop, Talk};
 use adx_links::Link;
 use adx_units::OutOfMemory;
 use command_runs::{Led, NoLine, Outcome, run_led};
+use day_journal::Disk;
 use deal_floor::Roster;
 use exchange_http::serve_connection;
 use exchange_messages::FixedClock;

@@ -5,7 +5,7 @@ use Rattle.adx_desk.specs.Rosters.{desk_terms}
 use Rattle.adx_io.specs.Lines.{Keeps, tape_behind}
 use Rattle.adx_io.specs.Streams.{Tape, WhereTold}
 use Rattle.adx_io.specs.Talk.{ReadsNext, TalkState}
-use Rattle.adx_io.specs.declared.disk.Disk as disks
+use Rattle.day_journal.specs.declared.disk.Disk as disks
 use Rattle.adx_io.specs.declared.line_buffer.TheConstants.{CHUNK}
 use Rattle.adx_io.specs.declared.stop.Stop.{Stop}
 use Rattle.adx_io.specs.declared.talk.Next.{Next}

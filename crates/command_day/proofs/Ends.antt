@@ -1,6 +1,6 @@
 -- What came of a day, and of its run from the first line.
 use Rattle.std.proofs.Common.{◌≡◌, Option, Some, None, Result, ap, subst}
-use Rattle.adx_io.specs.declared.disk.Disk as disks
+use Rattle.day_journal.specs.declared.disk.Disk as disks
 use Rattle.adx_io.specs.declared.sink.Sink as sinks
 use Rattle.adx_io.specs.declared.source.Source as sources
 use Rattle.adx_io.specs.declared.stop.Stop.{Stop}

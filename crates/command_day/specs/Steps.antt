@@ -6,7 +6,7 @@ use Rattle.adx_desk.specs.declared.fault.DeskFault.{DeskFault}
 use Rattle.adx_io.specs.Streams.{Tape, Took, WhereTold}
 use Rattle.adx_io.specs.Talk.{TalkState}
 use Rattle.adx_io.specs.TalkState.{state_of}
-use Rattle.adx_io.specs.declared.disk.Disk as disk
+use Rattle.day_journal.specs.declared.disk.Disk as disk
 use Rattle.adx_io.specs.declared.sink.Sink as sink
 use Rattle.adx_io.specs.declared.source.Source as source
 use Rattle.adx_io.specs.declared.stop.Stop.{Stop}

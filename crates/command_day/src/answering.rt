@@ -13,9 +13,10 @@ ghost use Rattle.desk_calls.specs.Answering.{IsOfCall};
 ghost use Rattle.history_runs.specs.Script.{terms_by};
 
 use adx_desk::{Desk, DeskFault};
-use adx_io::{Disk, LineBuffer};
+use adx_io::LineBuffer;
 use adx_units::OutOfMemory;
 use answer_lines::{Fault, push_answer, push_fault};
+use day_journal::Disk;
 use day_rules::{Answer, Ask};
 use deal_floor::{Campaign, Roster};
 use script_lines::{Change, LineFault, Notice, Refusal, ScriptLine, push_refused, read_line};

@@ -9,9 +9,10 @@ ghost use Rattle.command_runs.specs.Talks.{TalkWrote};
 
 use crate::lines::run_lines;
 use adx_desk::Desk;
-use adx_io::{Disk, Sink, Source, Stop, Talk};
+use adx_io::{Sink, Source, Stop, Talk};
 use adx_units::OutOfMemory;
 use command_runs::{Led, NoLine, Outcome, run_led};
+use day_journal::Disk;
 use deal_floor::Roster;
 use history_runs::{push_roster_lack, roster_of, tell_unopened};
 use std::alloc::Global;

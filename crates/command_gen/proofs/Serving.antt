@@ -1,7 +1,7 @@
 -- How a generated day ends, by what was taken and put.
 use Rattle.std.proofs.Common.{◌≡◌, ◌≢◌, ℕ, List, [], Option, Some, None, Result, Ok, Err, refl, sym, ap, ◌∙◌, subst, append-nil}
 use Rattle.adx_io.specs.Streams.{Rises, Took}
-use Rattle.adx_io.specs.declared.disk.Disk as disk
+use Rattle.day_journal.specs.declared.disk.Disk as disk
 use Rattle.adx_io.specs.declared.stop.Stop.{Stop}
 use Rattle.adx_desk.specs.Desks.{OnDisk}
 use Rattle.adx_desk.specs.Histories.{DeskTerms}

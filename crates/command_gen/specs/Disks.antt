@@ -1,7 +1,7 @@
 -- What the calls of a generated day make of a desk, with all that a disk tells as one value. Only private clauses cite this
 -- file.
 use Rattle.std.specs.Prelude.{ℕ, List, Option, Result}
-use Rattle.adx_io.specs.declared.disk.Disk as disk
+use Rattle.day_journal.specs.declared.disk.Disk as disk
 use Rattle.adx_io.specs.declared.stop.Stop.{Stop}
 use Rattle.adx_desk.specs.Desks.{OnDisk}
 use Rattle.command_gen.specs.declared.early.EarlyEnd.{EarlyEnd}

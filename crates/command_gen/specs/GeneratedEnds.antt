@@ -1,7 +1,7 @@
 -- How a generated day ends on a sink and a disk. This project's own.
 use Rattle.std.specs.Prelude.{◌≡◌, ◌≢◌, ℕ, List, [], ◌∷◌, ◌++◌, Option, Some, None, Result, Ok, Err}
 use Rattle.adx_io.specs.Streams.{Took}
-use Rattle.adx_io.specs.declared.disk.Disk as disk
+use Rattle.day_journal.specs.declared.disk.Disk as disk
 use Rattle.adx_io.specs.declared.stop.Stop.{Stop}
 use Rattle.adx_desk.specs.declared.fault.DeskFault.{DeskFault}
 use Rattle.answer_lines.specs.Table.{closing_table}

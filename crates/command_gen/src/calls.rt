@@ -12,7 +12,7 @@ use crate::asks::{ask_of, next_word};
 use crate::early::EarlyEnd;
 use crate::generator::Generator;
 use adx_desk::{Desk, DeskFault};
-use adx_io::Disk;
+use day_journal::Disk;
 use day_rules::{Answer, Ask};
 use itoa::Buffer;
 use notice_book::NoticeKind;

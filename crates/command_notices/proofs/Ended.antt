@@ -1,6 +1,6 @@
 -- How a run of posting ends, from what came of its day.
 use Rattle.std.proofs.Common.{◌≡◌, inl, inr, List, ℕ, Result, Ok, Err}
-use Rattle.adx_io.specs.declared.disk.Disk as disk
+use Rattle.day_journal.specs.declared.disk.Disk as disk
 use Rattle.adx_links.specs.declared.link.Link as links
 use Rattle.adx_desk.specs.declared.fault.DeskFault.{DeskFault}
 use Rattle.deal_floor.specs.declared.roster.Roster.{Roster}

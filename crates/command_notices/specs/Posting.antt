@@ -1,6 +1,6 @@
 -- How a run of posting ended: what became of each notice, of the link and of the disk. This project's own.
 use Rattle.std.specs.Prelude.{◌≡◌, ◌⊎◌, ℕ, ◌≤◌, ◌<◌, List, [], length, take}
-use Rattle.adx_io.specs.declared.disk.Disk as disk
+use Rattle.day_journal.specs.declared.disk.Disk as disk
 use Rattle.adx_links.specs.declared.link.Link as links
 use Rattle.adx_desk.specs.Calls.{DeskGivesUp}
 use Rattle.adx_desk.specs.Openings.{HasDiskCause}

@@ -7,8 +7,8 @@ ghost use Rattle.command_notices.specs.Posting.{EndsDay, EndsPosting, PumpsOnce,
 use crate::ending::{PostEnd, end_of};
 use crate::roster::first_roster;
 use adx_desk::Desk;
-use adx_io::Disk;
 use adx_links::Link;
+use day_journal::Disk;
 use day_rules::Entry;
 use deal_floor::Roster;
 use outbox::Outbox;

@@ -11,9 +11,10 @@ ghost use Rattle.outbox.specs.Posts.{posts_of};
 ghost use Rattle.command_notices.specs.PostLines.{AreNotices};
 
 use crate::lines::put_posts;
-use adx_io::{Disk, Sink, Source, Stop, Talk};
+use adx_io::{Sink, Source, Stop, Talk};
 use adx_units::OutOfMemory;
 use command_runs::Outcome;
+use day_journal::Disk;
 use day_rules::Entry;
 use deal_floor::Roster;
 use history_runs::{Print, run_history};

@@ -1,7 +1,7 @@
 -- The disk's count of faults, by how a reconciliation ended.
 use Rattle.std.proofs.Common.{◌≡◌, ◌⊎◌, inl, inr, sym, ℕ, ◌≤◌, Some, None, Result, Ok, Err, arith}
 use Rattle.adx_io.specs.Streams.{Rises}
-use Rattle.adx_io.specs.declared.disk.Disk as disk
+use Rattle.day_journal.specs.declared.disk.Disk as disk
 use Rattle.adx_io.specs.declared.stop.Stop.{Stop}
 use Rattle.command_reconcile.specs.Reconciling.{EndsRead, LeavesDisk}
 use Rattle.command_reconcile.specs.Runs.{Course}

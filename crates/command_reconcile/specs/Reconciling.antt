@@ -5,7 +5,7 @@ use Rattle.adx_desk.specs.Opened.{GivesUp}
 use Rattle.adx_desk.specs.Openings.{HasDiskCause}
 use Rattle.adx_desk.specs.Rosters.{desk_terms}
 use Rattle.adx_desk.specs.declared.fault.DeskFault.{DeskFault}
-use Rattle.adx_io.specs.declared.disk.Disk as disk
+use Rattle.day_journal.specs.declared.disk.Disk as disk
 use Rattle.adx_io.specs.declared.line_buffer.TheConstants.{CHUNK}
 use Rattle.adx_io.specs.declared.stop.Stop.{Stop}
 use Rattle.bidder_core.specs.declared.ledger.LedgerRow.{LedgerRow}

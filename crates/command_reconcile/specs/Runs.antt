@@ -1,7 +1,7 @@
 -- How a reconciliation ran over a source, a sink and a disk. This project's own.
 use Rattle.std.specs.Prelude.{ℕ, List, Option, Result}
 use Rattle.adx_desk.specs.declared.fault.DeskFault.{DeskFault}
-use Rattle.adx_io.specs.declared.disk.Disk as disk
+use Rattle.day_journal.specs.declared.disk.Disk as disk
 use Rattle.adx_io.specs.declared.sink.Sink as sink
 use Rattle.adx_io.specs.declared.source.Source as source
 use Rattle.adx_io.specs.declared.stop.Stop.{Stop}

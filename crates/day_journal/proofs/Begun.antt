@@ -1,6 +1,6 @@
 -- What opening leaves of a file.
 use Rattle.std.proofs.Common.{◌≡◌, ◌⊎◌, inl, inr, ℕ, ◌≤◌, List, length, take, Option, Some, None, is_some, ⊎_elim, refl, sym, ◌∙◌, ap, subst, arith}
-use Rattle.adx_io.specs.Disks.{AsRead, Each, LeavesOnly}
+use Rattle.day_journal.specs.Disks.{AsRead, Each, LeavesOnly}
 use Rattle.day_journal.specs.Places.{IsCleared, IsMarked, IsUnfinished, new_file}
 use Rattle.day_journal.specs.Starts.{BeginsJournal, HasSome, IsStart, LeavesNoMore, Looked, StandsAsRead, StandsNew}
 use Rattle.day_journal.specs.declared.start.TheConstants.{NEW_FORMAT}

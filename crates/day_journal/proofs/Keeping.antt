@@ -4,7 +4,7 @@ use Rattle.std.specs.Prelude.{Result, Ok, Err, OnOk, OnErr}
 use Rattle.std.proofs.lemmas.Bool.{cases_eq}
 use Rattle.std.proofs.lemmas.List.{flat_map_more}
 use Rattle.std.proofs.lemmas.List.Elements.{All-push}
-use Rattle.adx_io.specs.Disks.{Each}
+use Rattle.day_journal.specs.Disks.{Each}
 use Rattle.adx_io.specs.Frames.{body}
 use Rattle.day_journal.specs.Places.{head, IsFormat, IsPayload, open_place, opened, IsClosed}
 use Rattle.day_journal.specs.Tails.{IsGated, HasTail, HasShutTail, JournalState, Ends, Keeps, WithOrWithout, WithAtMostOne}

@@ -6,7 +6,7 @@ use Rattle.std.proofs.lemmas.Bool.{cases_eq}
 use Rattle.std.proofs.lemmas.List.{take_at, drop_at, drop_more, take_all, take-take, drop-drop, drop-take, take-append-drop, length-take, length-take-le}
 use Rattle.std.proofs.lemmas.List.Elements.{All-push, All-nil}
 use Rattle.std.proofs.lemmas.Nat.{from_le_bytes-to_le_bytes_4, le_bytes_4}
-use Rattle.adx_io.specs.Disks.{Shows}
+use Rattle.day_journal.specs.Disks.{Shows}
 use Rattle.adx_io.specs.Frames.{body, longest_payload}
 use Rattle.adx_io.specs.Streams.{last_count}
 use Rattle.day_journal.specs.Openings.{WindowState, IsWindow, HasPlace, ReadsMore, ReadsOn, StandsBehind, IsPlace, IsSized, IsNoLength}

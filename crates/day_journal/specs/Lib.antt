@@ -1,3 +1,10 @@
+pub mod Disks
+pub mod MemoryDisks
+pub mod MemoryDiskLaws
+pub mod ByteDisks
+pub mod ByteDiskLaws
+pub mod WriteOnlyDisks
+pub mod FileDisks
 pub mod Faults
 pub mod Openings
 pub mod Places

@@ -1,7 +1,7 @@
 -- How a journal is read place by place. This project's own.
 use Rattle.std.specs.Prelude.{◌≡◌, ◌≢◌, ◌⊎◌, ℕ, ◌+◌, ◌-◌, ◌^◌, ◌<◌, ◌≤◌, min, List, ◌∷◌, ◌++◌, length, take, drop, All, Bool, true, Option}
 use Rattle.std.specs.Int.{w32, to_le_bytes}
-use Rattle.adx_io.specs.Disks.{LeavesOnly, Within}
+use Rattle.day_journal.specs.Disks.{LeavesOnly, Within}
 use Rattle.adx_io.specs.Frames.{longest_payload}
 use Rattle.day_journal.specs.Places.{IsFormat, IsPayload, IsClosed, opened}
 use Rattle.day_journal.specs.declared.place.Place.{Place}

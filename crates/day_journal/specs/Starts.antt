@@ -1,6 +1,6 @@
 -- What a file is before its payloads are read. This project's own.
 use Rattle.std.specs.Prelude.{◌≡◌, ◌⊎◌, ℕ, ◌≤◌, List, [], length, take, Option, Some}
-use Rattle.adx_io.specs.Disks.{AsRead, LeavesOnly, Within}
+use Rattle.day_journal.specs.Disks.{AsRead, LeavesOnly, Within}
 use Rattle.day_journal.specs.Places.{IsCleared, IsFormat, IsMarked, IsUnfinished, HasNoHead, StandsFor, head, new_file}
 use Rattle.day_journal.specs.declared.start.Start.{Start}
 

@@ -1,6 +1,6 @@
 -- What an open journal knows of each image of its disk. This project's own.
 use Rattle.std.specs.Prelude.{◌≡◌, ◌≢◌, ◌⊎◌, ℕ, ◌+◌, List, [], ◌∷◌, ◌++◌, length, Bool, true, false, IsTrue, All}
-use Rattle.adx_io.specs.Disks.{Each}
+use Rattle.day_journal.specs.Disks.{Each}
 use Rattle.adx_io.specs.Frames.{body}
 use Rattle.day_journal.specs.Places.{IsFormat, IsPayload, opened, IsClosed, StandsFor}
 

@@ -1,6 +1,6 @@
 //! The open journal.
 ghost use Rattle.std.specs.Prelude.{◌≡◌, ◌⊎◌, ◌<◌, ◌≤◌, ◌+◌, ◌^◌, ◌++◌, [], ◌∷◌, List, ℕ, length, min, false, All, Err, OnOk, OnErr};
-ghost use Rattle.adx_io.specs.Disks.{Each, LeavesOnly};
+ghost use Rattle.day_journal.specs.Disks.{Each, LeavesOnly};
 ghost use Rattle.adx_io.specs.Streams.{HasCause, last_count};
 ghost use Rattle.adx_io.specs.Frames.{body, record_of};
 ghost use Rattle.day_journal.specs.Faults.{EndsAppend};
@@ -8,9 +8,10 @@ ghost use Rattle.day_journal.specs.Places.{IsFormat, IsPayload, opened};
 ghost use Rattle.day_journal.specs.Tails.{HasShutTail, JournalState, Keeps, WithOrWithout, WithAtMostOne, size_after, size_of};
 ghost use Rattle.day_journal.specs.declared.fault.AppendFault.{AppendFault};
 
+use crate::disk::Disk;
 use crate::fault::AppendFault;
 use crate::steps;
-use adx_io::{Disk, Failed, Frame};
+use adx_io::{Failed, Frame};
 use std::marker::Model;
 
 /// The greatest size of a journal with what is held for later records.

@@ -1,12 +1,13 @@
 //! How a new journal is made of a file that has none.
 ghost use Rattle.std.specs.Prelude.{◌≡◌, ◌⊎◌, ◌≤◌, ◌++◌, [], ◌∷◌, List, ℕ, length, is_some, OnOk};
-ghost use Rattle.adx_io.specs.Disks.{AsRead, Each, LeavesOnly};
+ghost use Rattle.day_journal.specs.Disks.{AsRead, Each, LeavesOnly};
 ghost use Rattle.adx_io.specs.Streams.{HasCause};
 ghost use Rattle.day_journal.specs.Places.{IsCleared, IsMarked, IsMarkedAs, IsUnfinished, new_file};
 ghost use Rattle.day_journal.specs.Starts.{HasSome, StandsNew};
 ghost use Rattle.day_journal.specs.declared.start.TheConstants.{NEW_FORMAT};
 
-use adx_io::{Disk, Failed};
+use crate::disk::Disk;
+use adx_io::Failed;
 
 /// The mark behind byte 0 and a closed gate.
 const MARK: [u8; 9] = *b"ADXJRNL2\0";

@@ -1,5 +1,5 @@
 //! How a journal is opened: made anew where there is none, and else read payload by payload.
-ghost use Rattle.adx_io.specs.Disks.{AsRead, Each, LeavesOnly};
+ghost use Rattle.day_journal.specs.Disks.{AsRead, Each, LeavesOnly};
 ghost use Rattle.adx_io.specs.Frames.{longest_payload};
 ghost use Rattle.adx_io.specs.Streams.{HasCause, last_count};
 ghost use Rattle.day_journal.specs.Faults.{EndsOpening, Refuses};
@@ -11,13 +11,14 @@ ghost use Rattle.day_journal.specs.declared.fault.OpeningFault.{OpeningFault};
 ghost use Rattle.day_journal.specs.declared.place.Place.{Place};
 ghost use Rattle.std.specs.Prelude.{◌≡◌, ◌≤◌, ◌<◌, ◌+◌, ◌^◌, ◌++◌, [], ◌∷◌, List, ℕ, Some, None, Ok, Err, true, false, All, length, take, drop, IfOk, IfErr, OnOk, OnErr, MatchBool, MatchOption};
 
+use crate::disk::Disk;
 use crate::fault::OpeningFault;
 use crate::journal::Journal;
 use crate::making::{make_cleared, make_uncleared};
 use crate::place::{Place, place_in};
 use crate::start::{NEW_FORMAT, Start, start_of};
 use crate::window::{Window, read_behind};
-use adx_io::{Disk, Failed};
+use adx_io::Failed;
 use adx_units::OutOfMemory;
 use std::alloc::Global;
 use std::marker::Model;

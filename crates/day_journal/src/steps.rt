@@ -1,11 +1,12 @@
 //! The two steps of an append: a record behind a closed gate, and a gate.
 ghost use Rattle.std.specs.Prelude.{◌≡◌, ◌<◌, ◌+◌, ◌^◌, ◌++◌, [], ◌∷◌, List, ℕ, length, OnOk};
-ghost use Rattle.adx_io.specs.Disks.{Each, LeavesOnly};
+ghost use Rattle.day_journal.specs.Disks.{Each, LeavesOnly};
 ghost use Rattle.adx_io.specs.Streams.{HasCause};
 ghost use Rattle.day_journal.specs.Places.{IsClosed};
 ghost use Rattle.day_journal.specs.Tails.{IsGated, HasTail, HasShutTail};
 
-use adx_io::{Disk, Failed};
+use crate::disk::Disk;
+use adx_io::Failed;
 
 /// Writes a record and a closed gate behind the closed gate at `gate`, which stays closed.
 pub(crate) fn stage<D: Disk>(disk: &mut D, gate: u64, record_bytes: &[u8]) -> Result<(), Failed>

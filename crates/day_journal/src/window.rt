@@ -1,10 +1,11 @@
 //! The bytes of a file that were read and not yet passed.
-ghost use Rattle.adx_io.specs.Disks.{Within};
+ghost use Rattle.day_journal.specs.Disks.{Within};
 ghost use Rattle.adx_io.specs.Streams.{HasCause, last_count};
 ghost use Rattle.day_journal.specs.Openings.{HasPlace, IsWindow, OnlyReads, ReadsOn};
 ghost use Rattle.std.specs.Prelude.{◌≡◌, ◌≤◌, ◌+◌, ◌-◌, ◌^◌, ◌<◌, ◌++◌, [], List, ℕ, Some, length, min, take, drop, replicate, IfOk, OnOk, OnErr};
 
-use adx_io::{Disk, Failed};
+use crate::disk::Disk;
+use adx_io::Failed;
 use adx_units::OutOfMemory;
 use std::alloc::Global;
 use std::marker::Model;

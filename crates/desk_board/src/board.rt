@@ -4,7 +4,7 @@ ghost use Rattle.day_rules.specs.DayMeters.{steps_of};
 ghost use Rattle.meter_board.specs.Words.{published, taken};
 
 use adx_desk::Desk;
-use adx_io::Disk;
+use day_journal::Disk;
 use meter_board::StepBoard;
 use std::sync::Wait;
 use turnstile::Pass;

@@ -7,8 +7,8 @@ ghost use Rattle.meter_board.specs.Words.{published, seen, IsOf as IsReaderOf, I
 
 use crate::board::Board;
 use adx_desk::Desk;
-use adx_io::Disk;
 use adx_units::OutOfMemory;
+use day_journal::Disk;
 use meter_board::{MeterReader, StepBoard};
 use shared_desk::SharedDesk;
 use std::alloc::Global;

@@ -1,6 +1,6 @@
 -- What is told of a disk that is lent is told of the disk.
 use Rattle.std.proofs.Common.{◌≡◌, ℕ, List, Option, subst}
-use Rattle.adx_io.specs.Disks.{LeavesOnly}
+use Rattle.day_journal.specs.Disks.{LeavesOnly}
 use Rattle.adx_desk.specs.Histories.{DeskTerms}
 use Rattle.adx_desk.specs.Opened.{GivesUp}
 use Rattle.adx_desk.specs.Openings.{HasDiskCause, StandsAsRead}

@@ -1,6 +1,6 @@
 -- Notices that a desk answered together, or that the disk's fault made it answer one by one, are a run.
 use Rattle.std.proofs.Common.{◌≡◌, ◌⊎◌, inl, inr, ℕ, zero, suc, ◌<◌, ◌≤◌, List, [], ◌∷◌, ◌++◌, map, length, Option, Some, None, Ok, Err, refl, sym, ap, ◌∙◌, subst, arith, append-nil}
-use Rattle.adx_io.specs.Disks.{LeavesOnly}
+use Rattle.day_journal.specs.Disks.{LeavesOnly}
 use Rattle.adx_io.specs.Fakes.{counted}
 use Rattle.day_machine.specs.Batches.{AreApart, answers_in_turn, entries_in_turn}
 use Rattle.adx_desk.specs.Desks.{DeskKeeps, OnDisk}

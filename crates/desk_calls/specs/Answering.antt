@@ -1,7 +1,7 @@
 -- What a call does to a desk, and the calls of a line; and a run of calls on a desk that was opened on a disk. Only private
 -- clauses cite this file.
 use Rattle.std.specs.Prelude.{◌≡◌, ◌≢◌, ◌⊎◌, ℕ, List, [], ◌∷◌, length, Option, Some, None}
-use Rattle.adx_io.specs.Disks.{LeavesOnly}
+use Rattle.day_journal.specs.Disks.{LeavesOnly}
 use Rattle.adx_io.specs.Fakes.{counted}
 use Rattle.adx_desk.specs.Desks.{DeskKeeps, OnDisk}
 use Rattle.adx_desk.specs.Histories.{DeskTerms, IsHistoryOf, WithAtMostOne}

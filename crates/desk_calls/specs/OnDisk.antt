@@ -1,6 +1,6 @@
 -- What the disk of a day keeps of it, at each moment and at the end. This project's own.
 use Rattle.std.specs.Prelude.{◌≡◌, ◌⊎◌, ℕ, ◌+◌, ◌<◌, ◌≤◌, List, [], ◌∷◌, ◌++◌, length, Option, Some, None}
-use Rattle.adx_io.specs.Disks.{Each, LeavesOnly}
+use Rattle.day_journal.specs.Disks.{Each, LeavesOnly}
 use Rattle.adx_io.specs.Streams.{Rises}
 use Rattle.day_machine.specs.Batches.{added_by}
 use Rattle.day_machine.specs.Held.{longest_held, longest_record}

@@ -1,6 +1,6 @@
 -- What the disk keeps of a run whose notices may be written together, at each moment and at the end. This project's own.
 use Rattle.std.specs.Prelude.{◌≡◌, ◌≢◌, ◌⊎◌, ℕ, zero, suc, ◌≤◌, List, [], ◌∷◌, ◌++◌, map, length, Option, Some, None, IfSome}
-use Rattle.adx_io.specs.Disks.{LeavesOnly}
+use Rattle.day_journal.specs.Disks.{LeavesOnly}
 use Rattle.adx_io.specs.Fakes.{counted}
 use Rattle.adx_io.specs.Streams.{Rises}
 use Rattle.day_machine.specs.Batches.{AreApart, added_by}

@@ -4,9 +4,9 @@ ghost use Rattle.adx_desk.specs.Rosters.{desk_terms};
 ghost use Rattle.answer_lines.specs.Table.{closing_table};
 
 use adx_desk::Desk;
-use adx_io::Disk;
 use adx_units::OutOfMemory;
 use answer_lines::push_table;
+use day_journal::Disk;
 use deal_floor::{Campaign, Roster};
 
 /// Writes the closing table of a day with these campaigns.

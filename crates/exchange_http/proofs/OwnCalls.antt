@@ -9,7 +9,7 @@ use Rattle.adx_desk.specs.Shared.{MayBeFull}
 use Rattle.adx_desk.specs.Serving.{Serves, ServesAll}
 use Rattle.adx_desk.specs.declared.done.Done.{Done}
 use Rattle.adx_desk.specs.declared.fault.DeskFault.{DeskFault}
-use Rattle.adx_io.specs.declared.disk.Disk.{Ghosts}
+use Rattle.day_journal.specs.declared.disk.Disk.{Ghosts}
 use Rattle.answer_lines.specs.declared.faults.Fault.{Fault}
 use Rattle.day_journal.specs.Tails.{size_of}
 use Rattle.day_rules.specs.declared.answer.Answer.{Answer}

@@ -4,7 +4,7 @@ use Rattle.adx_desk.specs.Desks.{OnDisk}
 use Rattle.adx_desk.specs.Endings.{FailsDisk}
 use Rattle.adx_desk.specs.Serving.{ServesAll}
 use Rattle.adx_desk.specs.declared.fault.DeskFault.{DeskFault}
-use Rattle.adx_io.specs.declared.disk.Disk.{Ghosts}
+use Rattle.day_journal.specs.declared.disk.Disk.{Ghosts}
 use Rattle.day_rules.specs.Laws.{Arrival}
 use Rattle.day_rules.specs.Legal.{IsLegal}
 use Rattle.desk_calls.specs.Steps.{AreSteps, Step, alone}

@@ -1,7 +1,7 @@
 -- How an exchange serves a connection. This project's own.
 use Rattle.std.specs.Prelude.{◌≡◌, ◌⊎◌, ◌≤◌, ℕ, List, ◌++◌, length, Option}
 use Rattle.adx_io.specs.Streams.{Tape}
-use Rattle.adx_io.specs.declared.disk.Disk.{Ghosts as DiskGhosts}
+use Rattle.day_journal.specs.declared.disk.Disk.{Ghosts as DiskGhosts}
 use Rattle.adx_links.specs.declared.link.Link.{Ghosts as LinkGhosts}
 use Rattle.adx_desk.specs.Desks.{OnDisk}
 use Rattle.desk_calls.specs.Steps.{AreSteps, Step, alone, turns_of}

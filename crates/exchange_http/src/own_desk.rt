@@ -1,7 +1,7 @@
 //! A desk that nobody else calls.
 use adx_desk::{Desk, DeskFault, Done};
-use adx_io::Disk;
 use adx_units::{OutOfMemory, Units};
+use day_journal::Disk;
 use day_machine::Batch;
 use day_rules::{Answer, Ask, Meters, Seen};
 use deal_floor::Roster;

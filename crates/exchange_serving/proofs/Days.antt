@@ -6,7 +6,7 @@ use Rattle.std.specs.Prelude.{unwrap_or}
 use mathlib.Core.List.{IsPrefix}
 use Rattle.adx_links.specs.Pairs.{AcceptorTold, PairTold, PairsTold}
 use Rattle.adx_io.specs.Streams.{last_count}
-use Rattle.adx_io.specs.declared.disk.Disk as disk
+use Rattle.day_journal.specs.declared.disk.Disk as disk
 use Rattle.adx_links.specs.declared.link.Link as links
 use Rattle.adx_desk.specs.Desks.{OnDisk, StandsInDoubt, StandsOnDisk}
 use Rattle.adx_desk.specs.Endings.{IsWithinRise}

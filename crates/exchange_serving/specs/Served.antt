@@ -6,7 +6,7 @@ use Rattle.std.specs.Prelude.{◌≡◌, ◌≢◌, ◌⊎◌, ℕ, ◌<◌, ◌
 use Rattle.std.specs.List.{AllZip, flat_map}
 use mathlib.Core.List.{IsPrefix}
 use Rattle.adx_io.specs.Streams.{Rises, Tape}
-use Rattle.adx_io.specs.declared.disk.Disk as disk
+use Rattle.day_journal.specs.declared.disk.Disk as disk
 use Rattle.adx_links.specs.declared.link.Link as links
 use Rattle.adx_links.specs.Pairs.{AcceptorTold, PairTold}
 use Rattle.turnstile.specs.declared.noted.Noted.{Noted}

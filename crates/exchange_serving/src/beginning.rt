@@ -6,9 +6,9 @@ ghost use Rattle.meter_board.specs.Words.{published, taken, IsOf as IsReaderOf};
 ghost use Rattle.exchange_serving.specs.Beginning.{IsBegun};
 
 use adx_desk::Desk;
-use adx_io::Disk;
 use adx_links::Link;
 use adx_units::OutOfMemory;
+use day_journal::Disk;
 use desk_board::{Board, Mail};
 use meter_board::{MeterReader, StepBoard};
 use shared_desk::SharedDesk;

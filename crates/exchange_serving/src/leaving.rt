@@ -1,7 +1,7 @@
 //! What serving leaves, and what is given back where it didn't begin.
 use crate::ending::Ending;
 use adx_desk::Desk;
-use adx_io::Disk;
+use day_journal::Disk;
 use fan_out::Lane;
 
 /// What is given back once all connections were served, and how that ended.

@@ -1,8 +1,8 @@
 //! What a call of serving picks: the day that its workers serve.
 
 use adx_desk::Desk;
-use adx_io::Disk;
 use adx_links::{Hall, Link};
+use day_journal::Disk;
 use desk_board::{BoardNames, MailNames};
 use std::marker::{Brand, PhantomData};
 use std::sync::Mutex;

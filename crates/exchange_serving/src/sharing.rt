@@ -10,8 +10,9 @@ ghost use Rattle.exchange_serving.specs.Sharing.{ServesLent, ServesShared};
 
 use adx_desk::Desk;
 use adx_http::ConnEnd;
-use adx_io::{Disk, Sink, Source};
+use adx_io::{Sink, Source};
 use adx_links::Link;
+use day_journal::Disk;
 use day_rules::MeterView;
 use deal_floor::Roster;
 use desk_calls::DayDesk;

@@ -3,7 +3,7 @@ use Rattle.std.proofs.Common.{◌≡◌, ◌⊎◌, ◌∙◌, inl, inr, sym, ap
 use Rattle.adx_desk.specs.Openings.{HasDiskCause}
 use Rattle.adx_desk.specs.declared.fault.DeskFault.{DeskFault}
 use Rattle.adx_io.specs.Streams.{Rises}
-use Rattle.adx_io.specs.declared.disk.Disk as disk
+use Rattle.day_journal.specs.declared.disk.Disk as disk
 use Rattle.adx_io.specs.declared.stop.Stop.{Stop}
 use Rattle.command_runs.specs.Firsts.{EndsHeadless, LeavesFirst}
 use Rattle.command_runs.specs.declared.outcome.Outcome.{Outcome}

@@ -1,7 +1,7 @@
 -- What a day that was opened leaves on its disk.
 use Rattle.std.proofs.Common.{◌≡◌, ⊎_elim, ℕ, List, [], subst, append-nil}
-use Rattle.adx_io.specs.Disks.{LeavesOnly}
-use Rattle.adx_io.specs.declared.disk.Disk as disk
+use Rattle.day_journal.specs.Disks.{LeavesOnly}
+use Rattle.day_journal.specs.declared.disk.Disk as disk
 use Rattle.adx_desk.specs.Desks.{OnDisk}
 use Rattle.adx_desk.specs.Histories.{DeskTerms, IsHistoryOf}
 use Rattle.adx_desk.specs.Opened.{Opens}

@@ -3,7 +3,7 @@
 use Rattle.std.specs.Prelude.{◌≡◌, ◌≤◌, ℕ, List, length}
 use Rattle.adx_desk.specs.Desks.{OnDisk}
 use Rattle.adx_io.specs.Lines.{Keeps}
-use Rattle.adx_io.specs.declared.disk.Disk as disks
+use Rattle.day_journal.specs.declared.disk.Disk as disks
 use Rattle.adx_io.specs.declared.line_buffer.LineBuffer.{LineBuffer}
 use Rattle.day_rules.specs.Replies.{Call, notice}
 use Rattle.deal_floor.specs.declared.campaign.Campaign.{Campaign}

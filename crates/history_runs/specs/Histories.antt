@@ -5,9 +5,9 @@ use Rattle.adx_desk.specs.Opened.{GivesUp}
 use Rattle.adx_desk.specs.Openings.{HasDiskCause, StandsAsRead}
 use Rattle.adx_desk.specs.Rosters.{desk_terms}
 use Rattle.adx_desk.specs.declared.fault.DeskFault.{DeskFault}
-use Rattle.adx_io.specs.Disks.{Each, LeavesOnly}
+use Rattle.day_journal.specs.Disks.{Each, LeavesOnly}
 use Rattle.adx_io.specs.Streams.{Took}
-use Rattle.adx_io.specs.declared.disk.Disk as disk
+use Rattle.day_journal.specs.declared.disk.Disk as disk
 use Rattle.adx_io.specs.declared.rest.Rest.{Rest}
 use Rattle.adx_io.specs.declared.stop.Stop.{Stop}
 use Rattle.command_runs.specs.Documents.{Judging}

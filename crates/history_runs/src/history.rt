@@ -18,9 +18,10 @@ ghost use Rattle.script_lines.specs.declared.refusal.RosterRefusal.TheVariants.{
 use crate::opening::tell_unopened;
 use crate::roster::{push_roster_lack, roster_of};
 use adx_desk::Desk;
-use adx_io::{Disk, Rest, Sink, Source, Stop, Talk};
+use adx_io::{Rest, Sink, Source, Stop, Talk};
 use adx_units::OutOfMemory;
 use command_runs::{Led, NoLine, Outcome, put_end, run_led, skip_rest};
+use day_journal::Disk;
 use day_rules::Entry;
 use deal_floor::Roster;
 use std::alloc::Global;

@@ -3,9 +3,9 @@ ghost use Rattle.std.specs.Prelude.{◌≡◌, []};
 
 use crate::objects::{Bids, Pair, bytes_of, link_of, lists_of, pairs_of, words_of};
 use adx_commands::{Served, adx_serve};
-use adx_io::{Disk, MemoryDisk};
 use adx_links::{MemoryAcceptor, MemoryLink};
 use adx_units::{OutOfMemory, Text};
+use day_journal::{Disk, MemoryDisk};
 use exchange_messages::FixedClock;
 use std::alloc::Global;
 use std::fmt::Write;

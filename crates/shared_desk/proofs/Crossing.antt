@@ -7,10 +7,10 @@ use denote.Struct.Declared.{shape}
 use Rattle.std.proofs.Crossing.{crosses}
 use Rattle.std.proofs.alloc.Global.TheSendSync as heap
 use Rattle.indexmap.proofs.map.IndexMap.TheSendSync as map
-use Rattle.adx_io.specs.declared.disk.Disk as Disk
-use Rattle.adx_io.specs.contracts.memory_disk.MemoryDisk as MemoryDisk
-use Rattle.adx_io.specs.contracts.memory_disk.MemoryDiskDisk.TheImpl as memory
-use Rattle.adx_io.proofs.memory_disk.MemoryDisk.TheSendSync as memory_disk
+use Rattle.day_journal.specs.declared.disk.Disk as Disk
+use Rattle.day_journal.specs.contracts.memory_disk.MemoryDisk as MemoryDisk
+use Rattle.day_journal.specs.contracts.memory_disk.MemoryDiskDisk.TheImpl as memory
+use Rattle.day_journal.proofs.memory_disk.MemoryDisk.TheSendSync as memory_disk
 use Rattle.adx_io.proofs.frame.Frame.TheSendSync as frame
 use Rattle.day_rules.proofs.entry.Entry.TheSendSync as entry
 use Rattle.day_rules.proofs.step.MeterStep.TheSendSync as step

@@ -10,7 +10,7 @@ ghost use Rattle.shared_desk.specs.Jobs.{HasCopy, Makes};
 use crate::ran::{Ran, as_it_is};
 use crate::shared_desk::SharedDesk;
 use adx_desk::{Desk, DeskFault, Done};
-use adx_io::Disk;
+use day_journal::Disk;
 use day_rules::{Answer, Ask};
 use std::snapshot::Snapshot;
 use std::sync::Wait;

@@ -8,7 +8,7 @@ ghost use Rattle.shared_desk.specs.Jobs.{EndsBatch, MakesAll};
 use crate::ran::as_it_is;
 use crate::shared_desk::SharedDesk;
 use adx_desk::{Desk, DeskFault};
-use adx_io::Disk;
+use day_journal::Disk;
 use day_machine::Batch;
 use std::snapshot::Snapshot;
 use std::sync::Wait;

@@ -7,7 +7,7 @@ ghost use Rattle.shared_desk.specs.Jobs.{Makes};
 use crate::ran::{Ran, as_it_is};
 use crate::shared_desk::SharedDesk;
 use adx_desk::{Desk, DeskFault};
-use adx_io::Disk;
+use day_journal::Disk;
 use day_rules::Answer;
 use notice_book::NoticeKind;
 use std::sync::Wait;

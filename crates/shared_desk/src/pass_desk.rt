@@ -8,8 +8,8 @@ ghost use Rattle.shared_desk.specs.Gains.{CallsAreTurns};
 
 use crate::shared_desk::SharedDesk;
 use adx_desk::{Desk, DeskFault, Done};
-use adx_io::Disk;
 use adx_units::{OutOfMemory, Units};
+use day_journal::Disk;
 use day_machine::Batch;
 use day_rules::{Answer, Ask, MeterView, Meters, Seen};
 use deal_floor::Roster;

@@ -8,8 +8,8 @@ ghost use Rattle.adx_desk.specs.Shared.{is_disk_fault, opened_with};
 ghost use Rattle.shared_desk.specs.Callers.{IsRightPass, entry_of};
 
 use adx_desk::Desk;
-use adx_io::Disk;
 use adx_units::OutOfMemory;
+use day_journal::Disk;
 use std::alloc::Global;
 use std::marker::Model;
 use turnstile::{Pass, Turnstile};

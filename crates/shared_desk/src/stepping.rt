@@ -7,8 +7,8 @@ ghost use Rattle.shared_desk.specs.Callers.{Looks};
 
 use crate::shared_desk::SharedDesk;
 use adx_desk::Desk;
-use adx_io::Disk;
 use adx_units::OutOfMemory;
+use day_journal::Disk;
 use day_rules::MeterStep;
 use std::alloc::Global;
 use std::sync::Wait;

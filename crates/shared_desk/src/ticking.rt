@@ -8,7 +8,7 @@ ghost use Rattle.shared_desk.specs.Jobs.{Makes};
 use crate::ran::{Ran, as_it_is};
 use crate::shared_desk::SharedDesk;
 use adx_desk::{Desk, DeskFault};
-use adx_io::Disk;
+use day_journal::Disk;
 use day_rules::Answer;
 use std::sync::Wait;
 use turnstile::{Job, Pass};

@@ -7,7 +7,7 @@ ghost use Rattle.adx_desk.specs.Shared.{terms_in};
 
 use crate::days::{ask, opened, roster};
 use adx_desk::{Desk, DeskFault};
-use adx_io::MemoryDisk;
+use day_journal::MemoryDisk;
 use day_rules::Answer;
 use deal_floor::Roster;
 use notice_book::NoticeKind;

@@ -7,9 +7,9 @@ ghost use Rattle.day_rules.specs.KeptTexts.{IsShort};
 ghost use Rattle.adx_desk.specs.Rosters.{desk_terms};
 
 use adx_desk::{Desk, DeskFault};
-use adx_io::MemoryDisk;
 use adx_json::read;
 use adx_units::{ADMITTED, Id, Offer, OutOfMemory, Sequence, Text, Units};
+use day_journal::MemoryDisk;
 use day_rules::{Ask, Kept};
 use deal_floor::Roster;
 use std::alloc::Global;

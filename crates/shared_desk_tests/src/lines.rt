@@ -4,8 +4,8 @@ ghost use Rattle.adx_desk.specs.Rosters.{desk_terms};
 
 use crate::days::{ask, opened, roster};
 use adx_desk::{Desk, DeskFault, answer_line, fault_line, table_of};
-use adx_io::MemoryDisk;
 use adx_units::{OutOfMemory, Text};
+use day_journal::MemoryDisk;
 use deal_floor::Roster;
 use std::alloc::Global;
 

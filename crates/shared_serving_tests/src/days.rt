@@ -3,9 +3,9 @@ ghost use Rattle.std.specs.Prelude.{◌≡◌, IfOk};
 ghost use Rattle.adx_desk.specs.Rosters.{desk_terms};
 
 use adx_desk::Desk;
-use adx_io::MemoryDisk;
 use adx_json::read;
 use adx_units::OutOfMemory;
+use day_journal::MemoryDisk;
 use deal_floor::Roster;
 use std::alloc::Global;
 

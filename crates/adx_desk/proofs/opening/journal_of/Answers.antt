@@ -1,7 +1,7 @@
 -- By what was read, or by the first payload that was written.
 use Rattle.std.proofs.Common.{◌⊎◌, List, ℕ, ◌∷◌, [], length, sym, ◌∙◌, ap, subst, arith}
 use Rattle.std.specs.List.{sum_by}
-use Rattle.adx_io.specs.Disks.{LeavesOnly}
+use Rattle.day_journal.specs.Disks.{LeavesOnly}
 use Rattle.day_journal.specs.declared.start.TheConstants.{NEW_FORMAT}
 use Rattle.day_journal.specs.Places.{IsClosed, IsFormat, StandsFor, opened}
 use Rattle.day_journal.specs.Tails.{JournalState, Keeps}

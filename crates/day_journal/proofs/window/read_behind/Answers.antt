@@ -3,7 +3,7 @@ use Rattle.std.proofs.lemmas.List.{append-nil, drop_all}
 use Rattle.std.proofs.lemmas.List.Edits.{paste_all}
 use Rattle.std.proofs.lemmas.Slice.{put_mid-paste}
 use borrow.Rule.Slice.PartMut.{put_mid}
-use Rattle.adx_io.specs.Disks.{Shows}
+use Rattle.day_journal.specs.Disks.{Shows}
 use Rattle.day_journal.proofs.Reading.{reads_more, some_of}
 use Rattle.day_journal.proofs.window.read_behind.Goals as goal
 

@@ -1,7 +1,7 @@
 use Rattle.std.proofs.Common.{◌≡◌, ◌+◌, ◌++◌, [], ◌∷◌, length, true, sym, ap, subst, ◌∙◌}
 use Rattle.std.proofs.lemmas.List.Elements.{All-push}
 use Rattle.std.proofs.lemmas.Result.{IfOk-from_err}
-use Rattle.adx_io.specs.Disks.{Each, LeavesOnly}
+use Rattle.day_journal.specs.Disks.{Each, LeavesOnly}
 use Rattle.adx_io.specs.Frames.{body}
 use Rattle.day_journal.specs.Places.{IsFormat, IsPayload, opened, IsClosed}
 use Rattle.day_journal.specs.Tails.{HasShutTail, HasTail, Keeps, WithOrWithout, JournalState}

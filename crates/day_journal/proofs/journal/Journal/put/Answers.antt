@@ -1,6 +1,6 @@
 use Rattle.std.proofs.Common.{◌≡◌, inl, inr, Bool, false, rules, sym, subst, ap, ◌∙◌}
 use Rattle.std.proofs.lemmas.Result.{IfOk-from_err, IfOk-at_ok, IfErr-at_err}
-use Rattle.adx_io.specs.Disks.{Each, LeavesOnly}
+use Rattle.day_journal.specs.Disks.{Each, LeavesOnly}
 use Rattle.adx_io.specs.Frames.{body}
 use Rattle.day_journal.specs.Places.{IsFormat, opened, IsClosed}
 use Rattle.day_journal.specs.Tails.{HasShutTail, Keeps, WithOrWithout, WithAtMostOne, JournalState}

@@ -1,5 +1,5 @@
 use Rattle.std.proofs.Common.{◌≡◌, true, rules, sym, ap, subst, arith}
-use Rattle.adx_io.specs.Disks.{Each, LeavesOnly}
+use Rattle.day_journal.specs.Disks.{Each, LeavesOnly}
 use Rattle.adx_io.specs.Frames.{body}
 use Rattle.day_journal.specs.Places.{opened, IsClosed}
 use Rattle.day_journal.specs.Tails.{HasTail, Keeps, WithOrWithout, JournalState}
