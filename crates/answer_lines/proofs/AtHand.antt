@@ -1,4 +1,4 @@
--- The ask that an answer is about stands in the history that its call leaves, and is at hand before that.
+-- The ask that an answer is about is in the history that its call leaves, and is at hand before that.
 use Rattle.std.proofs.Common.{◌≡◌, ℕ, max, nat_lt, ◌==◌, slice_get, List, [], ◌∷◌, ◌++◌, length, Bool, true, false, if◌then◌else◌, Option, Some, None, refl}
 use Rattle.notice_book.specs.declared.award.Award.{Award}
 use Rattle.notice_book.specs.declared.kind.NoticeKind.{NoticeKind}
@@ -21,7 +21,7 @@ use Rattle.day_rules.specs.Replies.{Reply, answered, added, budget_reply, change
 use Rattle.day_rules.specs.Terms.{Terms}
 use Rattle.answer_lines.specs.Answers.{ask_told, IsAtHand}
 
--- the entry behind a history
+-- the entry after a history
 at_end : (history : List Entry) (a : Ask) → ask_at (history ++ Entry.Ask a ∷ []) (length history) ≡ Some a
 at_end [] a = refl
 at_end (e ∷ es) a = at_end es a

@@ -1,4 +1,4 @@
--- Several pieces written one behind the other.
+-- Several pieces written one after the other.
 use Rattle.std.proofs.Common.{◌≡◌, ℕ, List, ◌++◌, ap, ◌∙◌, append_assoc}
 
 -- what was written, and one piece more

@@ -26,7 +26,7 @@ use Rattle.campaign_book.specs.Accounts.{Account}
 use Rattle.deal_floor.specs.declared.campaign.Campaign.{Campaign}
 use Rattle.answer_lines.specs.Table.{campaign_line, closing_table, counts_text}
 
--- a number stands once among those from low on, or not at all
+-- a number is once among those from low on, or not at all
 none_below : (imp low imps : ℕ) → imp < low → sum_by (λ j. cond (eqb imp j) 1 0) (range_with_len low imps) ≡ 0
 none_below imp low zero above = refl
 none_below imp low (suc imps) above =
@@ -141,7 +141,7 @@ made_without entries left before e all cut none terms legal =
     let nothing : length (made_by (length before) e) ≡ 0 = ap (λ (o : Option Ask). length (option_map_or (λ (a : Ask). map (award_of (length before)) (sales_of a)) o [])) (asks_nothing e none) in
     (legal_front terms before (e ∷ []) so_far.0, omega (arith, so_far.1, made_longer before e, nothing))
 
--- the last ask tells the number of all awards
+-- the last ask shows the number of all awards
 pub told_by_last : (entries left before : List Entry) (e : Entry) (a : Ask) (count : ℕ) → HasMadeAll entries left → left ≡ before ++ e ∷ [] → e ≡ Entry.Ask a
     → count ≡ a.first + count_by (λ (o : Offer). eqb o.reason AWARDED) a.offers → (terms : Terms) → IsLegal terms entries → count ≡ length (awards_of entries)
 told_by_last entries left before e a count all cut is counted terms legal =

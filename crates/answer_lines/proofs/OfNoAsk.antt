@@ -70,7 +70,7 @@ tick_of_none history now =
     let ended = due_count moment (awards_of history) in
     either history (ended == 0) (answered (Answer.Ticked 0)) (added (Answer.Ticked ended) (Entry.Expire moment)) refl refl
 
--- the place of a change that stands is no ask's
+-- the place of a change in the history is no ask's
 changed : (history : List Entry) (x y : BudgetChange) (place : ℕ) (b : Bool) → same_change x history ≡ Some (place, y) → IsOfNone history (if b then answered (Answer.Repeat place) else answered (Answer.BudgetReused y.budget))
 changed history x y place true found = ap (option_and_then asked) (change_stands x history place y found)
 changed history x y place false found = refl

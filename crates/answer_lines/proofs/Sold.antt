@@ -12,7 +12,7 @@ use Rattle.answer_lines.specs.Answers.{award_text, awards_text, sold_offers}
 use Rattle.answer_lines.specs.Steps.{comma_behind, award_behind, awards_behind}
 use Rattle.answer_lines.proofs.Joined.{comma_suc, enumerate_from-append}
 
--- awards behind others
+-- awards after others
 pub awards_behind-append : (campaigns : List Campaign) (a : Ask) (others : ℕ) (xs ys : List Offer) → awards_behind campaigns a others (xs ++ ys) ≡ awards_behind campaigns a others xs ++ awards_behind campaigns a (others + length xs) ys
 awards_behind-append campaigns a others xs ys =
     ap (flat_map (award_behind campaigns a)) (enumerate_from-append others xs ys)
@@ -24,7 +24,7 @@ awards_behind-push campaigns a others xs x =
     awards_behind-append campaigns a others xs (x ∷ [])
     ∙ ap (λ b. awards_behind campaigns a others xs ++ b) (append-nil (award_behind campaigns a (others + length xs, x)))
 
--- what was written, one award behind it, and how many there are
+-- what was written, one award after it, and how many there are
 pub award_more : (campaigns : List Campaign) (a : Ask) (others count : ℕ) (xs : List Offer) (x : Offer) (old mid now : List ℕ)
     → mid ≡ old ++ awards_behind campaigns a others xs → count ≡ others + length xs → now ≡ mid ++ award_behind campaigns a (count, x) → now ≡ old ++ awards_behind campaigns a others (xs ++ x ∷ [])
 award_more campaigns a others count xs x old mid now so_far counted more =
@@ -40,7 +40,7 @@ awards_more campaigns a others count xs ys old mid now so_far counted more =
     ∙ append_assoc old (awards_behind campaigns a others xs) (awards_behind campaigns a (others + length xs) ys)
     ∙ ap (λ b. old ++ b) (sym (awards_behind-append campaigns a others xs ys))
 
--- texts behind a comma each
+-- texts after a comma each
 abbrev behind_commas : List (List ℕ) → List ℕ
 behind_commas texts = flat_map (λ (t : List ℕ). 44 ∷ t) texts
 

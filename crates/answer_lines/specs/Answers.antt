@@ -57,7 +57,7 @@ abbrev pub nosale_line : Ask → List ℕ
 nosale_line a =
     codes "{\"answer\":\"nosale\",\"auction\":" ++ text_spelling a.auction ++ codes ",\"reasons\":[" ++ reasons_text a ++ codes "]}"
 
--- the line of an ask as it stands in the history
+-- the line of an ask as it is in the history
 abbrev pub ask_line : List Campaign → Ask → List ℕ
 ask_line campaigns a = if is_awarded a then awarded_line campaigns a else nosale_line a
 
@@ -66,7 +66,7 @@ abbrev pub repeat_line : List Campaign → Option Ask → List ℕ
 repeat_line campaigns None = codes "{\"answer\":\"repeat\"}"
 repeat_line campaigns (Some a) = ask_line campaigns a
 
--- an id that stands with another digest, by both digests
+-- an id that is there with another digest, by both digests
 abbrev pub reused_line : List ℕ → List ℕ → List ℕ
 reused_line kept given =
     codes "{\"answer\":\"reused\",\"kept\":\"" ++ encode_lower kept ++ codes "\",\"given\":\"" ++ encode_lower given ++ codes "\"}"
@@ -97,7 +97,7 @@ conflict_line kept = codes "{\"answer\":\"conflict\",\"kept\":\"" ++ end_text ke
 abbrev pub ticked_line : ℕ → List ℕ
 ticked_line ended = codes "{\"answer\":\"ticked\",\"ended\":" ++ decimal ended ++ codes "}"
 
--- the budget that stands with the number of a change, in units
+-- the budget that is there with the number of a change, in units
 abbrev pub budgetreused_line : ℕ → List ℕ
 budgetreused_line kept = codes "{\"answer\":\"budgetreused\",\"kept\":" ++ decimal kept ++ codes "}"
 
@@ -109,8 +109,8 @@ late_line last = codes "{\"answer\":\"late\",\"last\":" ++ decimal last ++ codes
 abbrev pub below_line : ℕ → List ℕ
 below_line committed = codes "{\"answer\":\"below\",\"committed\":" ++ decimal committed ++ codes "}"
 
--- the line of an answer, and of the ask that it is about: there for Awarded and NoSale (without one nothing is told),
--- and for a Repeat exactly where it is of an ask. What is about no ask is told by the answer alone.
+-- the line of an answer, and of the ask that it is about: there for Awarded and NoSale (without one nothing is said),
+-- and for a Repeat exactly where it is of an ask. What is about no ask is said by the answer alone.
 abbrev pub answer_line : List Campaign → Answer → Option Ask → List ℕ
 answer_line campaigns (Answer.Awarded place) ask = option_map_or (awarded_line campaigns) ask []
 answer_line campaigns (Answer.NoSale place) ask = option_map_or nosale_line ask []

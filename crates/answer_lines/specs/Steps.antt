@@ -6,14 +6,14 @@ use Rattle.day_rules.specs.declared.ask.Ask.{Ask}
 use Rattle.deal_floor.specs.declared.campaign.Campaign.{Campaign}
 use Rattle.answer_lines.specs.Answers.{award_text}
 
--- the comma behind so many items: none before the first
+-- the comma after so many items: none before the first
 abbrev pub comma_behind : ℕ → List ℕ
 comma_behind n = if n == 0 then [] else 44 ∷ []
 
--- an award of an ask behind so many others
+-- an award of an ask after so many others
 abbrev pub award_behind : List Campaign → Ask → ℕ × Offer → List ℕ
 award_behind campaigns a p = comma_behind p.0 ++ award_text campaigns a (a.first + p.0, p.1)
 
--- awards of an ask, the first of them behind so many others
+-- awards of an ask, the first of them after so many others
 abbrev pub awards_behind : List Campaign → Ask → ℕ → List Offer → List ℕ
 awards_behind campaigns a others sold = flat_map (award_behind campaigns a) (enumerate_from others sold)

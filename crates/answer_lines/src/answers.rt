@@ -45,7 +45,7 @@ pub fn push_digest(out: &mut String, digest: &[u8; 32]) -> Result<(), OutOfMemor
     }
 }
 
-/// Writes the line of an id that stands with another request.
+/// Writes the line of an id that is there with another request.
 fn push_reused(out: &mut String, kept: &[u8; 32], given: &[u8; 32]) -> Result<(), OutOfMemory>
     ensures { OnOk result (string_bytes out.new ≡ string_bytes out.old ++ reused_line kept.now given.now) }
 {
@@ -84,7 +84,7 @@ fn push_ticked(out: &mut String, ended: u32) -> Result<(), OutOfMemory>
     push(out, "}")
 }
 
-/// Writes the line of a change whose number stands with another budget, in units.
+/// Writes the line of a change whose number is there with another budget, in units.
 fn push_budget_reused(out: &mut String, kept: Units) -> Result<(), OutOfMemory>
     ensures { OnOk result (string_bytes out.new ≡ string_bytes out.old ++ budgetreused_line kept.0) }
 {
@@ -126,7 +126,7 @@ fn push_repeat(
 }
 
 /// Writes the line of an answer, without a newline. `ask` is the ask that the answer is about: the one
-/// that was taken now, or the one that stands in the history already; a notice, a tick and a change of a
+/// that was taken now, or the one that is in the history already; a notice, a tick and a change of a
 /// budget are about none.
 pub fn push_answer(
     out: &mut String,

@@ -65,7 +65,7 @@ fn push_award(
     push(out, "}")
 }
 
-/// Writes an award of an ask behind so many others.
+/// Writes an award of an ask after so many others.
 fn push_next_award(
     out: &mut String,
     campaigns: &[Campaign],
@@ -80,7 +80,7 @@ fn push_next_award(
     push_award(out, campaigns, ask, u64::from(ask.first) + others, offer)
 }
 
-/// Writes an offer as an award behind so many others, where it is one of the impression, and gives how
+/// Writes an offer as an award after so many others, where it is one of the impression, and gives how
 /// many there are then. The output has a byte for each of them at least.
 fn push_if_sold(
     out: &mut String,
@@ -103,7 +103,7 @@ fn push_if_sold(
     Ok(others)
 }
 
-/// Writes the awards of an impression behind so many others, and gives how many there are then.
+/// Writes the awards of an impression after so many others, and gives how many there are then.
 fn push_imp_awards(
     out: &mut String,
     campaigns: &[Campaign],
@@ -192,7 +192,7 @@ fn has_winner(ask: &Ask) -> bool
         .any(|offer| offer.reason == AWARDED)
 }
 
-/// Writes the line of an ask as it stands in the history.
+/// Writes the line of an ask as it is in the history.
 pub(crate) fn push_ask(
     out: &mut String,
     campaigns: &[Campaign],

@@ -1,10 +1,10 @@
-//! The lines that tell the answers of a day, and the closing table.
+//! The lines that say the answers of a day, and the closing table.
 //!
 //! An answer's line is a function of the campaigns, the answer, and the ask that the answer is about; it is written
 //! straight into an output. A call that was given up has a line too. The closing table has a row for each campaign, by
 //! its account, and the counts of a history. It knows no day: who holds one gives the ask at hand.
 //!
-//! Stands on `adx_units`, `adx_json`, `campaign_book`, `notice_book`, `allocator_core`, `day_rules`, `deal_floor` and
+//! Uses `adx_units`, `adx_json`, `campaign_book`, `notice_book`, `allocator_core`, `day_rules`, `deal_floor` and
 //! `hex`.
 #![tactic(auto)]
 

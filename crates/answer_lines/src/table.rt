@@ -86,7 +86,7 @@ fn count_with(ask: &Ask) -> u64
     u64::from(ask.first) + awarded_count(ask.offers.as_slice()) as u64
 }
 
-/// The number of awards of a legal history, which its last ask tells.
+/// The number of awards of a legal history, which its last ask shows.
 fn award_count(entries: &[Entry]) -> u64
     ensures { (terms : Terms) → IsLegal terms entries.now → result ≡ length (awards_of entries.now) }
 {

@@ -6,17 +6,17 @@ use Rattle.day_archive.specs.declared.refusal.KeeperRefusal.{KeeperRefusal}
 use Rattle.day_archive.specs.Dates.{IsDate, is_upto}
 use Rattle.day_archive.specs.Kept.{Archive, has_day, days, day_of, IsListed, IsLatest}
 
--- the count of faults behind a refusal: a fault is answered only where it rose, and any other refusal leaves it
+-- the count of faults after a refusal: a fault is answered only where it rose, and any other refusal leaves it
 abbrev pub IsCaused : ℕ → ℕ → KeeperRefusal → Type 0
 IsCaused before now KeeperRefusal.KeeperFault = (before ≤ now) × Rises before now
 IsCaused before now refusal = now ≡ before
 
--- the same behind any answer: what isn't refused leaves the count
+-- the same after any answer: what isn't refused leaves the count
 abbrev pub HasKeeperCause : {T : Type 0} → ℕ → ℕ → Result T KeeperRefusal → Type 0
 HasKeeperCause before now (Ok x) = now ≡ before
 HasKeeperCause before now (Err refusal) = IsCaused before now refusal
 
--- what a put says of its day, whether the rows are told or not
+-- what a put says of its day, whether the rows are reported or not
 abbrev pub TellsPut : List DayRow → Result Unit KeeperRefusal → Type 0
 TellsPut rows (Ok done) = IsDate (day_of rows)
 TellsPut rows (Err (KeeperRefusal.DayThere day)) = (day ≡ day_of rows) × IsDate (day_of rows)
@@ -31,7 +31,7 @@ Puts rows (Ok done) old new =
 Puts rows (Err (KeeperRefusal.DayThere day)) old new = IsTrue (has_day (day_of rows) old.rows) × (new ≡ old)
 Puts rows (Err refusal) old new = new ≡ old
 
--- what a listing says of its first and last day, whether the rows are told or not: the first that isn't a date is
+-- what a listing says of its first and last day, whether the rows are reported or not: the first that isn't a date is
 -- named, and then whether the first comes after the last
 abbrev pub TellsDays : {T : Type 0} → List ℕ → List ℕ → Result T KeeperRefusal → Type 0
 TellsDays first last (Ok rows) = IsDate first × IsDate last × IsTrue (is_upto first last)
@@ -57,7 +57,7 @@ FindsLast (Ok None) old new = (old.rows ≡ []) × (new ≡ old)
 FindsLast (Ok (Some day)) old new = IsLatest old.rows day × (new ≡ old)
 FindsLast (Err refusal) old new = new ≡ old
 
--- the rows from before come behind the others, and the number of their days is answered; a refused upgrade changes no row
+-- the rows from before come after the others, and the number of their days is answered; a refused upgrade changes no row
 abbrev pub Upgrades : Result ℕ KeeperRefusal → Archive → Archive → Type 0
 Upgrades (Ok n) old new = (n ≡ length (days old.old)) × (new ≡ record { old = []; rows = old.rows ++ old.old })
 Upgrades (Err refusal) old new = new ≡ old

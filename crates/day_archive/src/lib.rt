@@ -1,11 +1,11 @@
 //! The archive of past days: what each campaign had, spent and could at best have spent, day by day.
 //!
-//! A `Keeper` tells its rows, where it tells them, and then its calls are those of a plain list of rows: a day is put
+//! A `Keeper` reports its rows, where it can, and then its calls are those of a plain list of rows: a day is put
 //! once, a campaign's rows come in order of day, rows from before are moved once. Dates are judged alike by every
-//! keeper, and a fault is answered only where the keeper's own count of faults rose. `MemoryKeeper` tells all and fails
-//! by a list.
+//! keeper, and a fault is answered only where the keeper's own count of faults rose. `MemoryKeeper` reports all,
+//! and fails by a list.
 //!
-//! Stands on `adx_units`, `adx_io`, `formats` and `jiff`.
+//! Uses `adx_units`, `adx_io`, `formats` and `jiff`.
 #![tactic(auto)]
 
 mod dates;

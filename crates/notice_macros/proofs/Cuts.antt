@@ -40,14 +40,14 @@ pub byte_at : (m : ℕ) (s : List ℕ) (at : ℕ) → IsFirstByte (is_byte m) s 
 byte_at m s at h =
     position_or_len_is (is_byte m) s at 0 (let high : at < length s = h.0.high in omega arith) (λ k low. is_false _ (h.0.before k (omega arith) low)) (λ low. h.1)
 
--- a text may be cut before and behind a byte of ASCII
+-- a text may be cut before and after a byte of ASCII
 pub cut_before : (m : ℕ) (s : List ℕ) (at : ℕ) → m < 128 → IsFirstByte (is_byte m) s (Some at) → IsCharBoundary s at
 cut_before m s at ascii h = let same = eqb-true (get_or s at 0) m h.1 in IsCharBoundary-before_ascii s at h.0.high (omega arith)
 
 pub cut_behind : (m : ℕ) (s : List ℕ) (at : ℕ) → m < 128 → IsUtf8 s → IsFirstByte (is_byte m) s (Some at) → IsCharBoundary s (at + 1)
 cut_behind m s at ascii utf8 h = let same = eqb-true (get_or s at 0) m h.1 in IsCharBoundary-after_ascii s at utf8 h.0.high (omega arith)
 
--- what stands before and behind it
+-- what comes before and after it
 pub cut_parts : (m : ℕ) (s before behind : List ℕ) (at : ℕ) → IsFirstByte (is_byte m) s (Some at) → before ≡ slice_range s 0 at → behind ≡ drop (at + 1) s
     → (list_any (is_byte m) s ≡ true) × (before ≡ before_first (is_byte m) s) × (behind ≡ after_first (is_byte m) s)
 cut_parts m s before behind at h front back =
@@ -65,7 +65,7 @@ pub one_part : (p : ℕ → Bool) (xs : List ℕ) → list_any p xs ≡ false �
 one_part p [] h = refl
 one_part p (x ∷ xs) h = whole_at p x xs (p x) (one_part p xs) h
 
--- the first part, and those behind it
+-- the first part, and those after it
 parts_at : (p : ℕ → Bool) (x : ℕ) (xs : List ℕ) (n : ℕ) (b : Bool) → (list_any p xs ≡ true → slice_split p xs ≡ take n xs ∷ slice_split p (drop (n + 1) xs)) → b || list_any p xs ≡ true
     → cond b ([] ∷ slice_split p xs) (onto_first x (slice_split p xs)) ≡ take (cond (not b) (1 + n) 0) (x ∷ xs) ∷ slice_split p (drop (cond (not b) (1 + n) 0 + 1) (x ∷ xs))
 parts_at p x xs n true rest h = refl

@@ -11,7 +11,7 @@ use Rattle.notice_macros.specs.Expansion.{closing, dollar, opening, expansion, i
 abbrev pub PlainTextStays : Type 0
 PlainTextStays = (p : Place) (v : Values) (t : List ℕ) → list_any is_dollar t ≡ false → expansion p v t ≡ t
 
--- a macro, wherever it stands, becomes its value; what stands before and behind it is expanded on its own
+-- a macro, wherever it is, becomes its value; what comes before and after it is expanded on its own
 abbrev pub MacrosAreReplaced : Type 0
 MacrosAreReplaced =
     (p : Place) (v : Values) (before token behind : List ℕ) (m : Macro)
@@ -20,14 +20,14 @@ MacrosAreReplaced =
     → macro_of token ≡ Some m
     → expansion p v (before ++ dollar ∷ (opening ∷ (token ++ closing ∷ behind))) ≡ expansion p v before ++ (substitute p v m ++ expansion p v behind)
 
--- a `$` stays where no macro stands first in the text behind it, up to the next `$`
+-- a `$` stays where no macro comes first in the text after it, up to the next `$`
 abbrev pub OtherDollarsStay : Type 0
 OtherDollarsStay =
     (p : Place) (v : Values) (before behind : List ℕ)
     → macro_at (before_first is_dollar behind) ≡ None
     → expansion p v (before ++ dollar ∷ behind) ≡ expansion p v before ++ dollar ∷ expansion p v behind
 
--- a text without `$` and without `}` behind a template stays behind its expansion
+-- a text without `$` and without `}` after a template stays after its expansion
 abbrev pub TextBehindStays : Type 0
 TextBehindStays =
     (p : Place) (v : Values) (t s : List ℕ)

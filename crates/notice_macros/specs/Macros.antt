@@ -1,6 +1,6 @@
--- The substitution macros of a notice or a markup (OpenRTB 2.6, section 4.4) and what stands for each.
+-- The substitution macros of a notice or a markup (OpenRTB 2.6, section 4.4) and what each becomes.
 -- Where this project narrows the standard: the market bid ratio and the minimum to win are never known, so nothing
--- stands for them; the currency is always USD; `B64` is the one coding that sides may agree on. The two names that
+-- comes in their place; the currency is always USD; `B64` is the one coding that sides may agree on. The two names that
 -- later releases of 2.6 add for several impressions at once (`AUCTION_MULTIPLIER`, `AUCTION_IMP_TS`) are no macros
 -- here: this project sells single impressions.
 use Rattle.std.specs.Prelude.{ℕ, List, [], Bool, ◌==◌, codes, decimal, Option, Some, None, if◌then◌else◌}
@@ -35,7 +35,7 @@ abbrev pub charge_text : Option Units → List ℕ
 charge_text None = []
 charge_text (Some price) = price_text price.0
 
--- what stands for a macro: nothing for a text that is empty
+-- what a macro becomes: nothing for a text that is empty
 abbrev pub value_of : Values → Name → List ℕ
 value_of v AuctionId = v.auction.now
 value_of v BidId = v.bidid.now

@@ -35,7 +35,7 @@ pub fn expand_url(alloc: Global, template: &str, values: &Values<'_>) -> Result<
     expand(alloc, Place::Url, template, values)
 }
 
-/// What markup becomes: as by `expand_url`, but values stand as they are, without escapes.
+/// What markup becomes: as by `expand_url`, but values are as they are, without escapes.
 /// Fails only where memory is refused.
 pub fn expand_markup(
     alloc: Global,
@@ -67,7 +67,7 @@ fn expand(
     Ok(Text::from(out))
 }
 
-/// Puts what a `$` and all that stands behind it become at the end.
+/// Puts what a `$` and all that comes after it become at the end.
 fn push_pieces(
     alloc: Global,
     out: &mut String,
@@ -88,7 +88,7 @@ fn push_pieces(
     }
 }
 
-/// Puts what a `$` and the text behind it, up to the next, become at the end.
+/// Puts what a `$` and the text after it, up to the next, become at the end.
 fn push_piece(
     alloc: Global,
     out: &mut String,

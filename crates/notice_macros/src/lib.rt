@@ -2,7 +2,7 @@
 //!
 //! `expand_url` and `expand_markup` give exactly the expansion that specs/Expansion.antt defines: the
 //! template is split at its `$`, each macro of the table becomes its value, and all other text stays.
-//! Stands on adx_units, memchr, percent_encoding, base64 and itoa.
+//! Uses adx_units, memchr, percent_encoding, base64 and itoa.
 #![tactic(auto)]
 
 mod expand;

@@ -14,7 +14,7 @@ use std::alloc::Global;
 pub(crate) enum Place {
     /// A notice URL: values are percent-encoded.
     Url,
-    /// Markup: values stand as they are.
+    /// Markup: values are as they are.
     Markup,
 }
 

@@ -6,7 +6,7 @@ ghost use Rattle.notice_macros.specs.Expansion.{is_dollar, opening, macro_at as 
 use crate::macros::{Macro, macro_of};
 use memchr::memchr;
 
-/// What stands before and behind the first such byte, a character of ASCII.
+/// What comes before and after the first such byte, a character of ASCII.
 pub(crate) fn cut_at(text: &str, mark: u8) -> Option<(&str, &str)>
     requires { mark < 128 }
     ensures { MatchOption result (list_any (λ b. b == mark) text.now ≡ false)
@@ -17,7 +17,7 @@ pub(crate) fn cut_at(text: &str, mark: u8) -> Option<(&str, &str)>
     Some((&text[..at], &text[at + 1..]))
 }
 
-/// What stands before the first `$`, and what behind it.
+/// What comes before the first `$`, and what after it.
 pub(crate) fn cut_at_dollar(text: &str) -> Option<(&str, &str)>
     ensures pieces { MatchOption result (slice_split is_dollar text.now ≡ text.now ∷ [])
         (λ x. slice_split is_dollar text.now ≡ x.0.now ∷ slice_split is_dollar x.1.now) }
@@ -26,14 +26,14 @@ pub(crate) fn cut_at_dollar(text: &str) -> Option<(&str, &str)>
     cut_at(text, b'$')
 }
 
-/// What stands behind a brace at the front.
+/// What comes after a brace at the front.
 fn behind_brace(text: &str) -> Option<&str>
     ensures { MatchOption result ((rest : List ℕ) → text.now ≢ (opening ∷ rest)) (λ x. text.now ≡ opening ∷ x.now) }
 {
     text.strip_prefix('{')
 }
 
-/// The macro in braces at the front, and what stands behind it.
+/// The macro in braces at the front, and what comes after it.
 pub(crate) fn macro_at(text: &str) -> Option<(Macro, &str)>
     ensures { MatchOption result (macro_at_front text.now ≡ None) (λ x. macro_at_front text.now ≡ Some (x.0, x.1.now)) }
 {

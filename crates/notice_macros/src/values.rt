@@ -1,4 +1,4 @@
-//! The values that macros stand for.
+//! The values that macros represent.
 use adx_units::Units;
 
 /// What is put in for the macros of a template (OpenRTB 2.6, section 4.4). Nothing is put in for an empty
@@ -7,7 +7,7 @@ use adx_units::Units;
 pub struct Values<'a> {
     /// The id of the bid request.
     pub auction: &'a str,
-    /// The `bidid` of the answer that the bid stands in.
+    /// The `bidid` of the answer that the bid is in.
     pub bidid: &'a str,
     /// The id of the impression.
     pub imp: &'a str,

@@ -1,4 +1,4 @@
--- The walk begins, goes on behind no ask, and ends at the last.
+-- The walk begins, goes on after no ask, and ends at the last.
 use Rattle.answer_lines.proofs.Counts.{made_all, made_without, told_by_last}
 use Rattle.answer_lines.proofs.table.award_count.Goals as goal
 

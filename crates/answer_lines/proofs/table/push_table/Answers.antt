@@ -1,4 +1,4 @@
--- The rows, and behind them the counts.
+-- The rows, and after them the counts.
 use Rattle.std.proofs.Common.{◌≡◌, ◌++◌, ◌∙◌, ap, ℕ, length, string_bytes}
 use Rattle.day_rules.specs.Books.{ask_count}
 use Rattle.answer_lines.specs.Table.{counts_text}
