@@ -1,4 +1,4 @@
--- The notices of a batch, answered where the history stands, and their entries as a record of the desk.
+-- The notices of a batch, answered at the history as it is, and their entries as a record of the desk.
 use Rattle.std.proofs.Common.{◌≡◌, ℕ, ◌+◌, ◌<◌, ◌≤◌, List, length, All, sym, ◌∙◌, ap, subst, arith}
 use Rattle.day_entries.specs.Entries.{Fits, entries_bytes}
 use Rattle.day_journal.specs.Faults.{greatest_size}
@@ -16,7 +16,7 @@ use Rattle.adx_desk.proofs.Inside.{known, shown}
 use Rattle.adx_desk.proofs.Keeping.{MayAdd}
 use Rattle.adx_desk.proofs.Sizes.{entries_sizes}
 
--- What a batch made of its calls where the day within stands: the answers and the entries of the calls in turn.
+-- What a batch made of its calls at the day within as it is: the answers and the entries of the calls in turn.
 pub record RanInTurn (h : List Entry) (s : JournaledState) (xs : List Arrival) (payload : List ℕ) : Type 0 where
   pub answers : answers_now h xs ≡ answers_in_turn s.desk.history xs
   pub bytes : payload ≡ entries_bytes s.desk.journal.format (entries_in_turn s.desk.history xs)

@@ -13,7 +13,7 @@ use Rattle.adx_desk.specs.Loading.{HasOpened, HasReadAll}
 use Rattle.adx_desk.proofs.OpenedDays.{empty_stands}
 use Rattle.adx_desk.proofs.Records.{no_empty, no_records}
 
--- before and behind the first payload
+-- before and after the first payload
 pub begun_file : (format : ℕ) (file p : List ℕ) → WithOnePayload format [] [] p file → StandsFor format file [] ⊎ StandsFor format file (p ∷ [])
 begun_file format file p (inl alone) = inl alone
 begun_file format file p (inr (inl none)) = absurd (no_empty format file [] none)

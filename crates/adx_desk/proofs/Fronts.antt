@@ -45,7 +45,7 @@ module _ (format : ℕ) where
   pub shorter : (terms : Terms) (old new : List Entry) (bytes rest : List ℕ) → TakesEntry format terms old new bytes rest → length rest < length bytes
   shorter terms old new bytes rest t = omega (arith, ap length t.split, length-append (entry_bytes format t.entry) rest, some_bytes format t.entry)
 
-  -- an entry that was read may not follow: so none that stands there may
+  -- an entry that was read may not follow: so none that is there may
   pub refuses_entry : (terms : Terms) (history : List Entry) (bytes : List ℕ) (e : Entry) (why : DeskFault) → ((x : Entry) (n : ℕ) → BeginsWith format bytes x n → e ≡ x)
       → RefusesNext terms history e why → RefusesEntry format terms history bytes why
   refuses_entry terms history bytes e DeskFault.DiskFault one deny = deny

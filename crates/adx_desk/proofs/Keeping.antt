@@ -33,7 +33,7 @@ any_tail images j ps t a sure k = any_tail_by images j.format j.gate j.in_doubt 
 pub sure_by_none : (images : List ℕ → Type 0) (j : JournalState) (ps : List (List ℕ)) → Keeps images j ps [] → IsTrue j.in_doubt → ⊥
 sure_by_none images j ps k doubt = let p = k.doubted doubt in omega (arith, p.some)
 
--- each image stands for the history, or for it and the tail
+-- each image represents the history, or it and the tail
 keeps_by : (images : List ℕ → Type 0) (desk : DeskState) (tail : List Entry) (b : Bool) → desk.journal.in_doubt ≡ b → DeskKeeps images desk tail → Each images (WithOrWithout desk.terms desk.history tail)
 keeps_by images desk tail true is k c left =
     let may = k.doubted is in
@@ -82,7 +82,7 @@ stands_on_disk images desk k = by desk.journal.in_doubt refl
       each = keeps_histories images desk [] (sure_keeps images desk k.tail sure k.keeps);
     }
 
--- the room that an entry leaves, and what the journal was told to hold beside its record
+-- the room that an entry leaves, and what the journal was asked to hold beside its record
 pub fits_with : (desk : DeskState) (e : Entry) → IsDay desk.terms.day desk.history → MayFollow desk.terms.day desk.history e → size_of desk.journal + held desk.journal.format desk.history ≤ greatest_size
     → size_after desk.journal (entry_bytes desk.journal.format e) (beside desk.journal.format desk.history e) ≤ greatest_size → size_with desk e ≤ greatest_size
 fits_with desk (Entry.Ask a) day follows room fits = omega (arith, fits)
@@ -105,7 +105,7 @@ passes_with desk (Entry.Budget campaign change budget) day follows room passes =
 pub notice_fits : (desk : DeskState) (e : Entry) → IsDay desk.terms.day desk.history → MayFollow desk.terms.day desk.history e → IsNoticeOrMoment e → size_of desk.journal + held desk.journal.format desk.history ≤ greatest_size → size_with desk e ≤ greatest_size
 notice_fits desk e day follows none room = omega (arith, room, held_falls desk.journal.format desk.terms.day desk.history e day follows none)
 
--- entries that may stand behind the desk's history as one record, for which its journal has room
+-- entries that may come after the desk's history as one record, for which its journal has room
 pub record MayAdd (desk : DeskState) (es : List Entry) : Type 0 where
   pub is_record : IsRecord desk.journal.format es
   pub legal : IsLegal desk.terms.day (desk.history ++ es)
@@ -116,7 +116,7 @@ pub may_add : (desk : DeskState) (e : Entry) → IsLegal desk.terms.day desk.his
 may_add desk e legal follows fits room =
     record { is_record = one_record desk.journal.format e fits; legal = legal_push desk.terms.day desk.history e legal follows; room = omega (arith, room, ap length (one_bytes desk.journal.format e)) }
 
--- as a record behind those of the desk
+-- as a record after those of the desk
 pub may_stand : (images : List ℕ → Type 0) (desk : DeskState) (es : List Entry) (tail : List Entry) → MayAdd desk es → (k : DeskKeeps images desk tail) → MayStandBehind desk.terms desk.journal.format (desk.terms.digest ∷ k.rest) desk.history es
 may_stand images desk es tail may k =
     let place = place_after desk.journal.format (desk.terms.digest ∷ k.rest) (entries_bytes desk.journal.format es) desk.journal.gate (length (entries_bytes desk.journal.format es) + 5) k.kept.place refl in

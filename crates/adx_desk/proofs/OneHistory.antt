@@ -1,4 +1,4 @@
--- A file stands for one history, and for none where it is refused.
+-- A file represents one history, and none where it is refused.
 use Rattle.std.proofs.Common.{◌≡◌, ◌≢◌, inl, inr, ℕ, List, [], ◌∷◌, ◌++◌, length, drop, get_or, All, refl, sym, ◌∙◌, ap, subst, arith, append_assoc}
 use Rattle.std.specs.List.{flat_map}
 use Rattle.std.proofs.lemmas.Grind.{flat_map-append}
@@ -64,7 +64,7 @@ rest_are : (format : ℕ) (digest : List ℕ) (rest qs : List (List ℕ)) (histo
 rest_are format digest rest qs history is (inl none) = absurd (cc (is, none.0))
 rest_are format digest rest qs history is (inr some) = subst (λ (ps : List (List ℕ)). AreRecords format ps history) (ap (drop 1) (sym some.1 ∙ is)) some.2
 
--- a payload whose entries aren't all legal stands in no legal history
+-- a payload whose entries aren't all legal is in no legal history
 not_entry : (terms : DeskTerms) (file : List ℕ) (at : ℕ) (history : List Entry) → HasBadEntry terms file at → IsHistoryOf terms file history → ⊥
 not_entry terms file at history bad is =
     let before : List (List ℕ) = bad.payloads ++ bad.payload ∷ [] in

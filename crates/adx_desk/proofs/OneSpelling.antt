@@ -10,7 +10,7 @@ use Rattle.adx_desk.specs.Histories.{IsRecord}
 use Rattle.day_entries.proofs.Lengths.{some_bytes}
 
 module _ (format : ℕ) where
-  -- the first entry, and what stands behind it
+  -- the first entry, and what comes after it
   same_first : (e d : Entry) (x y : List ℕ) → Fits format e → Fits format d → entry_bytes format e ++ x ≡ entry_bytes format d ++ y → (e ≡ d) × (x ≡ y)
   same_first e d x y fits_e fits_d same =
       let one = read_again format (entry_bytes format e ++ x) e (length (entry_bytes format e)) (record { fits = fits_e; count = refl; rest = x; split = refl }) in

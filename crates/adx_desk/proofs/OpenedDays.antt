@@ -47,7 +47,7 @@ new_stands = inr (record { known = inr refl; each = All-nil IsPayload; closed = 
 new_unfinished : IsUnfinished new_file
 new_unfinished = inr (inr (record { format = NEW_FORMAT; known = inr refl; marked = record { gate = 1; split = refl } }))
 
--- A file without payloads stands for no entry, and so does one with the digest alone, in whichever format: each stands for
+-- A file without payloads represents no entry, and so does one with the digest alone, in whichever format: each represents
 -- the history without entries.
 empty_history : (terms : DeskTerms) (format : ℕ) (file : List ℕ) → StandsFor format file [] → IsHistoryOf terms file []
 empty_history terms format file stands =
@@ -74,7 +74,7 @@ payloads_same terms before after (inl same) = inl same
 payloads_same terms before after (inr new) =
     inr ([], empty_history terms NEW_FORMAT before (new.0 NEW_FORMAT), empty_history terms NEW_FORMAT after (new.1 NEW_FORMAT))
 
--- a file stands for all that another one stands for
+-- a file represents all that another one represents
 abbrev StandsAs : (before after : List ℕ) → Type 0
 StandsAs before after = (format : ℕ) (payloads : List (List ℕ)) → StandsFor format before payloads → StandsFor format after payloads
 
@@ -89,7 +89,7 @@ payloads_histories terms a b same history is = record {
   room = is.room;
 }
 
--- a journal made anew stands for what the unfinished file stood for
+-- a journal made anew represents what the unfinished file represented
 made_stands : (file : List ℕ) → IsUnfinished file → StandsAs new_file file
 made_stands file un format payloads stands = inl (un, stands_once format NEW_FORMAT new_file payloads [] stands new_stands)
 
@@ -153,7 +153,7 @@ opened_full terms file now images journal history size o legal short passes told
         let one : length (opened journal.format (terms.digest ∷ o.rest)) ≡ 9 + (length terms.digest + 5) = ap (λ (ps : List (List ℕ)). length (opened journal.format (terms.digest ∷ ps))) begun.1 ∙ opened_one journal.format terms.digest in
         absurd (omega (arith, place, one, short, ap (held journal.format) begun.2, none_held journal.format, passes))
 
--- want of memory and a fault of the disk say nothing of the file
+-- lack of memory and a fault of the disk say nothing of the file
 pub no_refusal : (terms : DeskTerms) (file : List ℕ) (why : DeskFault) → (IsRefusal why → ⊥) → RefusesDesk terms file why
 no_refusal terms file DeskFault.DiskFault deny = tt
 no_refusal terms file (DeskFault.JournalFull size) deny = absurd (deny tt)

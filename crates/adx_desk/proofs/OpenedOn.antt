@@ -86,7 +86,7 @@ module _ {D : Type 0} (reads : D → Option (List ℕ)) (may_leave : D → List 
     any_moment = λ file told. begun_moments reads may_leave moment left_since terms old new run;
   }
 
-  -- where memory is wanting before the disk is read
+  -- if memory is refused before the disk is read
   pub gives_up_nothing : (disk : D) → ((c : List ℕ) → left_since disk (moment disk) c → may_leave disk c) → GivesUp reads may_leave moment left_since terms disk disk DeskFault.OutOfMemory
   gives_up_nothing disk now = record {
     refused = λ file told. tt;

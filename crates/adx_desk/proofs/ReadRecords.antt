@@ -21,7 +21,7 @@ use Rattle.adx_desk.specs.Loading.{HasRead, HasReadAll, RefusesRecord, TakesFron
 use Rattle.adx_desk.specs.Openings.{HasBadRecord, RefusesDesk, fault_of, told_of}
 use Rattle.adx_desk.proofs.Records.{last_payload, no_records, records_push}
 
--- calls that only read, one run behind another
+-- calls that only read, one run after another
 module _ {D : Type 0} (reads : D → Option (List ℕ)) (may_leave : D → List ℕ → Type 0) (moment : D → ℕ) (left_since : D → ℕ → List ℕ → Type 0) where
   pub no_reads : (disk : D) → ((c : List ℕ) → left_since disk (moment disk) c → may_leave disk c) → OnlyReads reads may_leave moment left_since disk disk
   no_reads disk now = record { same = refl; crash = λ c left. left; moments = started moment left_since disk (may_leave disk) now }
@@ -33,7 +33,7 @@ module _ {D : Type 0} (reads : D → Option (List ℕ)) (may_leave : D → List 
     moments = joined moment left_since old mid new (may_leave old) (may_leave mid) (may_leave old) first.moments second.moments (λ c left. left) (λ c left. first.crash c left);
   }
 
--- the payloads in front of a place are the same where it is the same place
+-- the payloads before a place are the same where it is the same place
 same_front : (format other : ℕ) (file : List ℕ) (ps qs : List (List ℕ)) (x y : List ℕ) → IsFormat format → All IsPayload ps → All IsPayload qs → file ≡ opened format ps ++ x → file ≡ opened other qs ++ y
     → length (opened format ps) ≡ length (opened other qs) → (ps ≡ qs) × (format ≡ other)
 same_front format other file ps qs x y known each_p each_q p q len =
@@ -46,7 +46,7 @@ same_front format other file ps qs x y known each_p each_q p q len =
       formats,
     )
 
--- a bad place behind what was read
+-- a bad place after what was read
 bad_place : (terms : DeskTerms) (file : List ℕ) (at : ℕ) (opening : OpeningState) (payloads : List (List ℕ)) (history : List Entry) → StandsBehind file opening payloads → Spells opening.format terms.digest payloads history → IsLegal terms.day history
     → at ≡ opening.window.at → HasBadLength file at → HasBadRecord terms file at
 bad_place terms file at opening payloads history behind spells legal place bad =
@@ -59,7 +59,7 @@ bad_place terms file at opening payloads history behind spells legal place bad =
       legal = legal;
     }
 
--- a refusal of the journal behind what was read
+-- a refusal of the journal after what was read
 refused_by : (terms : DeskTerms) (file : List ℕ) (opening : OpeningState) (payloads : List (List ℕ)) (history : List Entry) (why : OpeningFault) → StandsBehind file opening payloads → Spells opening.format terms.digest payloads history → IsLegal terms.day history
     → ((at : ℕ) → why ≡ OpeningFault.BadLength at → at ≡ opening.window.at) → Refuses file why → RefusesDesk terms file (fault_of why)
 refused_by terms file opening payloads history OpeningFault.DiskFault behind spells legal place refuses = tt

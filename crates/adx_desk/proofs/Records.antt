@@ -1,4 +1,4 @@
--- Records behind records, and what a file with them stands for.
+-- Records after records, and what a file with them represents.
 use Rattle.std.proofs.Common.{◌≡◌, inl, inr, ℕ, List, [], ◌∷◌, ◌++◌, All, refl, sym, ◌∙◌, ap, arith}
 use Rattle.std.proofs.lemmas.Grind.{flat_map-append}
 use Rattle.std.proofs.lemmas.List.{append-nil, map-append}
@@ -23,7 +23,7 @@ module _ (format : ℕ) where
   pub no_records : AreRecords format [] []
   no_records = record { records = []; each = All-nil (IsRecord format); entries = refl; spelled = refl }
 
-  -- with a record behind the others
+  -- with a record after the others
   pub records_push : (rest : List (List ℕ)) (history tail : List Entry) → AreRecords format rest history → IsRecord format tail → AreRecords format (rest ++ entries_bytes format tail ∷ []) (history ++ tail)
   records_push rest history tail are one =
       let id : List Entry → List Entry = λ es. es in
@@ -37,13 +37,13 @@ module _ (format : ℕ) where
         spelled = ap (λ (ps : List (List ℕ)). ps ++ entries_bytes format tail ∷ []) are.spelled ∙ sym (map-append (entries_bytes format) are.records (tail ∷ []));
       }
 
-  -- a file of the digest and the records stands for their history
+  -- a file of the digest and the records represents their history
   pub history_stands : (terms : DeskTerms) (file : List ℕ) (rest : List (List ℕ)) (history : List Entry) → AreRecords format rest history → IsLegal terms.day history → HasRoom format (terms.digest ∷ rest) history
       → StandsFor format file (terms.digest ∷ rest) → IsHistoryOf terms file history
   history_stands terms file rest history are legal room stands =
       record { format = format; payloads = terms.digest ∷ rest; stands = stands; spells = inr (rest, refl, are); legal = legal; room = room }
 
-  -- and with a record behind them for it too
+  -- and with a record after them it too
   pub behind_stands : (terms : DeskTerms) (file : List ℕ) (rest : List (List ℕ)) (history tail : List Entry) → AreRecords format rest history → MayStandBehind terms format (terms.digest ∷ rest) history tail
       → StandsFor format file (terms.digest ∷ rest ++ entries_bytes format tail ∷ []) → IsHistoryOf terms file (history ++ tail)
   behind_stands terms file rest history tail are may stands =

@@ -1,4 +1,4 @@
--- The faults of a desk are at most what its disk's count rose by, and none where it stands.
+-- The faults of a desk are at most what its disk's count rose by, and none where it stays.
 use Rattle.std.proofs.Common.{◌≡◌, inl, inr, ℕ, ◌≤◌, Option, arith, sym, ◌∙◌}
 use Rattle.std.specs.Prelude.{Result, Ok, Err}
 use Rattle.adx_io.specs.Fakes.{counted}

@@ -117,7 +117,7 @@ module _ {D : Type 0} (may_leave : D → List ℕ → Type 0) (moment : D → �
     doubted = record {};
   }
 
-  -- the same by what the journal told of its payload, in the words of the fields
+  -- the same by what the journal answered of its payload, in the words of the fields
   pub added : {T : Type 0} (x : T) (desk next : DeskState) (was : JournalState) (payload : List ℕ) (old new : D) (es : List Entry)
       → was ≡ desk.journal → payload ≡ entries_bytes desk.journal.format es → next.terms ≡ desk.terms → next.history ≡ desk.history ++ es → next.journal.format ≡ was.format → MayAdd desk es
       → ((payloads : List (List ℕ)) (t : List ℕ) → Keeps (may_leave old) was payloads t → LeavesOnly moment left_since old new (WithOnePayload was.format payloads t payload))

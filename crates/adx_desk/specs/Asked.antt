@@ -5,7 +5,7 @@ use Rattle.day_rules.specs.declared.ask.Ask.{Ask}
 use Rattle.day_rules.specs.declared.entry.Entry.{Entry}
 use Rattle.day_rules.specs.Books.{ask_at}
 
--- the ask at the place that the answer names, if it is an answer to an ask that stands in the history
+-- the ask at the place that the answer names, if it is an answer to an ask that is in the history
 abbrev pub ask_for : List Entry → Answer → Option Ask
 ask_for history (Answer.Awarded entry) = ask_at history entry
 ask_for history (Answer.NoSale entry) = ask_at history entry

@@ -1,5 +1,5 @@
 -- The calls of a desk in few words: the reply to each by what the desk has, and what is said of its disk, with all that
--- a disk tells as one value. This project's own.
+-- a disk reports as one value. This project's own.
 -- Example: of a desk `old`, `reply_to_tick old 60` is `tick_reply old.history 60`.
 use Rattle.std.specs.Prelude.{◌≡◌, ℕ, List, [], Option, Some, Result}
 use Rattle.day_journal.specs.declared.disk.Disk as disk
@@ -63,7 +63,7 @@ DeskOpens d terms old new desk = Opens d.reads d.may_leave d.moment d.left_since
 abbrev pub DeskGivesUp : {D : Type 0} → disk.Ghosts D → DeskTerms → (old new : D) → DeskFault → Type 0
 DeskGivesUp d terms old new why = GivesUp d.reads d.may_leave d.moment d.left_since terms old new why
 
--- so it is of the file that the disk reads, where it tells it and the opening stands behind none of its payloads
+-- so it is of the file that the disk reads, where it reports it and the opening comes after none of its payloads
 abbrev pub OfFile : {D : Type 0} → disk.Ghosts D → D → OpeningState → (List ℕ → Type 0) → Type 0
 OfFile d old opening P = (file : List ℕ) → d.reads old ≡ Some file → StandsBehind file opening [] → P file
 
@@ -76,7 +76,7 @@ OfWholeFile d old opening P =
 abbrev pub terms_of : Terms → List ℕ → DeskTerms
 terms_of day digest = record { day = day; digest = digest }
 
--- A crash at any moment of the call leaves this file, or one that stands for the history that it stands for.
+-- A crash at any moment of the call leaves this file, or one that represents the history that it represents.
 abbrev pub LeavesSame : {D : Type 0} → disk.Ghosts D → DeskTerms → (old new : D) → List ℕ → Type 0
 LeavesSame d terms old new file = LeavesOnly d.moment d.left_since old new (StandsSame terms file)
 
@@ -100,13 +100,13 @@ IsUnmoved old new disk_old disk_new = on_disk new disk_new ≡ on_disk old disk_
 abbrev pub batch_bytes : DeskState → List Arrival → List ℕ
 batch_bytes desk calls = entries_bytes desk.journal.format (entries_in_turn desk.history calls)
 
--- a file stands for at most one history
+-- a file represents at most one history
 abbrev pub HasOneHistory : Type 0
 HasOneHistory =
     (terms : DeskTerms) (file : List ℕ) (history other : List Entry)
     → IsHistoryOf terms file history → IsHistoryOf terms file other → history ≡ other
 
--- a file that stands for a history is refused by no fault
+-- a file that represents a history is refused by no fault
 abbrev pub RefusalsExclude : Type 0
 RefusalsExclude =
     (terms : DeskTerms) (file : List ℕ) (why : DeskFault) (history : List Entry)

@@ -15,7 +15,7 @@ pub record DeskState : Type 0 where
   pub journal : JournalState
   pub faults : ℕ
 
--- what is known from a desk's opening: what the disk's count was then, and whether the disk told what it read
+-- what is known from a desk's opening: what the disk's count was then, and whether the disk reported what it read
 pub record AtOpening : Type 0 where
   pub count : ℕ
   pub tells : Bool
@@ -26,14 +26,14 @@ pub record OnDisk (D : Type 0) : Type 0 where
   pub disk : D
   pub since : AtOpening
 
--- the record that may stand behind these payloads of the history, in a journal of a format
+-- the record that may come after these payloads of the history, in a journal of a format
 pub record MayStandBehind (terms : DeskTerms) (format : ℕ) (payloads : List (List ℕ)) (history tail : List Entry) : Type 0 where
   pub is_record : IsRecord format tail
   pub legal : IsLegal terms.day (history ++ tail)
   pub room : HasRoom format (payloads ++ entries_bytes format tail ∷ []) (history ++ tail)
 
--- The desk keeps its history on a disk with these images: each stands for the history or, where a record is in
--- doubt, for the history or for it and this tail. A desk that isn't in doubt keeps its history with any tail.
+-- The desk keeps its history on a disk with these images: each represents the history or, where a record is in
+-- doubt, for the history or it and this tail. A desk that isn't in doubt keeps its history with any tail.
 pub record DeskKeeps (images : List ℕ → Type 0) (desk : DeskState) (tail : List Entry) : Type 0 where
   pub rest : List (List ℕ)
   pub kept : Keeps images desk.journal (desk.terms.digest ∷ rest) (entries_bytes desk.journal.format tail)
@@ -50,7 +50,7 @@ pub record DeskKeepsSome (images : List ℕ → Type 0) (desk : DeskState) : Typ
   pub keeps : DeskKeeps images desk tail
   pub sure : desk.faults ≡ 0 → DeskKeeps images desk []
 
--- Each image stands for the history, or for it and a tail: the entries of one record, at most 32, that may follow it. No
+-- Each image represents the history, or it and a tail: the entries of one record, at most 32, that may follow it. No
 -- record is in doubt where no call met a fault of the disk.
 pub record StandsInDoubt (images : List ℕ → Type 0) (terms : DeskTerms) (history : List Entry) (faults : ℕ) : Type 0 where
   pub tail : List Entry

@@ -19,12 +19,12 @@ abbrev pub FitsJournal : DeskState → Option Entry → Type 0
 FitsJournal desk None = Unit {0}
 FitsJournal desk (Some e) = size_with desk e ≤ greatest_size
 
--- there is none, and the size told is what it would come to
+-- there is none, and the size answered is what it would come to
 abbrev pub PassesJournal : DeskState → ℕ → Option Entry → Type 0
 PassesJournal desk told None = ⊥
 PassesJournal desk told (Some e) = (greatest_size < size_with desk e) × (told ≡ min (size_with desk e) last_count)
 
--- The disk failed in this call, and the desk counted it: its own count stands still at its last value.
+-- The disk failed in this call, and the desk counted it: its own count stays at its last value.
 pub record FailsDisk (before now : ℕ) (old new : DeskState) : Type 0 where
   pub later : before ≤ now
   pub risen : Rises before now
@@ -35,7 +35,7 @@ pub record NoFault (before now : ℕ) (old new : DeskState) : Type 0 where
   pub disk : now ≡ before
   pub desk : new.faults ≡ old.faults
 
--- so many faults are at most what the disk's count rose by since it was this, unless it stands at its last value
+-- so many faults are at most what the disk's count rose by since it was this, unless it is at its last value
 abbrev pub IsWithinRise : (since faults now : ℕ) → Type 0
 IsWithinRise since faults now = (since + faults ≤ now) ⊎ (last_count ≤ now)
 

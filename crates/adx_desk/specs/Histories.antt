@@ -1,4 +1,4 @@
--- What a file stands for: the history whose entries its payloads spell. This project's own.
+-- What a file represents: the history whose entries its payloads spell. This project's own.
 use Rattle.std.specs.Prelude.{◌≡◌, ◌⊎◌, ℕ, ◌+◌, ◌≤◌, ◌<◌, List, [], ◌∷◌, ◌++◌, map, length, All}
 use Rattle.std.specs.List.{flat_map, sum_by}
 use Rattle.day_journal.specs.Faults.{greatest_size}
@@ -41,7 +41,7 @@ HasRoom format payloads history = length (opened format payloads) + 1 + held for
 abbrev pub longest_size : DeskTerms → List Entry → ℕ
 longest_size terms history = length (opened NEW_FORMAT (terms.digest ∷ [])) + 1 + sum_by longest_record history
 
--- the file stands for this history, in the format that its head tells
+-- the file represents this history, in the format that its head says
 pub record IsHistoryOf (terms : DeskTerms) (file : List ℕ) (history : List Entry) : Type 0 where
   pub format : ℕ
   pub payloads : List (List ℕ)
@@ -59,7 +59,7 @@ abbrev pub WithAtMostOne : DeskTerms → List Entry → List Entry → List Entr
 WithAtMostOne terms history tail new file =
     IsHistoryOf terms file history ⊎ IsHistoryOf terms file (history ++ tail) ⊎ IsHistoryOf terms file (history ++ new)
 
--- a file is another one, or both stand for one history
+-- a file is another one, or both represent one history
 abbrev pub StandsSame : DeskTerms → (before after : List ℕ) → Type 0
 StandsSame terms before after =
     (after ≡ before) ⊎ ((history : List Entry) × IsHistoryOf terms before history × IsHistoryOf terms after history)

@@ -29,14 +29,14 @@ abbrev pub on_disk : {D : Type 0} → JournaledState → D → OnDisk D
 on_disk s disk = record { desk = s.desk; disk = disk; since = unopened }
 
 -- The history is legal, its open awards are counted, and the journal has room for what is held. It is no longer than
--- that of a record for each entry behind the digest.
+-- that of a record for each entry after the digest.
 pub record AreJournaled (day : DayState) (digest : List ℕ) (journal : JournalState) (open_awards : ℕ) : Type 0 where
   pub legal : IsDay day.terms day.history
   pub open_are : open_awards ≡ open_count (awards_of day.history)
   pub room : size_of journal + held journal.format day.history ≤ greatest_size
   pub short : size_of journal ≤ longest_size (record { day = day.terms; digest = digest }) day.history
 
--- what is held beside the record of an entry: for an ask and a change of a budget what is held behind it; the record of
+-- what is held beside the record of an entry: for an ask and a change of a budget what is held after it; the record of
 -- a notice or a moment takes of what is held already
 abbrev pub beside : ℕ → List Entry → Entry → ℕ
 beside format history (Entry.Ask a) = held format (history ++ Entry.Ask a ∷ [])

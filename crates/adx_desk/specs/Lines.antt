@@ -1,9 +1,9 @@
--- The faults of a desk that a line tells. This project's own.
+-- The faults of a desk that a line says. This project's own.
 use Rattle.std.specs.Prelude.{Option, Some, None}
 use Rattle.answer_lines.specs.declared.faults.Fault.{Fault}
 use Rattle.adx_desk.specs.declared.fault.DeskFault.{DeskFault}
 
--- the fault that the line of a call tells: that of the disk, and a journal without room
+-- the fault that the line of a call says: that of the disk, and a journal without room
 abbrev pub told_as : DeskFault → Option Fault
 told_as DeskFault.DiskFault = Some Fault.Disk
 told_as (DeskFault.JournalFull size) = Some (Fault.JournalFull size)

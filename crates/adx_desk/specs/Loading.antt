@@ -10,7 +10,7 @@ use Rattle.day_entries.specs.Entries.{BeginsWith, Fits, entry_bytes, entries_byt
 use Rattle.adx_desk.specs.declared.fault.DeskFault.{DeskFault}
 use Rattle.adx_desk.specs.Histories.{AreRecords}
 
--- an entry at the front of the bytes was added, and these bytes stand behind it
+-- an entry at the front of the bytes was added, and these bytes come after it
 pub record TakesEntry (format : ℕ) (terms : Terms) (old new : List Entry) (bytes rest : List ℕ) : Type 0 where
   pub entry : Entry
   pub fits : Fits format entry
@@ -18,7 +18,7 @@ pub record TakesEntry (format : ℕ) (terms : Terms) (old new : List Entry) (byt
   pub follows : MayFollow terms old entry
   pub added : new ≡ old ++ entry ∷ []
 
--- no entry stands at the front of the bytes that may follow
+-- no entry is at the front of the bytes that may follow
 abbrev pub LacksNext : ℕ → Terms → List Entry → List ℕ → Type 0
 LacksNext format terms history bytes = (e : Entry) (n : ℕ) → BeginsWith format bytes e n → MayFollow terms history e → ⊥
 
@@ -51,12 +51,12 @@ pub record TakesFront (format : ℕ) (terms : Terms) (old new : List Entry) (pay
   pub added : new ≡ old ++ front
   pub legal : IsLegal terms new
 
--- entries at the front of a payload were added, or none yet; some bytes stand behind them
+-- entries at the front of a payload were added, or none yet; some bytes come after them
 abbrev pub BehindFront : ℕ → Terms → List Entry → List Entry → List ℕ → List ℕ → Type 0
 BehindFront format terms old new payload rest =
     ((new ≡ old) × (rest ≡ payload)) ⊎ (TakesFront format terms old new payload rest × (0 < length rest))
 
--- behind some entries of the payload stands none that may follow
+-- after some entries of the payload there is none that may follow
 pub record StopsFront (format : ℕ) (terms : Terms) (old : List Entry) (payload : List ℕ) (at : ℕ) : Type 0 where
   pub front : List Entry
   pub fits : All (Fits format) front
@@ -88,7 +88,7 @@ pub record HasReadAll (digest file : List ℕ) (opening : OpeningState) (history
   pub read : HasRead digest file opening history
   pub closed : IsClosed (opened opening.format (digest ∷ read.rest)) file
 
--- The journal keeps this history behind the digest. The file stood for it, and reads as it did; or it stood for no
+-- The journal keeps this history after the digest. The file represented it, and reads as it did; or it represented no
 -- payload, and the digest is the first one now.
 pub record HasOpened (digest file : List ℕ) (now : Option (List ℕ)) (images : List ℕ → Type 0) (journal : JournalState) (history : List Entry) : Type 0 where
   pub rest : List (List ℕ)

@@ -13,7 +13,7 @@ use Rattle.adx_desk.specs.declared.fault.DeskFault.{DeskFault}
 use Rattle.day_machine.specs.Held.{held}
 use Rattle.adx_desk.specs.Histories.{AreRecords, DeskTerms, Spells, StandsSame}
 
--- what is told of a first payload that isn't the roster's digest
+-- what is said of a first payload that isn't the roster's digest
 abbrev pub told_of : List ℕ → List ℕ
 told_of payload = if length payload == 32 then payload else sha256 payload
 
@@ -28,11 +28,11 @@ pub record HasOtherRoster (digest file kept : List ℕ) : Type 0 where
   pub other : first ≢ digest
   pub told : kept ≡ told_of first
 
--- no entry stands at the front of the bytes that may follow the history
+-- no entry is at the front of the bytes that may follow the history
 abbrev pub HasNoNext : ℕ → DeskTerms → List Entry → List ℕ → Type 0
 HasNoNext format terms history bytes = (e : Entry) (n : ℕ) → BeginsWith format bytes e n → MayFollow terms.day history e → ⊥
 
--- Behind whole records and some entries of the next payload, each legal in its turn, there are bytes of that payload
+-- After whole records and some entries of the next payload, each legal in its turn, there are bytes of that payload
 -- that begin with no entry that may follow.
 pub record HasBadEntry (terms : DeskTerms) (file : List ℕ) (at : ℕ) : Type 0 where
   pub format : ℕ
@@ -53,14 +53,14 @@ pub record HasBadEntry (terms : DeskTerms) (file : List ℕ) (at : ℕ) : Type 0
   pub none : HasNoNext format terms (earlier ++ front) bytes
   pub there : at ≡ length (earlier ++ front)
 
--- behind payloads that spell a legal history stands a place that is none
+-- after payloads that spell a legal history there is a place that is none
 pub record HasBadRecord (terms : DeskTerms) (file : List ℕ) (at : ℕ) : Type 0 where
   pub bad : HasBadLength file at
   pub history : List Entry
   pub spells : Spells bad.format terms.digest bad.payloads history
   pub legal : IsLegal terms.day history
 
--- the file stands for a legal history, but for its room
+-- the file represents a legal history, but for its room
 pub record HasNoRoom (terms : DeskTerms) (file : List ℕ) (size : ℕ) : Type 0 where
   pub format : ℕ
   pub payloads : List (List ℕ)
@@ -118,6 +118,6 @@ abbrev pub append_fault_of : AppendFault → DeskFault
 append_fault_of AppendFault.DiskFault = DeskFault.DiskFault
 append_fault_of (AppendFault.Full size) = DeskFault.JournalFull size
 
--- an image from before, what was read, or a file that stands for the history that it stood for
+-- an image from before, what was read, or a file that represents the history that it represented
 abbrev pub StandsAsRead : DeskTerms → (List ℕ → Type 0) → Option (List ℕ) → List ℕ → Type 0
 StandsAsRead terms images reads file = images file ⊎ ((before : List ℕ) × (reads ≡ Some before) × StandsSame terms before file)

@@ -37,7 +37,7 @@ TakesRoom (Call.Notice kind auction award) = ⊥
 TakesRoom (Call.Tick now) = ⊥
 TakesRoom (Call.Budget campaign change budget) = Unit {0}
 
--- The journal may be told to be full, with this size: there is an entry to add, and the size passes what a journal takes,
+-- The journal may be answered to be full, with this size: there is an entry to add, and the size passes what a journal takes,
 -- and is at most what the longest journal of the history comes to with the entry's record, and with what is held then.
 abbrev pub MayBeFull : DeskTerms → List Entry → Option Entry → ℕ → Type 0
 MayBeFull terms history None size = ⊥
@@ -83,7 +83,7 @@ abbrev pub day_turn : Turn → DayTurn
 day_turn turn = record { call = call_of turn.call; outcome = outcome_in turn.ended }
 
 -- What the turn leaves of the history that it is called at is what a run over it alone leaves: each campaign's money is that
--- of the calls taken once, within its budget at each point; each ask stands there as its choice was; and it is a repeat
+-- of the calls taken once, within its budget at each point; each ask is there as its choice was; and it is a repeat
 -- exactly where its call was taken before.
 abbrev pub IsTakenAt : DeskTerms → List Entry → Turn → Type 0
 IsTakenAt terms history turn = HasBooks terms.day history (day_turn turn ∷ []) (run terms.day history (day_turn turn ∷ []))

@@ -93,7 +93,7 @@ pub(crate) fn fitted(entry: Entry) -> Entry
     }
 }
 
-/// A copy of the ask at a place of the history; none where no ask stands there.
+/// A copy of the ask at a place of the history; none where no ask is there.
 fn copy_at(alloc: Global, entries: &[Entry], place: u64) -> Result<Option<Ask>, OutOfMemory>
     ensures { IfOk result (λ copy. copy ≡ ask_at entries.now place) }
 {
@@ -103,7 +103,7 @@ fn copy_at(alloc: Global, entries: &[Entry], place: u64) -> Result<Option<Ask>, 
     }
 }
 
-/// The ask at a place of the history; none where no ask stands there.
+/// The ask at a place of the history; none where no ask is there.
 fn lent_at(entries: &[Entry], place: u64) -> Option<&Ask>
     ensures { option_map (λ a. a.now) result ≡ ask_at entries.now place }
 {

@@ -72,7 +72,7 @@ impl<D: Disk> Model for Desk<D> {
 }
 
 impl<D: Disk> Desk<D> {
-    /// Opens the desk of a roster's day on a disk: by the history that its file stands for, or with a journal that it
+    /// Opens the desk of a roster's day on a disk: by the history that its file represents, or with a journal that it
     /// begins where there is none. Where it gives up it gives the disk back, which after a refusal of the file reads as
     /// it did before. The refusals are `NotAJournal`, `OtherRoster`, `BadLength` and `BadEntry`, the first of them in the
     /// order of the file's bytes, and then `JournalFull`.
@@ -154,7 +154,7 @@ impl<D: Disk> Desk<D> {
 
     /// Answers a change of a campaign's budget, in units: its number is at least 1. Where the reply has an entry, it is in
     /// the journal, and then in the history; all memory is taken before the disk is written. The refusals come in the
-    /// order of the day's answers, then want of memory, a journal without room, a fault of the disk. After a fault the
+    /// order of the day's answers, then lack of memory, a journal without room, a fault of the disk. After a fault the
     /// history and the books are as before.
     pub fn set_budget(
         &mut self,
@@ -205,7 +205,7 @@ impl<D: Disk> Desk<D> {
         self.kept.tick(&mut self.disk, &mut self.notices, now)
     }
 
-    /// Answers the calls of a batch that didn't run: each as a notice is answered behind the entries of the calls before
+    /// Answers the calls of a batch that didn't run: each as a notice is answered after the entries of the calls before
     /// it. All their entries, at most 32, go into the journal as one record, which grows by five bytes and those of the entries;
     /// where there is none, the disk isn't touched. Takes no memory; its only fault is the disk's, after which the batch didn't run.
     pub fn batch(&mut self, batch: &mut Batch) -> Result<(), DeskFault>
@@ -223,7 +223,7 @@ impl<D: Disk> Desk<D> {
         self.kept.batch(&mut self.disk, &mut self.notices, batch)
     }
 
-    /// Whether a request stands in the history, by its auction and its digest, or its auction with another request.
+    /// Whether a request is in the history, by its auction and its digest, or its auction with another request.
     pub fn seen(&self, auction: &str, digest: &[u8; 32]) -> Seen
         ensures { result ≡ seen_in self.now.desk.history auction.now digest.now }
     {
@@ -293,7 +293,7 @@ impl<D: Disk> Desk<D> {
         self.kept.journal_size()
     }
 
-    /// How many calls since opening answered a fault of the disk; it stands still at 2^64 - 1. Each of them raised the
+    /// How many calls since opening answered a fault of the disk; it stays at 2^64 - 1. Each of them raised the
     /// disk's own count.
     pub fn faults(&self) -> u64
         ensures faults { result ≡ self.now.desk.faults }
@@ -313,7 +313,7 @@ impl<D: Disk + Drop> Desk<D> {
         (self.kept, self.disk)
     }
 
-    /// Gives back the disk. Where it told at the opening what it read, each of its images stands for the history, or for
+    /// Gives back the disk. Where it reported at the opening what it read, each of its images represents the history, or
     /// it and one record that a fault of the disk left in doubt.
     pub fn close(self) -> D
         ensures disk { result ≡ self.disk }
@@ -323,7 +323,7 @@ impl<D: Disk + Drop> Desk<D> {
         disk
     }
 
-    /// Gives back the disk as `close` does, but not the memory of the day: for a program that ends behind it. The system
+    /// Gives back the disk as `close` does, but not the memory of the day: for a program that ends after it. The system
     /// takes that memory at once, while the many texts of a long day, freed one by one, take a part of its time.
     pub fn leave(self) -> D
         ensures disk { result ≡ self.disk }

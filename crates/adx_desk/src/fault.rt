@@ -21,15 +21,15 @@ pub enum DeskFault {
     OtherRoster { kept: [u8; 32] },
     /// The file is no journal: its byte `at`, from 0, is another one than that of a journal's head, or missing.
     NotAJournal { at: u64 },
-    /// At the byte `at`, from 0, stands an open gate whose payload can't be, or the file ends without a gate.
+    /// At the byte `at`, from 0, there is an open gate whose payload can't be, or the file ends without a gate.
     BadLength { at: u64 },
     /// Memory was refused.
     OutOfMemory,
 }
 
 impl DeskFault {
-    /// The fault that a line tells of a call which this one gave up: that of the disk, or a journal without room, with the
-    /// size in bytes that it would come to. None for want of memory and for the refusals of a file, which no line tells.
+    /// The fault that a line says of a call which this one gave up: that of the disk, or a journal without room, with the
+    /// size in bytes that it would come to. None for lack of memory and for the refusals of a file, which no line says.
     pub fn told(&self) -> Option<Fault>
         ensures { result ≡ told_as self.now }
     {

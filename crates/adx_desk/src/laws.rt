@@ -3,12 +3,12 @@
 ghost use Rattle.std.specs.Prelude.{◌≡◌, List, ℕ};
 ghost use Rattle.adx_desk.specs.Calls.{HasOneHistory, RefusalsExclude};
 
-/// A file stands for at most one history.
+/// A file represents at most one history.
 pub fn one_history()
     ensures { HasOneHistory }
 {}
 
-/// A file that stands for a history is refused by no fault.
+/// A file that represents a history is refused by no fault.
 pub fn refusals_exclude()
     ensures { RefusalsExclude }
 {}

@@ -2,10 +2,10 @@
 //!
 //! A contract sees a `Desk` as its terms, its history and its disk. Each call answers what the plain day answers after
 //! that history; an entry is in the journal before it is in the history, and a crash at any moment leaves a file that
-//! stands for the history, or for it and the record that was being written. Opening reads a file that stands for a
+//! represents the history, or it and the record that was being written. Opening reads a file that represents a
 //! history, or names the first fault in the order of its bytes.
 //!
-//! Stands on `day_machine` for the day, on `day_journal` and `day_entries` for the disk, and on `answer_lines`.
+//! Uses `day_machine` for the day, `day_journal` and `day_entries` for the disk, and `answer_lines`.
 #![tactic(auto)]
 
 mod copying;

@@ -1,4 +1,4 @@
-//! The lines that tell what a desk answers, and the closing table.
+//! The lines that say what a desk answers, and the closing table.
 ghost use Rattle.std.specs.Prelude.{◌≡◌, Some, IfOk, IfSome};
 ghost use Rattle.answer_lines.specs.Answers.{answer_line as line_of, fault_line as line_of_fault};
 ghost use Rattle.answer_lines.specs.Table.{closing_table};
@@ -36,7 +36,7 @@ pub fn answer_line(
     Ok(Text::from(line))
 }
 
-/// The line of a call that was given up by a fault of the disk or for want of the journal's room, without its newline.
+/// The line of a call that was given up by a fault of the disk or for lack of room in the journal, without its newline.
 pub fn fault_line(alloc: Global, fault: &DeskFault) -> Result<Text, OutOfMemory>
     requires { HasLine fault.now }
     ensures { IfOk result (λ text. IfSome (told_as fault.now) (λ told. text ≡ line_of_fault told)) }

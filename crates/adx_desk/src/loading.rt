@@ -1,4 +1,4 @@
-//! What a journal tells of a day: the roster's digest, and behind it the records.
+//! What a journal says of a day: the roster's digest, and after it the records.
 ghost use Rattle.std.specs.Prelude.{◌≡◌, ◌≢◌, ◌==◌, ◌+◌, ◌≤◌, ℕ, List, [], ◌∷◌, length, true, Some, IfOk, IfErr, OnOk, MatchBool, if◌then◌else◌};
 ghost use Rattle.std.specs.List.{sum_by};
 ghost use Rattle.day_journal.specs.Openings.{OnlyReads, StandsBehind};
@@ -18,7 +18,7 @@ use day_machine::MeteredDay;
 use sha2::{Digest, Sha256};
 use std::alloc::Global;
 
-/// What is told of a first payload that isn't the roster's digest.
+/// What is said of a first payload that isn't the roster's digest.
 fn told(payload: &[u8]) -> [u8; 32]
     ensures { result ≡ told_of payload.now }
 {
@@ -41,7 +41,7 @@ fn compare(payload: &[u8], digest: &[u8; 32]) -> Result<(), DeskFault>
     Ok(())
 }
 
-/// Reads the records behind the digest, to the end of the journal.
+/// Reads the records after the digest, to the end of the journal.
 fn read_records<D: Disk>(
     alloc: Global,
     disk: &mut D,
@@ -79,7 +79,7 @@ fn read_records<D: Disk>(
     }
 }
 
-/// Reads the journal to its end, the digest and what stands behind it: true; false where it has no payload.
+/// Reads the journal to its end, the digest and what comes after it: true; false where it has no payload.
 pub(crate) fn load<D: Disk>(
     alloc: Global,
     disk: &mut D,

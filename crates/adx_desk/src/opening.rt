@@ -41,7 +41,7 @@ fn begin<D: Disk>(disk: &mut D, opening: Opening, first: &Frame) -> Result<Journ
     }
 }
 
-/// Reads the day's entries behind the digest, or begins a journal that has no payload with it.
+/// Reads the day's entries after the digest, or begins a journal that has no payload with it.
 fn journal_of<D: Disk>(
     alloc: Global,
     disk: &mut D,

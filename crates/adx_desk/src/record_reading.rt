@@ -9,7 +9,7 @@ use day_machine::MeteredDay;
 use day_rules::Entry;
 use std::alloc::Global;
 
-/// That no entry that may stand there stands at the next place of the history.
+/// That no entry that may be there is at the next place of the history.
 fn bad_entry(day: &MeteredDay) -> DeskFault
     ensures { result ≡ DeskFault.BadEntry (length day.now.history) }
 {
@@ -37,7 +37,7 @@ fn add(day: &mut MeteredDay, entry: Entry) -> Result<(), DeskFault>
     }
 }
 
-/// Adds the entry at the front of the bytes, and gives the bytes behind it.
+/// Adds the entry at the front of the bytes, and gives the bytes after it.
 fn take_entry<'b>(
     alloc: Global,
     day: &mut MeteredDay,

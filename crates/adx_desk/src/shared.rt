@@ -17,7 +17,7 @@ pub struct OpenedWith {
     pub digest: [u8; 32],
     /// How often the disk had failed after the opening.
     pub faults: u64,
-    /// Whether the disk told what it read.
+    /// Whether the disk reported what it read.
     pub tells: bool,
 }
 

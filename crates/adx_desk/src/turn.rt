@@ -41,6 +41,6 @@ pub struct Turn {
     pub call: Call,
     /// The desk's answer, or the fault that gave the call up and left the history as it was.
     pub ended: Result<Answer, DeskFault>,
-    /// The entry that the history has of the call; None where the answer adds none, and behind a fault.
+    /// The entry that the history has of the call; None where the answer adds none, and after a fault.
     pub entry: Option<Entry>,
 }

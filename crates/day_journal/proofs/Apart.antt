@@ -1,4 +1,4 @@
--- A file stands for payloads, or has one fault at one place.
+-- A file represents payloads, or has one fault at one place.
 use Rattle.std.proofs.Common.{◌≡◌, ◌≢◌, ◌⊎◌, inl, inr, ℕ, ◌≤◌, ◌<◌, List, [], ◌∷◌, ◌++◌, length, get_or, drop, All, refl, sym, ◌∙◌, ap, arith, append_assoc, length-append}
 use Rattle.std.specs.Prelude.{slice_get}
 use Rattle.std.specs.List.{flat_map}
@@ -9,7 +9,7 @@ use Rattle.day_journal.specs.Places.{IsFormat, IsPayload, IsBadPlace, IsUnfinish
 use Rattle.day_journal.proofs.Once.{same_format, same_payload}
 use Rattle.day_journal.proofs.Reading.{front_get}
 
--- an open place where no payload may stand
+-- an open place where no payload may be
 no_place : (place p rest : List ℕ) → IsBadPlace place → IsPayload p → place ≡ open_place p ++ rest → ⊥
 no_place place p rest bad is_payload is = bad.payload p rest is_payload is
 

@@ -42,7 +42,7 @@ module _ {D : Type 0} (reads : D → Option (List ℕ)) (may_leave : D → List 
       weaker moment left_since old new (λ (c : List ℕ). StandsNew c × HasSome (may_leave old)) (StandsAsRead (may_leave old) (reads old)) made
       (λ c h. made_as (reads old) (may_leave old) c durable un h.0 h.1)
 
-  -- one run behind another
+  -- one run after another
   pub begun_on : (old mid new : D) → reads mid ≡ reads old → LeavesNoMore may_leave moment left_since old mid → LeavesOnly moment left_since mid new (StandsAsRead (may_leave mid) (reads mid))
       → LeavesOnly moment left_since old new (StandsAsRead (may_leave old) (reads old))
   begun_on old mid new same less run =
@@ -59,7 +59,7 @@ looked_uncleared size start reads images is l f left = let had = l.found f (l.du
 pub begins_new : (file : List ℕ) → file ≡ new_file → BeginsJournal NEW_FORMAT 10 file
 begins_new file is = record { known = inr refl; length_is = sym (ap length is); front = ap (λ (l : List ℕ). take 9 (take 11 l)) is }
 
--- a disk that told what it reads, and whose images are a new journal, reads as one
+-- a disk that reported what it reads, and whose images are a new journal, reads as one
 pub reads_new : (was now : Option (List ℕ)) (images : List ℕ → Type 0) (file : List ℕ) → is_some now ≡ is_some was → was ≡ Some file
     → ((f : List ℕ) → now ≡ Some f → images f) → Each images (λ c. c ≡ new_file) → now ≡ Some new_file
 reads_new was None images file told is left each = absurd (cc (told, is))

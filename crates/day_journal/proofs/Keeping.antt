@@ -12,7 +12,7 @@ use Rattle.day_journal.specs.Tails.{IsGated, HasTail, HasShutTail, JournalState,
 pub opened_push : (format : ℕ) (ps : List (List ℕ)) (p : List ℕ) → opened format (ps ++ p ∷ []) ≡ opened format ps ++ 1 ∷ body p
 opened_push format ps p = sym (flat_map_more open_place (head format) ps p)
 
--- an open gate in front of a record makes it one of the payloads
+-- an open gate before a record makes it one of the payloads
 pub gated_open : (format : ℕ) (ps : List (List ℕ)) (p c : List ℕ) → IsGated 1 (opened format ps) (body p) c → IsClosed (opened format (ps ++ p ∷ [])) c
 gated_open format ps p c is = record {
   gate = 0;
@@ -30,7 +30,7 @@ shut_closed before bytes c is = gated_shut is.gate before bytes c is.shut is.gat
 pub shut_tail : (before bytes c : List ℕ) → HasShutTail before bytes c → HasTail before bytes c
 shut_tail before bytes c is = record { gate = is.gate; gated = is.gated }
 
--- with a tail behind some gate a file stands for the payloads, or for them and the tail
+-- with a tail after some gate a file represents the payloads, or them and the tail
 pub tail_stands : (format : ℕ) (ps : List (List ℕ)) (t c : List ℕ) → IsFormat format → All IsPayload ps → IsPayload t → HasTail (opened format ps) (body t) c → WithOrWithout format ps t c
 tail_stands format ps t c known each is_payload has = elim (cases_eq has.gate 1) [
   | inl is_open ↦ inr (inr (record { known = known; each = All-push IsPayload ps t each is_payload; closed = gated_open format ps t c (subst (λ (n : ℕ). IsGated n (opened format ps) (body t) c) is_open has.gated) }))
@@ -41,7 +41,7 @@ pub ends_stand : (format : ℕ) (b : Bool) (ps : List (List ℕ)) (t c : List �
 ends_stand format false ps t c known each doubted ends = inl (inr (record { known = known; each = each; closed = ends }))
 ends_stand format true ps t c known each doubted ends = tail_stands format ps t c known each (doubted refl) ends
 
--- each image stands for the payloads, or for them and the tail
+-- each image represents the payloads, or them and the tail
 pub keeps_stand : (images : List ℕ → Type 0) (j : JournalState) (ps : List (List ℕ)) (t : List ℕ) → Keeps images j ps t → Each images (WithOrWithout j.format ps t)
 keeps_stand images j ps t k c left = ends_stand j.format j.in_doubt ps t c k.known k.each k.doubted (k.ends c left)
 
@@ -69,7 +69,7 @@ closed_ends images format gate false ps t is k = k.ends
 length-body : (p : List ℕ) → length (body p) ≡ length p + 4
 length-body p = omega arith
 
--- where the gate stands behind one payload more
+-- where the gate comes after one payload more
 pub place_after : (format : ℕ) (ps : List (List ℕ)) (p : List ℕ) (gate len : ℕ) → gate ≡ length (opened format ps) → len ≡ length p + 5 → gate + len ≡ length (opened format (ps ++ p ∷ []))
 place_after format ps p gate len place is =
     let more : length (opened format (ps ++ p ∷ [])) ≡ length (opened format ps) + length (1 ∷ body p) = ap length (opened_push format ps p) ∙ length-append (opened format ps) (1 ∷ body p) in

@@ -1,4 +1,4 @@
--- How the place at which a reader stands goes on.
+-- How the place at which a reader is goes on.
 use Rattle.std.proofs.Common.{◌≡◌, ◌≢◌, ◌⊎◌, inl, inr, ℕ, ◌+◌, ◌-◌, ◌<◌, ◌≤◌, ◌^◌, min, List, [], ◌∷◌, ◌++◌, length, get_or, take, drop, zero, suc, Bool, true, false, Option, Some, None, All, refl, sym, ◌∙◌, ap, subst, arith, append_assoc, length-append, length-drop}
 use Rattle.std.specs.Prelude.{IfSome, slice_get}
 use Rattle.std.specs.Int.{w32, to_le_bytes, from_le_bytes}
@@ -16,7 +16,7 @@ use Rattle.day_journal.specs.Places.{head, IsFormat, IsPayload, IsClosed, HasBad
 use Rattle.day_journal.proofs.Keeping.{opened_push}
 use Rattle.day_journal.proofs.Once.{short}
 
--- what is told of the file that a read gives
+-- what is said of the file that a read gives
 pub some_of : (P : List ℕ → Type 0) (r : Option (List ℕ)) (file : List ℕ) → r ≡ Some file → IfSome r P → P file
 some_of P None file is h = absurd (cc is)
 some_of P (Some x) file is h = subst P (cc is) h
@@ -33,7 +33,7 @@ take_past xs ys len n is =
     ∙ ap (λ (l : List ℕ). l ++ take n (drop len (xs ++ ys))) (take_at xs ys len is)
     ∙ ap (λ (l : List ℕ). xs ++ take n l) (drop_at xs ys len is)
 
--- bytes that were read behind others
+-- bytes that were read after others
 pub reads_more : (file : List ℕ) (at len n place : ℕ) (old new piece : List ℕ) → new ≡ take len old ++ piece → len ≤ length old → place ≡ min (at + len) last_count → Shows file place n piece → ReadsOn file at len old n new
 reads_more file at len n place old new piece is le there shows short within front =
     let same : place ≡ at + len = omega (arith, there, short, within) in
@@ -68,7 +68,7 @@ filled file at len n bytes first second w is front reads size few within =
       ];
     }
 
--- the first five bytes of a place stand in a window on it
+-- the first five bytes of a place are in a window on it
 first_five : (bytes place : List ℕ) (n : ℕ) → bytes ≡ take (length bytes) place → 5 ≤ length bytes → bytes ≡ 1 ∷ (to_le_bytes w32 n ++ drop 5 bytes) → place ≡ 1 ∷ (to_le_bytes w32 n ++ drop 5 place)
 first_five bytes place n is five opens =
     let front : take 5 place ≡ 1 ∷ to_le_bytes w32 n = sym (take-take 5 (length bytes) place five) ∙ ap (take 5) (sym is) ∙ ap (take 5) opens in
@@ -126,7 +126,7 @@ window_passed file at m bytes le w = record {
 place_long : (file : List ℕ) (at n : ℕ) → at + (n + 5) ≤ length file → n + 5 ≤ length (drop at file)
 place_long file at n le = omega (arith, le, length-drop at file)
 
--- behind a payload whose last byte stands in the window
+-- after a payload whose last byte is in the window
 pub near_more : {format : ℕ} (file : List ℕ) (at size n : ℕ) (bytes : List ℕ) (closed : Bool) (ps : List (List ℕ)) (p : List ℕ) → StandsBehind file (record { format = format; window = record { at = at; bytes = bytes }; size = size; closed = closed }) ps
     → IsPlace bytes (Place.Open n) → n + 5 ≤ length bytes → p ≡ take n (drop 5 bytes) → closed ≡ false
     → StandsBehind file (record { format = format; window = record { at = min (at + (n + 5)) last_count; bytes = drop (n + 5) bytes }; size = size; closed = closed }) (ps ++ p ∷ [])
@@ -150,7 +150,7 @@ near_more {format} file at size n bytes closed ps p b opens le is off =
       closed = λ on. absurd (cc (on, off));
     })
 
--- behind a payload whose last byte doesn't
+-- after a payload whose last byte doesn't
 pub far_more : {format : ℕ} (file : List ℕ) (at size n : ℕ) (bytes : List ℕ) (closed : Bool) (ps : List (List ℕ)) (p : List ℕ) → StandsBehind file (record { format = format; window = record { at = at; bytes = bytes }; size = size; closed = closed }) ps
     → IsPlace bytes (Place.Open n) → at + (n + 5) ≤ length file → p ≡ take n (drop 5 (drop at file)) → closed ≡ false
     → StandsBehind file (record { format = format; window = record { at = min (at + (n + 5)) last_count; bytes = [] }; size = size; closed = closed }) (ps ++ p ∷ [])
@@ -169,7 +169,7 @@ far_more {format} file at size n bytes closed ps p b opens le is off =
       closed = λ on. absurd (cc (on, off));
     })
 
--- no payload stands where the length is none of a payload, or passes the end
+-- there is no payload where the length is none of a payload, or passes the end
 bad_length : (format : ℕ) (file : List ℕ) (at n : ℕ) (x : List ℕ) (ps : List (List ℕ)) → IsFormat format → All IsPayload ps → at ≡ length (opened format ps) → file ≡ opened format ps ++ drop at file
     → drop at file ≡ 1 ∷ (to_le_bytes w32 n ++ x) → n < 2 ^ 32 → (IsNoLength n ⊎ (length (drop at file) < n + 5)) → HasBadLength file at
 bad_length format file at n x ps known each there split opens small why = record {
@@ -271,7 +271,7 @@ no_head file at none =
 pub small_start : (P : List ℕ → Type 0) (file : List ℕ) → length (take 11 file) ≤ 10 → P (take 11 file) → P file
 small_start P file few is = subst P (take_all 11 file (omega (arith, few, length-take 11 file))) is
 
--- the reader stands behind the head
+-- the reader comes after the head
 pub behind_head : (format : ℕ) (file : List ℕ) (size : ℕ) → IsFormat format → take 9 (take 11 file) ≡ head format → size ≡ length file → length file < 2 ^ 64
     → StandsBehind file (record { format = format; window = record { at = 9; bytes = [] }; size = size; closed = false }) []
 behind_head format file size known front is addressed =
@@ -286,7 +286,7 @@ behind_head format file size known front is addressed =
       closed = λ on. absurd (cc (on));
     }
 
--- five bytes in front
+-- five bytes at the beginning
 five_front : (bytes : List ℕ) → 5 ≤ length bytes → bytes ≡ get_or bytes 0 0 ∷ (get_or bytes 1 0 ∷ (get_or bytes 2 0 ∷ (get_or bytes 3 0 ∷ (get_or bytes 4 0 ∷ drop 5 bytes))))
 five_front [] le = absurd (omega (arith, le))
 five_front (a ∷ []) le = absurd (omega (arith, le))
@@ -302,7 +302,7 @@ four_fit a b c d fa fb fc fd (suc (suc zero)) = fc
 four_fit a b c d fa fb fc fd (suc (suc (suc zero))) = fd
 four_fit a b c d fa fb fc fd (suc (suc (suc (suc i)))) = omega arith
 
--- a gate that is open and a length behind it
+-- a gate that is open and a length after it
 pub opens_place : (bytes : List ℕ) (n : ℕ) → 5 ≤ length bytes → get_or bytes 0 0 ≡ 1 → ((i : ℕ) → get_or bytes i 0 < 256)
     → n ≡ from_le_bytes w32 (get_or bytes 1 0 ∷ (get_or bytes 2 0 ∷ (get_or bytes 3 0 ∷ (get_or bytes 4 0 ∷ [])))) → bytes ≡ 1 ∷ (to_le_bytes w32 n ++ drop 5 bytes)
 opens_place bytes n five gate fit is =
@@ -324,7 +324,7 @@ none_bad bytes none = inl (omega (arith, none), λ g rest is. absurd (omega (ari
 pub shut_place : (bytes : List ℕ) → 0 < length bytes → get_or bytes 0 0 ≢ 1 → IsPlace bytes Place.Closed
 shut_place bytes some shut = (get_or bytes 0 0, drop 1 bytes, drop_more bytes 0 0 some, shut)
 
--- the rest of a payload, read behind what the window had of it
+-- the rest of a payload, read after what the window had of it
 pub far_read : {format : ℕ} (file : List ℕ) (at size more : ℕ) (bytes : List ℕ) (closed : Bool) (ps : List (List ℕ)) (place : ℕ) (first old new : List ℕ) → StandsBehind file (record { format = format; window = record { at = at; bytes = bytes }; size = size; closed = closed }) ps
     → 5 ≤ length bytes → place ≡ min (at + 5) last_count → first ≡ take (length bytes - 5) (drop 5 bytes) → take (length bytes - 5) old ≡ first → ReadsOn file place (length bytes - 5) old more new → ReadsMore file (at + 5) (length bytes - 5) more new
 far_read {format} file at size more bytes closed ps place first old new b five there first_is front reads =

@@ -5,7 +5,7 @@ use Rattle.std.proofs.lemmas.List.{take_more_same}
 use Rattle.std.proofs.lemmas.Option.{get_or_from_slice_get, slice_get_within}
 use Rattle.day_journal.specs.Places.{HasNoHead, IsCleared, IsFormat, IsMarked, IsUnfinished, head, mark}
 
--- the head, where its front and its digit stand
+-- the head, where its front and its digit are
 pub head_more : (first : List ℕ) (format : ℕ) → take 8 first ≡ take 8 (head format) → slice_get first 8 ≡ slice_get (head format) 8 → take 9 first ≡ head format
 head_more first format front digit =
     take_more_same first (head format) 8 0 (slice_get_within first 8 (48 + format) digit) (omega arith) front (get_or_from_slice_get first 8 (48 + format) 0 digit)
@@ -25,7 +25,7 @@ no_head_at first at whole within before differs = record {
   differs = differs;
 }
 
--- marked, by what stands behind the first byte
+-- marked, by what comes after the first byte
 pub marked_1 : (first : List ℕ) → ((gate : ℕ) × (first ≡ gate ∷ (mark 1 ++ 0 ∷ []))) → IsMarked first
 marked_1 first is = record { format = 1; known = inl refl; marked = record { gate = is.0; split = is.1 } }
 

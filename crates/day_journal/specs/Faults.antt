@@ -10,7 +10,7 @@ use Rattle.day_journal.specs.Places.{HasBadLength, HasNoHead}
 abbrev pub greatest_size : ℕ
 greatest_size = GREATEST_SIZE
 
--- How an append ends: full exactly where the size would pass the greatest, which it then tells; and
+-- How an append ends: full exactly where the size would pass the greatest, which it then answers; and
 -- with a disk fault only where the disk's count rose.
 abbrev pub EndsAppend : (before now size : ℕ) → Result Unit AppendFault → Type 0
 EndsAppend before now size (Ok done) = (size ≤ greatest_size) × (now ≡ before)

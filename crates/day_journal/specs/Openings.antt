@@ -10,7 +10,7 @@ use Rattle.day_journal.specs.declared.place.Place.{Place}
 abbrev pub IsNoLength : ℕ → Type 0
 IsNoLength n = (n ≡ 0) ⊎ (longest_payload < n)
 
--- what stands behind an open gate with this length
+-- what comes after an open gate with this length
 abbrev pub IsSized : ℕ → Place → Type 0
 IsSized length (Place.Open n) = (n ≡ length) × (0 < n) × (n ≤ longest_payload)
 IsSized length Place.Closed = ⊥
@@ -24,7 +24,7 @@ pub record HasNoLength (bytes : List ℕ) : Type 0 where
   pub fits : length_there < 2 ^ 32
   pub none : IsNoLength length_there
 
--- what stands at a place with these first bytes
+-- what is at a place with these first bytes
 abbrev pub IsPlace : List ℕ → Place → Type 0
 IsPlace bytes (Place.Open n) = (bytes ≡ 1 ∷ (to_le_bytes w32 n ++ drop 5 bytes)) × (5 ≤ length bytes) × (0 < n) × (n ≤ longest_payload)
 IsPlace bytes Place.Closed = (gate : ℕ) × (rest : List ℕ) × (bytes ≡ gate ∷ rest) × (gate ≢ 1)
@@ -51,6 +51,8 @@ pub record ReadsMore (file : List ℕ) (at len n : ℕ) (out : List ℕ) : Type 
   pub count : n ≡ min (length out - len) (length file - (at + len))
   pub shown : take (len + n) out ≡ take (len + n) (drop at file)
 
+-- A read of a file that still fits the machine's places goes on: if the first `len` bytes were the file's from the place
+-- `at` on, then so are these and the `n` that were read after them.
 abbrev pub ReadsOn : List ℕ → ℕ → ℕ → List ℕ → ℕ → List ℕ → Type 0
 ReadsOn file at len old n new = length file < 2 ^ 64 → at + len ≤ length file → take len old ≡ take len (drop at file) → ReadsMore file at len n new
 
@@ -68,7 +70,7 @@ pub record OpeningState : Type 0 where
   pub size : ℕ
   pub closed : Bool
 
--- the reader stands behind these payloads
+-- the reader comes after these payloads
 pub record StandsBehind (file : List ℕ) (opening : OpeningState) (payloads : List (List ℕ)) : Type 0 where
   pub known : IsFormat opening.format
   pub each : All IsPayload payloads

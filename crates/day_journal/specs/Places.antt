@@ -1,12 +1,12 @@
--- The journal's file: a head, and behind it the payloads, each at an open place. This project's own.
+-- The journal's file: a head, and after it the payloads, each at an open place. This project's own.
 -- Example: the bytes 1, `ADXJRNL2`, 1, 1, 0, 0, 0, 7, 0 are a journal of format 2 with one payload, the byte 7;
--- what stands behind isn't looked at.
+-- what comes after isn't looked at.
 use Rattle.std.specs.Prelude.{◌≡◌, ◌≢◌, ◌⊎◌, ℕ, ◌+◌, ◌<◌, ◌≤◌, List, [], ◌∷◌, ◌++◌, length, take, slice_get, All}
 use Rattle.std.specs.List.{flat_map}
 use Rattle.adx_io.specs.Frames.{longest_payload, body}
 use Rattle.day_journal.specs.declared.start.TheConstants.{NEW_FORMAT}
 
--- a journal's format, which its head tells
+-- a journal's format, which its head says
 abbrev pub IsFormat : ℕ → Type 0
 IsFormat format = (format ≡ 1) ⊎ (format ≡ 2)
 
@@ -57,7 +57,7 @@ IsUnfinished file = (length file ≤ 1) ⊎ IsCleared file ⊎ IsMarked file
 abbrev pub new_file : List ℕ
 new_file = head NEW_FORMAT ++ 0 ∷ []
 
--- the open places end at a gate that isn't 1, whatever stands behind it
+-- the open places end at a gate that isn't 1, whatever comes after it
 pub record IsClosed (before file : List ℕ) : Type 0 where
   pub gate : ℕ
   pub rest : List ℕ
@@ -70,11 +70,11 @@ pub record IsJournal (format : ℕ) (file : List ℕ) (payloads : List (List ℕ
   pub each : All IsPayload payloads
   pub closed : IsClosed (opened format payloads) file
 
--- The payloads that a file stands for, and its format. An unfinished file stands for none, in any format.
+-- The payloads that a file represents, and its format. An unfinished file represents none, in any format.
 abbrev pub StandsFor : ℕ → List ℕ → List (List ℕ) → Type 0
 StandsFor format file payloads = (IsUnfinished file × (payloads ≡ [])) ⊎ IsJournal format file payloads
 
--- no payload stands at this place, and no gate that isn't 1
+-- no payload is at this place, and no gate that isn't 1
 pub record IsBadPlace (place : List ℕ) : Type 0 where
   pub gate : (gate : ℕ) (rest : List ℕ) → place ≡ gate ∷ rest → gate ≡ 1
   pub payload : (payload rest : List ℕ) → IsPayload payload → place ≡ open_place payload ++ rest → ⊥

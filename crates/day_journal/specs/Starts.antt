@@ -16,15 +16,15 @@ pub record LeavesNoMore {D : Type 0} (may_leave : D → List ℕ → Type 0) (mo
   pub crash : Within (may_leave old) (may_leave new)
   pub moments : LeavesOnly moment left_since old new (may_leave old)
 
--- a file stands for no payload, in any format
+-- a file represents no payload, in any format
 abbrev pub StandsNew : List ℕ → Type 0
 StandsNew file = (format : ℕ) → StandsFor format file []
 
--- a file is another one, or both stand for no payload
+-- a file is another one, or both represent no payload
 abbrev pub IsAsBefore : (before after : List ℕ) → Type 0
 IsAsBefore before after = (after ≡ before) ⊎ (StandsNew before × StandsNew after)
 
--- an image from before; or what was read; or, where that stood for no payload, a file that stands for none
+-- an image from before; or what was read; or, where that represented no payload, a file that represents none
 abbrev pub StandsAsRead : (List ℕ → Type 0) → Option (List ℕ) → List ℕ → Type 0
 StandsAsRead images reads file = images file ⊎ ((before : List ℕ) × (reads ≡ Some before) × IsAsBefore before file)
 
@@ -33,7 +33,7 @@ pub record HasSome (images : List ℕ → Type 0) : Type 0 where
   pub image : List ℕ
   pub there : images image
 
--- what was looked at is durable, and is what was told
+-- what was looked at is durable, and is what was answered
 pub record Looked (size : ℕ) (start : Start) (reads : Option (List ℕ)) (images : List ℕ → Type 0) : Type 0 where
   pub durable : AsRead reads images
   pub found : (file : List ℕ) → reads ≡ Some file → (size ≡ length file) × IsStart (take 11 file) start

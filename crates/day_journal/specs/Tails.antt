@@ -4,30 +4,30 @@ use Rattle.day_journal.specs.Disks.{Each}
 use Rattle.adx_io.specs.Frames.{body}
 use Rattle.day_journal.specs.Places.{IsFormat, IsPayload, opened, IsClosed, StandsFor}
 
--- behind these bytes a gate, then the record and a closed gate, then anything
+-- after these bytes a gate, then the record and a closed gate, then anything
 pub record IsGated (gate : ℕ) (before record_bytes file : List ℕ) : Type 0 where
   pub rest : List ℕ
   pub split : file ≡ before ++ gate ∷ (record_bytes ++ 0 ∷ rest)
 
--- the same behind some gate
+-- the same after some gate
 pub record HasTail (before record_bytes file : List ℕ) : Type 0 where
   pub gate : ℕ
   pub gated : IsGated gate before record_bytes file
 
--- the same behind a closed gate
+-- the same after a closed gate
 pub record HasShutTail (before record_bytes file : List ℕ) : Type 0 where
   pub gate : ℕ
   pub gated : IsGated gate before record_bytes file
   pub shut : gate ≢ 1
 
--- an open journal: its format, the place of the gate behind its payloads, and whether it is in doubt that the gate is
+-- an open journal: its format, the place of the gate after its payloads, and whether it is in doubt that the gate is
 -- closed
 pub record JournalState : Type 0 where
   pub format : ℕ
   pub gate : ℕ
   pub in_doubt : Bool
 
--- what stands in an image: the payloads and a closed gate, or, in doubt, some gate and the tail
+-- what is in an image: the payloads and a closed gate, or, in doubt, some gate and the tail
 abbrev pub Ends : ℕ → Bool → List (List ℕ) → List ℕ → List ℕ → Type 0
 Ends format false payloads tail file = IsClosed (opened format payloads) file
 Ends format true payloads tail file = HasTail (opened format payloads) (body tail) file
@@ -41,7 +41,7 @@ pub record Keeps (images : List ℕ → Type 0) (journal : JournalState) (payloa
   pub doubted : IsTrue journal.in_doubt → IsPayload tail
   pub ends : Each images (Ends journal.format journal.in_doubt payloads tail)
 
--- the file stands for these payloads in this format, or for them and the tail
+-- the file represents these payloads in this format, or them and the tail
 abbrev pub WithOrWithout : ℕ → List (List ℕ) → List ℕ → List ℕ → Type 0
 WithOrWithout format payloads tail file = StandsFor format file payloads ⊎ StandsFor format file (payloads ++ tail ∷ [])
 

@@ -13,7 +13,7 @@ pub enum OpeningFault {
     /// The file is no journal: its byte `at`, from 0, is missing or another one than in the head of a
     /// journal of any format.
     NotAJournal { at: u64 },
-    /// At the byte `at`, from 0, stands an open gate whose payload can't be, or the file ends without a
+    /// At the byte `at`, from 0, there is an open gate whose payload can't be, or the file ends without a
     /// gate.
     BadLength { at: u64 },
     /// Memory was refused.

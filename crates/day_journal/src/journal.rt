@@ -34,7 +34,7 @@ impl Model for Journal {
 }
 
 impl Journal {
-    /// A journal of a format whose closed gate stands at this place, with no tail in doubt.
+    /// A journal of a format whose closed gate is at this place, with no tail in doubt.
     pub(crate) fn at_gate(format: u8, gate: u64) -> Journal
         ensures { result ≡ record { format = format; gate = gate; in_doubt = false } }
     {
@@ -72,7 +72,7 @@ impl Journal {
         Ok(())
     }
 
-    /// Opens the gate of the record that was staged behind it. After a fault the record is the tail in
+    /// Opens the gate of the record that was staged after it. After a fault the record is the tail in
     /// doubt.
     fn open_gate<D: Disk>(&mut self, disk: &mut D, len: u64) -> Result<(), Failed>
         requires { self.old.gate + len < 2 ^ 64 }
@@ -96,7 +96,7 @@ impl Journal {
         Ok(())
     }
 
-    /// Settles, writes a record behind the gate, and opens the gate.
+    /// Settles, writes a record after the gate, and opens the gate.
     fn put<D: Disk>(&mut self, disk: &mut D, record_bytes: &[u8]) -> Result<(), Failed>
         requires { self.old.gate + 1 + length record_bytes.now < 2 ^ 64 }
         ensures kept { (payloads : List (List ℕ)) (tail payload : List ℕ) → IsPayload payload → record_bytes.now ≡ record_of payload

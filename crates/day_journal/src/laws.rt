@@ -3,7 +3,7 @@
 ghost use Rattle.std.specs.Prelude.{◌≡◌, ℕ, List, ◌∷◌};
 ghost use Rattle.day_journal.specs.Places.{HasBadLength, HasNoHead, StandsFor};
 
-/// A file stands for at most one list of payloads, and one with payloads has one format.
+/// A file represents at most one list of payloads, and one with payloads has one format.
 pub fn stands_once()
     ensures payloads { (format other : ℕ) (file : List ℕ) (payloads others : List (List ℕ))
         → StandsFor format file payloads → StandsFor other file others → payloads ≡ others }
@@ -11,7 +11,7 @@ pub fn stands_once()
         → StandsFor format file (first ∷ rest) → StandsFor other file others → format ≡ other }
 {}
 
-/// A file that stands for payloads has no fault, and none has faults of both kinds.
+/// A file that represents payloads has no fault, and none has faults of both kinds.
 pub fn faults_exclude()
     ensures bad_length { (format : ℕ) (file : List ℕ) (payloads : List (List ℕ)) (at : ℕ)
         → StandsFor format file payloads → HasBadLength file at → ⊥ }

@@ -6,8 +6,8 @@
 //!
 //! A payload that was acknowledged is there after every crash; one that wasn't is there whole or not
 //! at all. `Opening` reads the payloads of a file, and makes a new journal of a file that has none;
-//! `Journal` adds payloads, each by two writes and two syncs. The file's head tells in which of two formats
-//! its payloads are spelled; a new journal has the later one. Stands on `adx_io`.
+//! `Journal` adds payloads, each by two writes and two syncs. The file's head says in which of two formats
+//! its payloads are spelled; a new journal has the later one. Uses `adx_io`.
 #![tactic(auto)]
 
 mod byte_disk;

@@ -9,7 +9,7 @@ ghost use Rattle.day_journal.specs.declared.start.TheConstants.{NEW_FORMAT};
 use crate::disk::Disk;
 use adx_io::Failed;
 
-/// The mark behind byte 0 and a closed gate.
+/// The mark after byte 0 and a closed gate.
 const MARK: [u8; 9] = *b"ADXJRNL2\0";
 
 /// Makes a new journal of a file of at most a byte, or marked, whose first byte isn't 0.
@@ -43,7 +43,7 @@ pub(crate) fn make_cleared<D: Disk>(disk: &mut D) -> Result<(), Failed>
     Ok(())
 }
 
-/// Makes byte 0 of a file unset that is short, or marked behind it.
+/// Makes byte 0 of a file unset that is short, or marked after it.
 fn clear_first<D: Disk>(disk: &mut D) -> Result<(), Failed>
     ensures kept { Each (D.may_leave disk.old) (λ c. (length c ≤ 1) ⊎ IsMarked c)
         → Each (D.may_leave disk.new) (λ c. IsUnfinished c × HasSome (D.may_leave disk.old))
@@ -58,7 +58,7 @@ fn clear_first<D: Disk>(disk: &mut D) -> Result<(), Failed>
     Ok(())
 }
 
-/// Writes the mark and a closed gate behind byte 0, which is unset.
+/// Writes the mark and a closed gate after byte 0, which is unset.
 fn put_mark<D: Disk>(disk: &mut D) -> Result<(), Failed>
     ensures kept { Each (D.may_leave disk.old) IsCleared
         → Each (D.may_leave disk.new) (λ c. IsCleared c × HasSome (D.may_leave disk.old))
@@ -73,7 +73,7 @@ fn put_mark<D: Disk>(disk: &mut D) -> Result<(), Failed>
     Ok(())
 }
 
-/// Sets byte 0, behind which all is there.
+/// Sets byte 0, after which all is there.
 fn put_head<D: Disk>(disk: &mut D) -> Result<(), Failed>
     ensures kept { Each (D.may_leave disk.old) (IsMarkedAs NEW_FORMAT)
         → Each (D.may_leave disk.new) (λ c. IsMarkedAs NEW_FORMAT c × HasSome (D.may_leave disk.old))

@@ -86,7 +86,7 @@ impl Journal {
     }
 }
 
-/// Makes a new journal of a file that is unfinished, and tells which format and length the journal has.
+/// Makes a new journal of a file that is unfinished, and says which format and length the journal has.
 fn finish<D: Disk>(disk: &mut D, look: Look) -> Result<Found, OpeningFault>
     ensures kept { Looked look.size look.start (D.reads disk.old) (D.may_leave disk.old)
         → LeavesOnly D.moment D.left_since disk.old disk.new (StandsAsRead (D.may_leave disk.old) (D.reads disk.old)) }
@@ -272,7 +272,7 @@ impl Opening {
         Ok(())
     }
 
-    /// The open journal behind all its payloads; `next` gave None.
+    /// The open journal after all its payloads; `next` gave None.
     ///
     /// Where the file is durable, as it is since the journal was opened, the journal keeps the payloads
     /// that were read, with no tail in doubt.
@@ -287,7 +287,7 @@ impl Opening {
     }
 }
 
-/// Keeps the first bytes of a payload behind a gate and a length.
+/// Keeps the first bytes of a payload after a gate and a length.
 fn keep(payload: &mut Vec<u8>, bytes: &[u8], count: usize) -> Result<(), OutOfMemory>
     requires { count + 5 ≤ length bytes.now }
     ensures { OnOk result (payload.new.items ≡ payload.old.items ++ take count (drop 5 bytes.now)) }

@@ -1,10 +1,10 @@
-//! What stands at a place of a journal.
+//! What is at a place of a journal.
 ghost use Rattle.day_journal.specs.Openings.{IsPlace, IsSized};
 
 /// The longest payload of a frame, in bytes.
 const LONGEST_PAYLOAD: u32 = 67_108_864;
 
-/// What the first bytes of a place tell.
+/// What the first bytes of a place say.
 #[derive(Clone, Copy, Debug, PartialEq, Eq)]
 pub(crate) enum Place {
     /// An open gate and the length of a payload.
@@ -15,7 +15,7 @@ pub(crate) enum Place {
     Bad,
 }
 
-/// What stands at a place with these first bytes: five, or all that there are.
+/// What is at a place with these first bytes: five, or all that there are.
 pub(crate) fn place_in(bytes: &[u8]) -> Place
     ensures { IsPlace bytes.now result }
 {

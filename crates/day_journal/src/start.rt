@@ -9,7 +9,7 @@ pub const NEW_FORMAT: u8 = 2;
 /// A journal's head, but for the digit of its format.
 const FRONT: [u8; 8] = *b"\x01ADXJRNL";
 
-/// The bytes behind the first of a journal of format 1 without payloads.
+/// The bytes after the first of a journal of format 1 without payloads.
 const BEHIND_1: [u8; 9] = *b"ADXJRNL1\0";
 
 /// The same of format 2.
@@ -67,7 +67,7 @@ fn is_marked(first: &[u8]) -> bool
     old || new
 }
 
-/// Whether just these bytes stand behind the first.
+/// Whether just these bytes come after the first.
 fn has_behind(first: &[u8], behind: &[u8; 9]) -> bool
     ensures { IsTrue result ↔ ((gate : ℕ) × (first.now ≡ gate ∷ behind.now)) }
 {
@@ -77,7 +77,7 @@ fn has_behind(first: &[u8], behind: &[u8; 9]) -> bool
     }
 }
 
-/// With how many bytes in front of the digit of a journal's head these begin.
+/// With how many bytes before the digit of a journal's head these begin.
 fn front_len(first: &[u8]) -> usize
     ensures within { result ≤ 8 }
     ensures same { (format : ℕ) → take result first.now ≡ take result (head format) }
@@ -91,7 +91,7 @@ fn front_len(first: &[u8]) -> usize
     8
 }
 
-/// Whether a byte in front of the digit of a journal's head is another one here, or missing.
+/// Whether a byte before the digit of a journal's head is another one here, or missing.
 fn differs(first: &[u8], at: usize) -> bool
     requires { at < 8 }
     ensures { MatchBool result ((format : ℕ) → slice_get first.now at ≢ slice_get (head format) at)
@@ -103,7 +103,7 @@ fn differs(first: &[u8], at: usize) -> bool
     }
 }
 
-/// The format whose digit stands in the head; None where none does.
+/// The format whose digit is in the head; None where none does.
 fn format_of(first: &[u8]) -> Option<u8>
     ensures { MatchOption result ((format : ℕ) → IsFormat format → slice_get first.now 8 ≢ slice_get (head format) 8)
         (λ format. IsFormat format × (slice_get first.now 8 ≡ slice_get (head format) 8)) }

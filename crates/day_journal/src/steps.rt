@@ -1,4 +1,4 @@
-//! The two steps of an append: a record behind a closed gate, and a gate.
+//! The two steps of an append: a record after a closed gate, and a gate.
 ghost use Rattle.std.specs.Prelude.{◌≡◌, ◌<◌, ◌+◌, ◌^◌, ◌++◌, [], ◌∷◌, List, ℕ, length, OnOk};
 ghost use Rattle.day_journal.specs.Disks.{Each, LeavesOnly};
 ghost use Rattle.adx_io.specs.Streams.{HasCause};
@@ -8,7 +8,7 @@ ghost use Rattle.day_journal.specs.Tails.{IsGated, HasTail, HasShutTail};
 use crate::disk::Disk;
 use adx_io::Failed;
 
-/// Writes a record and a closed gate behind the closed gate at `gate`, which stays closed.
+/// Writes a record and a closed gate after the closed gate at `gate`, which stays closed.
 pub(crate) fn stage<D: Disk>(disk: &mut D, gate: u64, record_bytes: &[u8]) -> Result<(), Failed>
     requires { gate + 1 < 2 ^ 64 }
     ensures kept { (before : List ℕ) → length before ≡ gate → Each (D.may_leave disk.old) (IsClosed before)
@@ -23,7 +23,7 @@ pub(crate) fn stage<D: Disk>(disk: &mut D, gate: u64, record_bytes: &[u8]) -> Re
     Ok(())
 }
 
-/// Writes one byte over the gate at `gate`, behind which a whole record stands.
+/// Writes one byte over the gate at `gate`, after which a whole record is.
 pub(crate) fn set_gate<D: Disk>(disk: &mut D, gate: u64, byte: u8) -> Result<(), Failed>
     ensures kept { (before body : List ℕ) → length before ≡ gate → Each (D.may_leave disk.old) (HasTail before body)
         → Each (D.may_leave disk.new) (HasTail before body) × LeavesOnly D.moment D.left_since disk.old disk.new (HasTail before body) }

@@ -110,7 +110,7 @@ fn to_front(chunk: &mut [u8], start: usize, end: usize)
     chunk.copy_within(start..end, 0);
 }
 
-/// Reads the bytes of a file from `at` and `len` more on, behind the first `len` bytes of `out`.
+/// Reads the bytes of a file from `at` and `len` more on, after the first `len` bytes of `out`.
 pub(crate) fn read_behind<D: Disk>(
     disk: &mut D,
     at: u64,

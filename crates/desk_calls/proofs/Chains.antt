@@ -1,4 +1,4 @@
--- Steps one behind another: put together, and taken apart.
+-- Steps one after another: put together, and taken apart.
 use Rattle.std.proofs.Common.{◌≡◌, List, [], ◌∷◌, ◌++◌, length, sym, ap, ◌∙◌}
 use Rattle.std.proofs.lemmas.List.{append_assoc}
 use Rattle.adx_desk.specs.Histories.{DeskTerms}
@@ -11,7 +11,7 @@ use Rattle.std.proofs.lemmas.List.Elements.{All-nil, All-cons}
 use Rattle.desk_calls.specs.Laws.{EachBetween, OwnedRun}
 use Rattle.desk_calls.specs.Steps.{AreSteps, Step, Way, alone, history_at, history_behind, looked, metered, shared, took, turns_of}
 
--- a history goes on by two ways one behind another
+-- a history goes on by two ways one after another
 abbrev pub GoOn : Way → Type 0
 GoOn way = (h k l : List Entry) → way.goes h k → way.goes k l → way.goes h l
 
@@ -27,12 +27,12 @@ module _ (way : Way) (on : GoOn way) (terms : DeskTerms) where
   from_earlier h seen now [] goes are = on h seen now goes are
   from_earlier h seen now (s ∷ steps) goes are = (on h seen (history_at s) goes are.0, are.1, are.2)
 
-  -- steps behind steps
+  -- steps after steps
   pub steps_join : (seen mid now : List Entry) (first rest : List Step) → AreSteps way terms seen first mid → AreSteps way terms mid rest now → AreSteps way terms seen (first ++ rest) now
   steps_join seen mid now [] rest are more = from_earlier seen mid now rest are more
   steps_join seen mid now (s ∷ first) rest are more = (are.0, are.1, steps_join (history_behind terms.day s) mid now first rest are.2 more)
 
-  -- what stands behind some steps
+  -- what comes after some steps
   pub steps_behind : (seen now : List Entry) (front back : List Step) (before one : Step) → AreSteps way terms seen (front ++ before ∷ one ∷ back) now
       → way.goes (history_behind terms.day before) (history_at one) × AreSteps way terms (history_behind terms.day before) (one ∷ back) now
   steps_behind seen now [] back before one are = (are.2.0, are.2)

@@ -1,4 +1,4 @@
--- One call of a desk: done, given up by the disk's fault, or for want of room in the journal.
+-- One call of a desk: done, given up by the disk's fault, or for lack of room in the journal.
 use Rattle.std.proofs.Common.{◌≡◌, ◌⊎◌, inl, inr, ℕ, ◌+◌, ◌<◌, ◌≤◌, min, List, [], ◌∷◌, ◌++◌, length, Option, Some, None, Ok, Err, refl, sym, subst, arith, IfSome}
 use Rattle.adx_io.specs.Streams.{last_count}
 use Rattle.adx_desk.specs.Desks.{DeskKeeps, DeskState, OnDisk}
@@ -21,7 +21,7 @@ use Rattle.desk_calls.specs.Calls.{IsRoomy}
 use Rattle.desk_calls.specs.OnDisk.{FullOnly, MayWantRoom}
 use Rattle.desk_calls.proofs.Roomy.{roomy_wants}
 
--- what may be in doubt behind a call that was done: nothing where it added an entry, else what was
+-- what may be in doubt after a call that was done: nothing where it added an entry, else what was
 left_done : (entry : Option Entry) (P : List Entry → Type 0) (tail : List Entry) → P tail → IfSome entry (λ e. (any : List Entry) → P any) → (next : List Entry) × MayBeLeft None (added_by entry) tail next × P next
 left_done None P tail kept fresh = (tail, refl, kept)
 left_done (Some e) P tail kept fresh = ([], refl, fresh [])
@@ -50,7 +50,7 @@ call_done faults may_leave moment left_since old new call answer taken s none =
           (fresh_of entry (DeskKeeps (may_leave old.disk) old.desk) (DeskKeeps (may_leave new.disk) new.desk) tail kept s.acknowledged);
     }
 
--- what may be in doubt behind a call that the disk's fault gave up
+-- what may be in doubt after a call that the disk's fault gave up
 left_doubted : (record_bytes tail : List Entry) (P : List Entry → Type 0) → P tail ⊎ P record_bytes → (next : List Entry) × MayBeLeft (Some Fault.Disk) record_bytes tail next × P next
 left_doubted record_bytes tail P (inl kept) = (tail, inl refl, kept)
 left_doubted record_bytes tail P (inr kept) = (record_bytes, inr refl, kept)
@@ -72,7 +72,7 @@ call_failed faults may_leave moment left_since old new call taken s fails =
       keeps = λ tail kept. left_doubted (added_by entry) tail (DeskKeeps (may_leave new.disk) new.desk) (s.doubted tail kept);
     }
 
--- the size that is told, between what a journal may have and the longest that it may be
+-- the size that is answered, between what a journal may have and the longest that it may be
 told_between : (most size told longest last : ℕ) → most < size → told ≡ min size last → most < last → size ≤ longest → (most < told) × (told ≤ longest)
 told_between most size told longest last passes is small fits = (omega (arith, passes, is, small), omega (arith, is, fits))
 
@@ -132,7 +132,7 @@ same_fault : {D : Type 0} (faults : D → ℕ) (may_leave : D → List ℕ → T
 same_fault faults may_leave moment left_since old new call f told is serves = subst (λ (o : Option Fault). ServesCall faults may_leave moment left_since old new (record { call = call; fault = o })) is serves
 
 module _ {D T : Type 0} (faults : D → ℕ) (may_leave : D → List ℕ → Type 0) (moment : D → ℕ) (left_since : D → ℕ → List ℕ → Type 0) (old new : OnDisk D) (call : Call) where
-  -- a call of an ask that was given up, by the fault that its line tells
+  -- a call of an ask that was given up, by the fault that its line says
   pub ask_given_up : (fault : DeskFault) (told : Fault) → told_as fault ≡ Some told
       → IsCall (length old.desk.terms.day.budgets) call → IsRoomy call → Serves {T = T} may_leave moment left_since old new (reply old.desk.terms.day old.desk.history call).entry (Err fault)
       → EndsAsk {T = T} (faults old.disk) (faults new.disk) old.desk new.desk (reply old.desk.terms.day old.desk.history call).entry (Err fault)

@@ -27,11 +27,11 @@ use Rattle.day_rules.proofs.RunBooks.{run_append, run_books}
 pub turns_append : (first rest : List Told) → turns_of (first ++ rest) ≡ turns_of first ++ turns_of rest
 turns_append first rest = map-append turn_of first rest
 
--- the history behind two lists of calls
+-- the history after two lists of calls
 pub history_append : (terms : Terms) (start : List Entry) (first rest : List Told) → history_after terms start (first ++ rest) ≡ history_after terms (history_after terms start first) rest
 history_append terms start first rest = ap (run terms start) (turns_append first rest) ∙ run_append terms start (turns_of first) (turns_of rest)
 
--- and behind one call more
+-- and after one call more
 pub history_more : (terms : Terms) (start : List Entry) (told : List Told) (t : Told) → history_after terms start (told ++ t ∷ []) ≡ after_turn terms (history_after terms start told) (turn_of t)
 history_more terms start told t = history_append terms start told (t ∷ [])
 
@@ -92,7 +92,7 @@ counts_more : (told : List Told) (t : Told) (before between now : ℕ) → Count
 counts_more [] t before between now each one = (now, subst (λ (n : ℕ). CountsOne n t.fault now) each one, refl)
 counts_more (u ∷ told) t before between now (after, first, rest) one = (after, first, counts_more told t after between now rest one)
 
--- a call is told that the journal is full only where it may be
+-- a call is answered that the journal is full only where it may be
 full_more : (terms : DeskTerms) (start : List Entry) (told : List Told) (t : Told) → FullEach terms start told
     → FullOnly terms (history_after terms.day start told) (reply terms.day (history_after terms.day start told) t.call).entry t.fault → FullEach terms start (told ++ t ∷ [])
 full_more terms start told t full one front at back split =
@@ -109,7 +109,7 @@ same_by terms history t entry done is same =
 same_given_up : (terms : Terms) (history : List Entry) (t : Told) (f : Fault) → t.fault ≡ Some f → after_turn terms history (turn_of t) ≡ history
 same_given_up terms history t f is = ap (λ (x : Option Fault). with_entry history (if is_done (outcome_by x) then (reply terms history t.call).entry else None)) is
 
--- what was in doubt is so behind a call that leaves the history
+-- what was in doubt is so after a call that leaves the history
 doubt_stays : (terms : Terms) (start : List Entry) (told : List Told) (t : Told) (tail : List Entry) → MayBeInDoubt terms start told tail → history_after terms start (told ++ t ∷ []) ≡ history_after terms start told → MayBeInDoubt terms start (told ++ t ∷ []) tail
 doubt_stays terms start told t tail (inl none) same = inl none
 doubt_stays terms start told t tail (inr d) same = inr (record {
@@ -155,7 +155,7 @@ doubt_left terms start told t tail next (Some (Fault.JournalFull size)) is may l
 record_stays : (terms : Terms) (start : List Entry) (told : List Told) (t : Told) (history tail : List Entry) → IsRecordOf terms start told history tail → IsRecordOf terms start (told ++ t ∷ []) history tail
 record_stays terms start told t history tail r = record { front = r.front; one = r.one; back = r.back ++ t ∷ []; split = split_front told r.front r.one r.back t r.split; at = r.at; is = r.is }
 
--- what is in doubt is the record of one of the calls at the history behind all of them
+-- what is in doubt is the record of one of the calls at the history after all of them
 doubt_of : (terms : Terms) (start : List Entry) (told : List Told) (tail : List Entry) → MayBeInDoubt terms start told tail → (tail ≡ []) ⊎ IsRecordOf terms start told (history_after terms start told) tail
 doubt_of terms start told tail (inl none) = inl none
 doubt_of terms start told tail (inr d) = inr (record {
@@ -171,7 +171,7 @@ record_or_none : (terms : Terms) (start : List Entry) (told : List Told) (t : To
 record_or_none terms start told t history tail (inl none) = inl none
 record_or_none terms start told t history tail (inr r) = inr (record_stays terms start told t history tail r)
 
--- a file that stands within the run of the calls stands within that of one more
+-- a file that is within the run of the calls is within that of one more
 within_more : (terms : DeskTerms) (images : List ℕ → Type 0) (reads : Option (List ℕ)) (start : List Entry) (told : List Told) (t : Told) (file : List ℕ) → StandsWithin terms images reads start told file → StandsWithin terms images reads start (told ++ t ∷ []) file
 within_more terms images reads start told t file (inl before) = inl before
 within_more terms images reads start told t file (inr s) = inr (record {

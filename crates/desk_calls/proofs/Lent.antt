@@ -1,4 +1,4 @@
--- What is told of a disk that is lent is told of the disk.
+-- What is said of a disk that is lent is said of the disk.
 use Rattle.std.proofs.Common.{◌≡◌, ℕ, List, Option, subst}
 use Rattle.day_journal.specs.Disks.{LeavesOnly}
 use Rattle.adx_desk.specs.Histories.{DeskTerms}
@@ -39,7 +39,7 @@ module _ {D E : Type 0} (disk_of : E → D) (faults : D → ℕ) (reads : D → 
     any_moment = λ file is. leaves_lent old new (StandsAsRead terms (may_leave (disk_of old)) (reads (disk_of old))) (g.any_moment file is);
   }
 
-  -- the disk before the loan and behind it
+  -- the disk before the loan and after it
   pub at_ends : (P : D → D → Type 0) (old new : E) (before now : D) → disk_of old ≡ before → disk_of new ≡ now → P (disk_of old) (disk_of new) → P before now
   at_ends P old new before now first last p = subst (λ (d : D). P before d) last (subst (λ (d : D). P d (disk_of new)) first p)
 

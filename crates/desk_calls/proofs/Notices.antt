@@ -40,7 +40,7 @@ pub in_turn : (history : List Entry) (calls : List Arrival) → AreNoticed calls
 in_turn history [] = refl
 in_turn history (x ∷ calls) = (history, took_in_turn (after_arrival history x) calls, refl, refl, in_turn (after_arrival history x) calls)
 
--- one notice behind others
+-- one notice after others
 noticed_more : (done : List Arrival) (x : Arrival) (outcomes : List (Option Answer)) (o : Option Answer) (first rest : List Step) → AreNoticed done outcomes first → AreNoticed (x ∷ []) (o ∷ []) rest
     → AreNoticed (done ++ x ∷ []) (outcomes ++ o ∷ []) (first ++ rest)
 noticed_more [] x [] o first rest are one = subst (λ (l : List Step). AreNoticed (x ∷ []) (o ∷ []) (l ++ rest)) (sym are) one
@@ -65,7 +65,7 @@ module _ {Y : Type 0} (runs : Y → Y → List Step → Type 0) where
       subst (λ (l : List (Option Answer)). TakesNotices runs old new batch.calls l) (sym (batch_answers batch batch_now ran.0 items ran.2 taken))
       (record { steps = took_in_turn ran.0 batch.calls; are = in_turn ran.0 batch.calls; ran = ran.1 })
 
-  -- behind a batch that was given up
+  -- after a batch that was given up
   pub takes_behind : (lost : Y → Y → List Arrival → Type 0)
       → ((a b c : Y) (notices : List Arrival) (outcomes : List (Option Answer)) (steps : List Step) → length notices ≤ BATCH_LIMIT → AreApart notices → lost a b notices → AreNoticed notices outcomes steps → runs b c steps → runs a c steps)
       → (old mid new : Y) (notices : List Arrival) (outcomes : List (Option Answer)) → length notices ≤ BATCH_LIMIT → AreApart notices → lost old mid notices → TakesNotices runs mid new notices outcomes → TakesNotices runs old new notices outcomes

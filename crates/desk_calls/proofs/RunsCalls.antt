@@ -29,11 +29,11 @@ pub no_place : {X : Type 0} (front : List X) (one : X) (back : List X) → [] �
 no_place [] one back is = cc is
 no_place (a ∷ front) one back is = cc is
 
--- a file that stands for the history, or for it and what is in doubt, stands within no call
+-- a file that represents the history, or it and what is in doubt, is within no call
 stands_still : (terms : DeskTerms) (start tail : List Entry) (file : List ℕ) → WithOrWithout terms start tail file → StandsInRunFrom terms start tail [] file
 stands_still terms start tail file stands = record { front = []; back = []; split = refl; more = tail; is = inr (inl (refl, refl)); stands = stands }
 
--- one that stands for it alone, with what was in doubt, or with a record of the run
+-- one that represents it alone, with what was in doubt, or with a record of the run
 pub stands_first : (terms : DeskTerms) (start tail : List Entry) (told : List Told) (entries : List Entry) (file : List ℕ) → IsRecordOfRun terms.day start told start entries → WithAtMostOne terms start tail entries file → StandsInRunFrom terms start tail told file
 stands_first terms start tail told entries file r (inl alone) = record { front = []; back = told; split = refl; more = []; is = inl refl; stands = inl alone }
 stands_first terms start tail told entries file r (inr (inl with_tail)) = record { front = []; back = told; split = refl; more = tail; is = inr (inl (refl, refl)); stands = inr with_tail }
@@ -55,7 +55,7 @@ call_risen None before now a b one is other = absurd (other is)
 call_risen (Some Fault.Disk) before now a b one is other = one.1
 call_risen (Some (Fault.JournalFull size)) before now a b one is other = absurd (other is)
 
--- one call is told that the journal is full only where it may be
+-- one call is answered that the journal is full only where it may be
 full_one : (terms : DeskTerms) (start : List Entry) (t : Told) → FullOnly terms start (reply terms.day start t.call).entry t.fault → FullEach terms start (t ∷ [])
 full_one terms start t full front one back split =
     ⊎_elim (λ last. subst (λ (p : List Told × Told). FullOnly terms (history_after terms.day start p.0) (reply terms.day (history_after terms.day start p.0) p.1.call).entry p.1.fault) (λ i. (sym last.0 i, sym last.1 i)) full)
@@ -83,7 +83,7 @@ record_of_one terms start t = record {
   is = sym (append-nil (record_of terms start t.call));
 }
 
--- what may be in doubt behind a call
+-- what may be in doubt after a call
 left_done : (terms : Terms) (start : List Entry) (t : Told) (tail next : List Entry) (entry : Option Entry) → t.fault ≡ None → (reply terms start t.call).entry ≡ entry → MayBeLeft None (added_by entry) tail next → MayBeLeftBy terms start (t ∷ []) tail next
 left_done terms start t tail next None done is left = inr (inl (left, same_done terms start t done is))
 left_done terms start t tail next (Some e) done is left = inl left
@@ -150,7 +150,7 @@ module _ {D : Type 0} (faults : D → ℕ) (may_leave : D → List ℕ → Type 
             (λ file at. stands_first d start tail (t ∷ []) (record_of d.day start t.call) file (record_of_one d.day start t) at);
       }
 
-  -- the history behind a run is legal, and its books are those of the calls
+  -- the history after a run is legal, and its books are those of the calls
   pub runs_legal : (old new : OnDisk D) (told : List Told) → RunsOn faults may_leave moment left_since old new told → IsLegal new.desk.terms.day new.desk.history
   runs_legal old new told runs =
       subst (λ (x : DeskTerms × List Entry). IsLegal x.0.day x.1) (λ i. (sym runs.terms i, sym runs.history i))

@@ -1,4 +1,4 @@
--- One run behind another is a run.
+-- One run after another is a run.
 use Rattle.std.proofs.Common.{◌≡◌, ◌⊎◌, ⊎_elim, inl, inr, ℕ, List, [], ◌∷◌, ◌++◌, length, refl, sym, ap, ◌∙◌, subst, append_assoc}
 use Rattle.std.proofs.lemmas.List.Elements.{All-append}
 use Rattle.day_journal.specs.Disks.{LeavesOnly}
@@ -16,7 +16,7 @@ use Rattle.desk_calls.specs.Records.{AreGivenUp, IsLeftInDoubt, IsRecordOfRun, M
 use Rattle.desk_calls.proofs.RunsRecords.{record_along}
 use Rattle.desk_calls.proofs.RunsCounts.{counts_join, among_later, raises_join, raises_none, rises_join}
 
--- a place in two lists, one behind the other
+-- a place in two lists, one after the other
 split_join : {X : Type 0} (xs ys front : List X) (one : X) (back : List X) → xs ++ ys ≡ front ++ one ∷ back
     → ((rest : List X) × (xs ≡ front ++ one ∷ rest)) ⊎ ((rest : List X) × (front ≡ xs ++ rest) × (ys ≡ rest ++ one ∷ back))
 split_join [] ys front one back is = inr (front, refl, is)
@@ -30,7 +30,7 @@ split_join (x ∷ xs) ys (a ∷ front) one back is =
     (λ behind. inr (behind.0, (λ i. sym head i ∷ behind.1 i), behind.2))
     (split_join xs ys front one back tail)
 
--- the record of calls of a run is one of the run with more calls behind it,
+-- the record of calls of a run is one of the run with more calls after it,
 pub record_in_front : (terms : Terms) (start : List Entry) (told more : List Told) (history tail : List Entry) → IsRecordOfRun terms start told history tail → IsRecordOfRun terms start (told ++ more) history tail
 record_in_front terms start told more history tail r = record {
   front = r.front;
@@ -74,7 +74,7 @@ left_in_rest terms start told more tail d =
       by_disk = subst (λ (h : List Entry). AreGivenUp terms h d.record_is.group) (sym same) d.by_disk;
     }
 
--- what may be in doubt behind both
+-- what may be in doubt after both
 left_join : (terms : Terms) (start : List Entry) (told more : List Told) (tail mid next : List Entry) → MayBeLeftBy terms (history_after terms start told) more mid next → MayBeLeftBy terms start told tail mid → MayBeLeftBy terms start (told ++ more) tail next
 left_join terms start told more tail mid next (inl none) first = inl none
 left_join terms start told more tail mid next (inr (inr d)) first = inr (inr (left_in_rest terms start told more next d))
@@ -85,7 +85,7 @@ left_join terms start told more tail mid next (inr (inl (same, stays))) (inr (in
     subst (MayBeLeftBy terms start (told ++ more) tail) (sym same)
     (inr (inr (left_in_front terms start told more mid d (history_append terms start told more ∙ stays))))
 
--- a file that stands within the first run stands within both
+-- a file that is within the first run is within both
 one_in_front : (terms : Terms) (start tail : List Entry) (told more : List Told) (history es : List Entry) → MayBeInDoubtAt terms start tail told history es → MayBeInDoubtAt terms start tail (told ++ more) history es
 one_in_front terms start tail told more history es (inl none) = inl none
 one_in_front terms start tail told more history es (inr (inl same)) = inr (inl same)
@@ -101,7 +101,7 @@ stands_in_front terms start tail told more file s = record {
   stands = s.stands;
 }
 
--- and so does one that stands within the rest
+-- and so does one that is within the rest
 one_in_rest : (terms : Terms) (start tail mid : List Entry) (told more : List Told) (history es : List Entry) → MayBeInDoubtAt terms (history_after terms start told) mid more history es → MayBeLeftBy terms start told tail mid
     → MayBeInDoubtAt terms start tail (told ++ more) history es
 one_in_rest terms start tail mid told more history es (inl none) left = inl none
@@ -125,7 +125,7 @@ stands_in_rest terms start tail mid told more file left s =
       stands = subst (λ (h : List Entry). WithOrWithout terms h s.more file) same s.stands;
     }
 
--- a call of both is told that the journal is full only where it may be
+-- a call of both is answered that the journal is full only where it may be
 full_join : (terms : DeskTerms) (start : List Entry) (told more : List Told) → FullEach terms start told → FullEach terms (history_after terms.day start told) more → FullEach terms start (told ++ more)
 full_join terms start told more first rest front one back split =
     ⊎_elim (λ among. first front one among.0 among.1)
@@ -135,7 +135,7 @@ full_join terms start told more first rest front one back split =
     (split_join told more front one back split)
 
 module _ {D : Type 0} (faults : D → ℕ) (may_leave : D → List ℕ → Type 0) (moment : D → ℕ) (left_since : D → ℕ → List ℕ → Type 0) where
-  -- one run behind another
+  -- one run after another
   pub runs_join : (old mid new : OnDisk D) (told more : List Told) → RunsOn faults may_leave moment left_since old mid told → RunsOn faults may_leave moment left_since mid new more
       → RunsOn faults may_leave moment left_since old new (told ++ more)
   runs_join old mid new told more first rest =

@@ -78,7 +78,7 @@ module _ {D : Type 0} (faults : D → ℕ) (may_leave : D → List ℕ → Type 
       → RunsOn faults may_leave moment left_since old new (record { call = ask a; fault = None } ∷ [])
   runs_asked old new a done legal formed undecided s ends = runs_done old new (ask a) done legal (formed, undecided) s ends.1
 
-  -- an ask or a change of a budget that was given up by a fault that its reply tells
+  -- an ask or a change of a budget that was given up by a fault that its reply says
   pub runs_given_up : {T : Type 0} (old new : OnDisk D) (call : Call) (fault : DeskFault) (told : Fault) → told_as fault ≡ Some told → IsLegal old.desk.terms.day old.desk.history
       → IsCall (length old.desk.terms.day.budgets) call → IsRoomy call
       → Serves {T = T} may_leave moment left_since old new (reply old.desk.terms.day old.desk.history call).entry (Err fault)

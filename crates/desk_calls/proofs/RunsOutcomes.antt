@@ -48,7 +48,7 @@ entries_told : (terms : Terms) (history : List Entry) (calls : List Arrival) →
 entries_told terms history [] = refl
 entries_told terms history (x ∷ calls) = ap (λ (l : List Entry). added_by (arrival_reply history x).entry ++ l) (entries_told terms (after_arrival history x) calls)
 
--- the history behind notices that were all done
+-- the history after notices that were all done
 pub history_in_turn : (terms : Terms) (history : List Entry) (calls : List Arrival) → history_after terms history (told_all calls (map Some (answers_in_turn history calls))) ≡ after_arrivals history calls
 history_in_turn terms history [] = refl
 history_in_turn terms history (x ∷ calls) = history_in_turn terms (after_arrival history x) calls
@@ -64,7 +64,7 @@ taken_all campaigns (x ∷ calls) [] = All-nil (λ (turn : Turn). IsCall campaig
 taken_all campaigns (x ∷ calls) (o ∷ outcomes) =
     All-cons (λ (turn : Turn). IsCall campaigns turn.call) (turn_of (told_by x o)) (turns_of (told_all calls outcomes)) (taken_told campaigns x o) (taken_all campaigns calls outcomes)
 
--- and none is told that the journal is full
+-- and none is answered that the journal is full
 full_told : (terms : DeskTerms) (history : List Entry) (entry : Option Entry) (x : Arrival) (o : Option Answer) → FullOnly terms history entry (told_by x o).fault
 full_told terms history entry x None = tt
 full_told terms history entry x (Some answer) = tt

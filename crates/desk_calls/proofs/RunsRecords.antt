@@ -59,7 +59,7 @@ done_none terms history None told P stays rest = (tt, rest stays)
 done_none terms history (Some e) told P stays rest =
     absurd (longer (length history) (length (history ++ e ∷ [])) (length (history_after terms (history ++ e ∷ []) told)) (length-append history (e ∷ [])) (run_longer terms (history ++ e ∷ []) told) (ap length stays))
 
--- each notice with an entry, where the history stands, was given up by the disk's fault
+-- each notice with an entry, at the history as it is, was given up by the disk's fault
 abbrev EachGivenUp : List Entry → List Arrival → List (Option Answer) → Type 0
 EachGivenUp history [] outcomes = Unit {0}
 EachGivenUp history (x ∷ calls) [] = Unit {0}
@@ -100,7 +100,7 @@ each_behind terms history x (y ∷ calls) (o ∷ outcomes) legal apart each = (
   each_behind terms history x calls outcomes legal apart.1 each.1,
 )
 
--- so was each behind those before it
+-- so was each after those before it
 given_in_turn : (terms : Terms) (history : List Entry) (calls : List Arrival) (outcomes : List (Option Answer)) → IsLegal terms history → AreApart calls → EachGivenUp history calls outcomes → AreGivenUp terms history (told_all calls outcomes)
 given_in_turn terms history [] outcomes legal apart each = tt
 given_in_turn terms history (x ∷ calls) [] legal apart each = tt

@@ -25,13 +25,13 @@ use Rattle.desk_calls.proofs.RunsCounts.{among_later, counted_some, counts_from,
 use Rattle.desk_calls.proofs.RunsRecords.{record_along}
 use Rattle.desk_calls.proofs.RunsOutcomes.{counts_done, doubt_of_all, full_all, history_in_turn, raises_done, record_of_all, taken_all}
 
--- what may be in doubt behind notices that were done together: nothing where they added an entry, else what was
+-- what may be in doubt after notices that were done together: nothing where they added an entry, else what was
 left_together : (terms : Terms) (start : List Entry) (told : List Told) (tail entries : List Entry) (P : List Entry → Type 0) → history_after terms start told ≡ start ++ entries → P tail → (0 < length entries → (any : List Entry) → P any)
     → (next : List Entry) × MayBeLeftBy terms start told tail next × P next
 left_together terms start told tail [] P at kept fresh = (tail, inr (inl (refl, at ∙ append-nil start)), kept)
 left_together terms start told tail (e ∷ entries) P at kept fresh = ([], inl refl, fresh (omega arith) [])
 
--- what is in doubt behind calls before which their own record was
+-- what is in doubt after calls before which their own record was
 left_of_record : (terms : Terms) (start : List Entry) (told : List Told) (tail entries next : List Entry) → (history_after terms start told ≡ start → IsLeftInDoubt terms start told entries) → MayBeLeftBy terms start told entries next → MayBeLeftBy terms start told tail next
 left_of_record terms start told tail entries next doubt (inl none) = inl none
 left_of_record terms start told tail entries next doubt (inr (inl (same, stays))) = inr (inr (subst (IsLeftInDoubt terms start told) (sym same) (doubt stays)))
@@ -47,7 +47,7 @@ stands_of_record : (terms : DeskTerms) (start tail entries : List Entry) (told :
 stands_of_record terms start tail entries told file r s =
     record { front = s.front; back = s.back; split = s.split; more = s.more; is = one_of_record terms.day start told tail entries (history_after terms.day start s.front) s.more r s.is; stands = s.stands }
 
--- the counts of notices that are asked one by one, behind a record of them that failed
+-- the counts of notices that are asked one by one, after a record of them that failed
 counts_behind : (a m b : ℕ) (calls : List Arrival) (outcomes : List (Option Answer)) → length outcomes ≡ length calls → (calls ≡ [] → m ≡ a) → a ≤ m
     → CountsAmong m (told_all calls outcomes) b → CountsAmong a (told_all calls outcomes) b
 counts_behind a m b [] outcomes long none later counts = counts ∙ none refl

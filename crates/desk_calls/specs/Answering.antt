@@ -15,13 +15,13 @@ use Rattle.desk_calls.specs.Courses.{HasDiskFault, HasNoDiskFault}
 use Rattle.desk_calls.specs.Meanings.{Told, turn_of, turns_of}
 use Rattle.desk_calls.specs.OnDisk.{CountsEach, CountsOne, FullEach, FullOnly, MayBeInDoubt, StandsWithin, record_of}
 
--- how many of the desk's calls the disk's fault gave up, behind one more
+-- how many of the desk's calls the disk's fault gave up, after one more
 abbrev pub faults_after : Option Fault → ℕ → ℕ
 faults_after None n = n
 faults_after (Some Fault.Disk) n = counted n
 faults_after (Some (Fault.JournalFull size)) n = n
 
--- what may be in doubt behind a call, of what was in doubt before it: nothing where an entry was added; else the same,
+-- what may be in doubt after a call, of what was in doubt before it: nothing where an entry was added; else the same,
 -- or the call's record in its place where the disk's fault gave it up
 abbrev pub MayBeLeft : Option Fault → List Entry → List Entry → List Entry → Type 0
 MayBeLeft None [] tail next = next ≡ tail

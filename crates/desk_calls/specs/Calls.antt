@@ -43,7 +43,7 @@ IsRoomy (tick now) = ⊥
 IsRoomy (set_budget x) = Unit {0}
 
 -- A call may end so: done, or given up by the disk's fault; one that takes memory and room may want memory, or find the
--- journal full of the entry that its reply has, and is told a size that it may come to.
+-- journal full of the entry that its reply has, and is answered a size that it may come to.
 abbrev pub MayEnd : DeskTerms → List Entry → Call → Ended → Type 0
 MayEnd terms history call was_done = Unit {0}
 MayEnd terms history call (was_given_up Fault.Disk) = Unit {0}

@@ -1,4 +1,4 @@
--- What comes of a day beside its input: what its disk's file stood for, and which of its calls were given up. This
+-- What comes of a day beside its input: what its disk's file represented, and which of its calls were given up. This
 -- project's own.
 use Rattle.std.specs.Prelude.{◌≡◌, ◌≢◌, List, [], ◌∷◌, ◌++◌, map, All, Option, Some, None}
 use Rattle.adx_desk.specs.declared.fault.DeskFault.{DeskFault}
@@ -9,7 +9,7 @@ use Rattle.desk_calls.specs.Meanings.{AreDone, Told}
 
 -- how a day went. It wasn't opened, since no roster's line came; or a roster's line came, and opening its day gave up
 -- for this cause; or it was served from a history, with these calls, and perhaps one more whose answer wasn't written
--- for want of memory
+-- for lack of memory
 pub data Course : Type 0 where
   unopened : Course
   given_up : Roster → DeskFault → Course

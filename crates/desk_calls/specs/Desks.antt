@@ -1,5 +1,5 @@
--- What a call on a desk tells of itself: the history at which it was taken, what it was answered there, and all else that
--- is told of the step. This project's own.
+-- What a call on a desk says of itself: the history at which it was taken, what it was answered there, and all else that
+-- is said of the step. This project's own.
 use Rattle.std.specs.Prelude.{◌≡◌, ℕ, List, [], ◌∷◌, Option, Some, None}
 use Rattle.adx_desk.specs.Asked.{ask_for}
 use Rattle.adx_desk.specs.Lines.{told_as}
@@ -26,7 +26,7 @@ use Rattle.desk_calls.specs.Together.{call_by, took_in_turn}
 abbrev pub fault_of_disk : Ended
 fault_of_disk = was_given_up Fault.Disk
 
--- how a call ended that answered this fault: one that no line tells is want of memory
+-- how a call ended that answered this fault: one that no line says is out of memory
 abbrev pub ended_as : Option Fault → Ended
 ended_as None = wanted_memory
 ended_as (Some fault) = was_given_up fault
@@ -60,12 +60,12 @@ module _ {Y : Type 0} (runs : Y → Y → List Step → Type 0) (old new : Y) wh
   abbrev pub Reads : Meters → Type 0
   Reads meters = (at : List Entry) × runs old new (metered at meters ∷ [])
 
-  -- the notices of a batch were done, one behind another, and the batch has their answers
+  -- the notices of a batch were done, one after another, and the batch has their answers
   abbrev pub RanTogether : BatchState → BatchState → Type 0
   RanTogether batch batch_now =
       (at : List Entry) × runs old new (took_in_turn at batch.calls) × (batch_now ≡ record batch { answers = Some (answers_in_turn at batch.calls) })
 
--- an ask's answer at a history, and a copy of the ask that the history behind it keeps for the answer
+-- an ask's answer at a history, and a copy of the ask that the history after it keeps for the answer
 pub record IsDoneAt (terms : Terms) (a : Ask) (done : Done) (at : List Entry) : Type 0 where
   pub answer : done.answer ≡ (ask_reply terms at a).answer
   pub copy : done.ask ≡ ask_for (with_entry at (ask_reply terms at a).entry) done.answer

@@ -1,4 +1,4 @@
--- What follows of steps that stand one behind another. This project's own.
+-- What follows of steps that come one after another. This project's own.
 use Rattle.std.specs.Prelude.{◌≡◌, List, ◌∷◌, ◌++◌}
 use mathlib.Core.List.{IsPrefix}
 use Rattle.adx_desk.specs.Histories.{DeskTerms}
@@ -7,14 +7,14 @@ use Rattle.day_rules.specs.Runs.{run}
 use Rattle.desk_calls.specs.Steps.{AreSteps, Step, alone, history_at, history_behind, shared, turns_of}
 
 -- Between two steps of one who calls a shared desk no history is shorter than what the step before leaves, nor longer than
--- that of the step behind: the first goes to the one between, and that to the second.
+-- that of the step after: the first goes to the one between, and that to the second.
 abbrev pub EachBetween : Type 0
 EachBetween =
     (terms : DeskTerms) (seen now : List Entry) (front back : List Step) (before one behind : Step)
     → AreSteps shared terms seen (front ++ before ∷ one ∷ behind ∷ back) now
     → IsPrefix (history_behind terms.day before) (history_at one) × IsPrefix (history_behind terms.day one) (history_at behind)
 
--- Where nobody else calls the desk, each step is at the history behind the calls before it, and the last leaves the one now.
+-- Where nobody else calls the desk, each step is at the history after the calls before it, and the last leaves the one now.
 abbrev pub OwnedRun : Type 0
 OwnedRun =
     (terms : DeskTerms) (seen now : List Entry) (front back : List Step) (one : Step)

@@ -39,6 +39,7 @@ abbrev pub answered_by : Writing → Terms → List Entry → Told → Option Fa
 answered_by w terms history t None = w.answer (after_turn terms history (turn_of t)) (reply terms history t.call).answer
 answered_by w terms history t (Some f) = w.fault f
 
+-- what a call of a run is answered, by how it ended
 abbrev pub call_answer : Writing → Terms → List Entry → Told → List ℕ
 call_answer w terms history t = answered_by w terms history t t.fault
 

@@ -18,7 +18,7 @@ use Rattle.day_rules.specs.RunBooks.{HasBooks}
 use Rattle.desk_calls.specs.Courses.{Course, unopened, given_up, served, taken_calls}
 use Rattle.desk_calls.specs.Meanings.{Told, turns_of}
 
--- the history behind calls from a start
+-- the history after calls from a start
 abbrev pub history_after : Terms → List Entry → List Told → List Entry
 history_after terms start told = run terms start (turns_of told)
 
@@ -35,7 +35,7 @@ pub record IsRecordOf (terms : Terms) (start : List Entry) (told : List Told) (h
   pub at : history ≡ history_after terms start front
   pub is : tail ≡ record_of terms history one.call
 
--- the tail is the record of a call that a fault of the disk gave up, and no entry was added behind it
+-- the tail is the record of a call that a fault of the disk gave up, and no entry was added after it
 pub record IsInDoubt (terms : Terms) (start : List Entry) (told : List Told) (tail : List Entry) : Type 0 where
   pub front : List Told
   pub one : Told
@@ -49,13 +49,13 @@ pub record IsInDoubt (terms : Terms) (start : List Entry) (told : List Told) (ta
 abbrev pub MayBeInDoubt : Terms → List Entry → List Told → List Entry → Type 0
 MayBeInDoubt terms start told tail = (tail ≡ []) ⊎ IsInDoubt terms start told tail
 
--- Behind these calls the disk keeps their history: each image stands for it, or for it and one record in doubt.
+-- After these calls the disk keeps their history: each image represents it, or it and one record in doubt.
 pub record KeepsRun (images : List ℕ → Type 0) (terms : DeskTerms) (start : List Entry) (told : List Told) : Type 0 where
   pub tail : List Entry
   pub doubted : MayBeInDoubt terms.day start told tail
   pub each : Each images (WithOrWithout terms (history_after terms.day start told) tail)
 
--- the file stands for the history behind some first ones of these calls, or for it and the record of one of the calls at
+-- the file represents the history after some first ones of these calls, or it and the record of one of the calls at
 -- just that history
 pub record StandsInRun (terms : DeskTerms) (start : List Entry) (told : List Told) (file : List ℕ) : Type 0 where
   pub front : List Told
@@ -89,8 +89,8 @@ MayWantRoom (Entry.Loss n) = ⊥
 MayWantRoom (Entry.Expire now) = ⊥
 MayWantRoom (Entry.Budget campaign change budget) = Unit {0}
 
--- A call that is told that the journal is full has an entry, which is an ask's or that of a change of a budget: a notice
--- and a tick are never told so. The size that is told passes what a journal may have, and is at most what the longest
+-- A call that is answered that the journal is full has an entry, which is an ask's or that of a change of a budget: a notice
+-- and a tick are never answered so. The size that is answered passes what a journal may have, and is at most what the longest
 -- journal of the history comes to with that entry and all that is held then.
 abbrev pub FullOnly : DeskTerms → List Entry → Option Entry → Option Fault → Type 0
 FullOnly terms history entry None = Unit {0}
@@ -100,7 +100,7 @@ FullOnly terms history (Some e) (Some (Fault.JournalFull size)) =
     (greatest_size < size) × (size ≤ longest_size terms history + longest_record e + longest_held (history ++ e ∷ []))
     × MayWantRoom e
 
--- each call that was told so
+-- each call that was answered so
 abbrev pub FullEach : DeskTerms → List Entry → List Told → Type 0
 FullEach terms start told =
     (front : List Told) (one : Told) (back : List Told) → told ≡ front ++ one ∷ back
@@ -110,16 +110,16 @@ FullEach terms start told =
 pub record ServesRun {D : Type 0} (faults : D → ℕ) (reads : D → Option (List ℕ)) (may_leave : D → List ℕ → Type 0)
     (moment : D → ℕ) (left_since : D → ℕ → List ℕ → Type 0) (terms : DeskTerms) (start : List Entry) (told : List Told)
     (old new : D) : Type 0 where
-  -- It began with the history that the file stood for, where the disk tells what it reads.
+  -- It began with the history that the file represented, where the disk reports what it reads.
   pub begins : (file : List ℕ) → reads old ≡ Some file → IsHistoryOf terms file start
   -- The calls are some that a day takes, and their books are those of the headline.
   pub taken : AreTurns (length terms.day.budgets) (turns_of told)
   pub books : HasBooks terms.day start (turns_of told) (history_after terms.day start told)
   -- The disk's count rose in just the calls that its fault gave up,
   pub counted : CountsEach (faults old) told (faults new)
-  -- and a call was told that the journal is full only where it may be.
+  -- and a call was answered that the journal is full only where it may be.
   pub full : FullEach terms start told
-  -- Where the disk tells what it reads, it keeps the history of the run now,
+  -- Where the disk reports what it reads, it keeps the history of the run now,
   pub keeps : (file : List ℕ) → reads old ≡ Some file → KeepsRun (may_leave new) terms start told
   -- and a crash at any moment leaves an image from before, the history that was read, or one of the run, with at most one
   -- record.

@@ -32,7 +32,7 @@ MayShare calls =
     ((one : Call) × (calls ≡ one ∷ []))
     ⊎ ((notices : List Arrival) × (calls ≡ map call_by notices) × (length notices ≤ BATCH_LIMIT) × AreApart notices)
 
--- the tail is the record of some calls of the run, one behind another, at this history: that of the calls before them
+-- the tail is the record of some calls of the run, one after another, at this history: that of the calls before them
 pub record IsRecordOfRun (terms : Terms) (start : List Entry) (told : List Told) (history tail : List Entry) : Type 0 where
   pub front : List Told
   pub group : List Told
@@ -50,25 +50,25 @@ AreGivenUp terms history (t ∷ told) =
     IfSome (reply terms history t.call).entry (λ e. t.fault ≡ Some Fault.Disk)
     × AreGivenUp terms (with_entry history (reply terms history t.call).entry) told
 
--- The tail is a record of the run at the history behind all of it, so no entry was added since. Each call with an entry
+-- The tail is a record of the run at the history after all of it, so no entry was added since. Each call with an entry
 -- in it was given up by a fault of the disk; of a call that was asked again alone the last try counts.
 pub record IsLeftInDoubt (terms : Terms) (start : List Entry) (told : List Told) (tail : List Entry) : Type 0 where
   pub record_is : IsRecordOfRun terms start told (history_after terms start told) tail
   pub by_disk : AreGivenUp terms (history_after terms start told) record_is.group
 
--- What may be in doubt behind a run, of what was in doubt before it: nothing; the same, where no entry was added; or such
+-- What may be in doubt after a run, of what was in doubt before it: nothing; the same, where no entry was added; or such
 -- a record of the run.
 abbrev pub MayBeLeftBy : Terms → List Entry → List Told → List Entry → List Entry → Type 0
 MayBeLeftBy terms start told tail next =
     (next ≡ []) ⊎ (((next ≡ tail) × (history_after terms start told ≡ start)) ⊎ IsLeftInDoubt terms start told next)
 
--- What may be in doubt at a moment of a run, at the history where the file stands: nothing; what was in doubt before the
+-- What may be in doubt at a moment of a run, at the history that the file has: nothing; what was in doubt before the
 -- run, where no entry was added yet; or a record of the run at just that history.
 abbrev pub MayBeInDoubtAt : Terms → List Entry → List Entry → List Told → List Entry → List Entry → Type 0
 MayBeInDoubtAt terms start tail told history more =
     (more ≡ []) ⊎ (((more ≡ tail) × (history ≡ start)) ⊎ IsRecordOfRun terms start told history more)
 
--- the file stands for the history behind some first ones of these calls, or for that and what may be in doubt there
+-- the file represents the history after some first ones of these calls, or that and what may be in doubt there
 pub record StandsInRunFrom (terms : DeskTerms) (start tail : List Entry) (told : List Told) (file : List ℕ) : Type 0 where
   pub front : List Told
   pub back : List Told
@@ -95,7 +95,7 @@ CountsAmong before [] now = now ≡ before
 CountsAmong before (t ∷ told) now =
     (from between : ℕ) × CountsBefore before t.call from × CountsOne from t.fault between × CountsAmong between told now
 
--- the desk's own count behind a call
+-- the desk's own count after a call
 abbrev pub count_after : Option Fault → ℕ → ℕ
 count_after None n = n
 count_after (Some Fault.Disk) n = counted n

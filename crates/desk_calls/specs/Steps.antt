@@ -1,4 +1,4 @@
--- The steps of one who calls a desk, one behind another: calls, looks at its history, and readings of its meters. Others
+-- The steps of one who calls a desk, one after another: calls, looks at its history, and readings of its meters. Others
 -- may call the desk between them. This project's own.
 use Rattle.std.specs.Prelude.{◌≡◌, ℕ, zero, suc, List, [], ◌∷◌}
 use mathlib.Core.List.{IsPrefix}
@@ -39,7 +39,7 @@ pub record Way : Type 1 where
 abbrev pub alone : Way
 alone = record { goes = λ history next. next ≡ history; reads = λ history meters. meters ≡ meters_after history }
 
--- Where others call it, they may add entries behind the history. Its meters are read of a board, which may show more or
+-- Where others call it, they may add entries after the history. Its meters are read of a board, which may show more or
 -- less than the history that was seen; what it shows is said where the board is.
 abbrev pub shared : Way
 shared = record { goes = IsPrefix; reads = λ history meters. Unit {0} }

@@ -28,7 +28,7 @@ abbrev pub IsOutcome : List Entry → Arrival → Option Answer → Type 0
 IsOutcome at x None = Unit {0}
 IsOutcome at x (Some answer) = answer ≡ (arrival_reply at x).answer
 
--- these steps are just those notices, one behind another, with these outcomes, each by the history at which it was taken
+-- these steps are just those notices, one after another, with these outcomes, each by the history at which it was taken
 abbrev pub AreNoticed : List Arrival → List (Option Answer) → List Step → Type 0
 AreNoticed [] [] steps = steps ≡ []
 AreNoticed [] (o ∷ outcomes) steps = ⊥
@@ -36,7 +36,7 @@ AreNoticed (x ∷ notices) [] steps = ⊥
 AreNoticed (x ∷ notices) (o ∷ outcomes) steps =
     (at : List Entry) × (rest : List Step) × (steps ≡ took (noticed at x o) ∷ rest) × IsOutcome at x o × AreNoticed notices outcomes rest
 
--- a desk took these notices, one behind another, with these outcomes
+-- a desk took these notices, one after another, with these outcomes
 pub record TakesNotices {Y : Type 0} (runs : Y → Y → List Step → Type 0) (old new : Y) (notices : List Arrival)
     (outcomes : List (Option Answer)) : Type 0 where
   pub steps : List Step

@@ -1,4 +1,4 @@
--- The calls among the steps of one who owns a desk, as a run tells them. This project's own.
+-- The calls among the steps of one who owns a desk, as a run says them. This project's own.
 use Rattle.std.specs.Prelude.{List, [], ◌∷◌, ◌++◌, Option, Some, None}
 use Rattle.answer_lines.specs.declared.faults.Fault.{Fault}
 use Rattle.day_rules.specs.declared.answer.Answer.{Answer}
@@ -14,6 +14,7 @@ told_as c was_done = record { call = c.call; fault = None } ∷ []
 told_as c (was_given_up fault) = record { call = c.call; fault = Some fault } ∷ []
 told_as c wanted_memory = []
 
+-- the calls among the steps, in their order: looks at the history and at the meters are no calls
 abbrev pub told_of : List Step → List Told
 told_of [] = []
 told_of (took c ∷ steps) = told_as c c.ended ++ told_of steps

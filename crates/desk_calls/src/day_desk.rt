@@ -39,16 +39,16 @@ pub trait DayDesk {
     /// How its history goes on between two calls, and which meters are read beside it.
     ghost way: { Way };
 
-    /// All that is told of these steps, from a desk to a later one.
+    /// All that is said of these steps, from a desk to a later one.
     ghost runs: { Self → Self → List Step → Type 0 };
 
     /// A batch of these notices was given up by the disk's fault: none was taken.
     ghost lost: { Self → Self → List Arrival → Type 0 };
 
-    /// The references that it stands on, which no call exchanges.
+    /// The references that it uses, which no call exchanges.
     ghost place: { Self → List GName };
 
-    /// Whether a request stands in the history, by its auction and its digest.
+    /// Whether a request is in the history, by its auction and its digest.
     fn seen(&mut self, auction: &str, digest: &[u8; 32]) -> Seen
         ensures looks { Looks runs self.old self.new (λ at. result ≡ seen_in at auction.now digest.now) }
         ensures place { place self.new ≡ place self.old };
@@ -84,7 +84,7 @@ pub trait DayDesk {
         ensures failed { IfErr result (λ e. Takes runs self.old self.new (change_call (change_of campaign change budget)) (ended_by e) (λ _. Unit {0})) }
         ensures place { place self.new ≡ place self.old };
 
-    /// Takes the notices of a batch that didn't run, one behind another with nothing between them. Where the disk's fault
+    /// Takes the notices of a batch that didn't run, one after another with nothing between them. Where the disk's fault
     /// gave that up, none was taken.
     fn batch(&mut self, batch: &mut Batch) -> Result<(), DeskFault>
         requires waits { batch.old.answers ≡ None }
@@ -110,15 +110,15 @@ pub trait DayDesk {
     /// No step changes nothing.
     ghost none: { (d : Self) → runs d d [] };
 
-    /// Steps behind steps.
+    /// Steps after steps.
     ghost join: { (a b c : Self) (first rest : List Step) → runs a b first → runs b c rest → runs a c (first ++ rest) };
 
-    /// Behind a batch that was given up its notices are taken one by one, as if it hadn't been tried.
+    /// After a batch that was given up its notices are taken one by one, as if it hadn't been tried.
     ghost retried: { (a b c : Self) (notices : List Arrival) (outcomes : List (Option Answer)) (steps : List Step)
         → length notices ≤ BATCH_LIMIT → AreApart notices
         → lost a b notices → AreNoticed notices outcomes steps → runs b c steps → runs a c steps };
 
-    /// The steps stand one behind another, from what was seen before to what is seen now.
+    /// The steps come one after another, from what was seen before to what is seen now.
     ghost along: { (a b : Self) (steps : List Step) → runs a b steps → AreSteps way (terms a) (seen a) steps (seen b) };
 
     /// What the desk was opened with stays.

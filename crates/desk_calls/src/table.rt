@@ -28,9 +28,9 @@ fn push_campaigns<D: Disk>(
     Ok(())
 }
 
-/// Writes the closing table of the day of a roster, behind what is there: a line for each campaign with its money, in units
+/// Writes the closing table of the day of a roster, after what is there: a line for each campaign with its money, in units
 /// (millionths of a CPM dollar), in the roster's order, and a line with the counts of the desk's history. Where memory is
-/// refused, a part of the table may stand there.
+/// refused, a part of the table may be there.
 pub fn push_books<D: Disk>(
     out: &mut String,
     desk: &Desk<D>,

@@ -65,6 +65,6 @@ still_begins first whole longer begins p =
     let short : length first ≤ length whole = omega (arith, length-take (length first) whole, ap (λ (l : List MeterStep). length l) begins) in
     ap (λ (l : List MeterStep). take (length first) l) (sym p.1) ∙ (take-append-le (length first) whole p.0 short ∙ begins)
 
--- a beginning with the rest behind it is the whole
+-- a beginning with the rest after it is the whole
 pub with_rest : (first whole : List MeterStep) → take (length first) whole ≡ first → first ++ drop (length first) whole ≡ whole
 with_rest first whole begins = ap (λ (l : List MeterStep). l ++ drop (length first) whole) (sym begins) ∙ take-append-drop (length first) whole

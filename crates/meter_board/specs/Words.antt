@@ -6,7 +6,7 @@ use Rattle.meter_board.specs.declared.board.StepBoard.{StepBoard}
 use Rattle.meter_board.specs.declared.reader.MeterReader.{MeterReader}
 
 -- the steps that the board took in
--- Example: a board that took in three steps and published two; a reader that was told then has seen two.
+-- Example: a board that took in three steps and published two; a reader that heard of it then has seen two.
 abbrev pub taken : {R : Type 0} → StepBoard R → List MeterStep
 taken board = board.front.seen.log
 
@@ -14,7 +14,7 @@ taken board = board.front.seen.log
 abbrev pub published : {R : Type 0} → StepBoard R → List MeterStep
 published board = board.writer.desk.shown.value.seen.log
 
--- the steps that a reader has seen or was told of
+-- the steps that a reader has seen or heard of
 abbrev pub seen : MeterReader → List MeterStep
 seen reader = reader.last.seen.log
 
@@ -22,6 +22,7 @@ seen reader = reader.last.seen.log
 abbrev pub list_of : {R : Type 0} → StepBoard R → Book
 list_of board = board.front.seen.book
 
+-- which list of steps a reader reads
 abbrev pub list_read : MeterReader → Book
 list_read reader = reader.last.seen.book
 

@@ -61,7 +61,7 @@ impl<R: Wait + Drop> StepBoard<R> {
                 return Err(OutOfMemory);
             }
         }
-        // Whoever has shown something knows which list it is, and can tell a reader.
+        // Whoever has shown something knows which list it is, and can say it to a reader.
         Ok(StepBoard {
             writer: show_next(writer, &rt, &front),
             rt,
@@ -102,7 +102,7 @@ impl<R: Wait + Drop> StepBoard<R> {
         self.front.meters
     }
 
-    /// Takes in further steps, which readers don't see yet. Nothing is taken in where it answers want of memory.
+    /// Takes in further steps, which readers don't see yet. Nothing is taken in where it answers lack of memory.
     pub fn append(&mut self, steps: &[MeterStep]) -> Result<(), OutOfMemory>
         requires range { StayInRange (meters_of (taken self.old)) steps.now }
         ensures taken { IfOk result (λ _. taken self.new ≡ taken self.old ++ steps.now) }

@@ -30,7 +30,7 @@ fn look(sight: Sight) -> (Sight, Option<Shown>)
 }
 
 impl MeterReader {
-    /// The meters of steps that begin with all that this reader saw or was told of. It waits for nobody.
+    /// The meters of steps that begin with all that this reader saw or heard of. It waits for nobody.
     pub fn read(&mut self) -> Meters
         ensures later { IsPrefix (seen self.old) (seen self.new) }
         ensures meters { result ≡ meters_of (seen self.new) }

@@ -1,4 +1,4 @@
-//! How steps get behind the list.
+//! How steps get after the list.
 ghost use Rattle.std.specs.Prelude.{◌≡◌, ◌+◌, ◌++◌, ◌==◌, ◌<◌, ◌^◌, length, MatchBool};
 ghost use Rattle.meter_board.specs.BookRule.{head_of};
 
@@ -6,7 +6,7 @@ use crate::book::{Add, Head, Law, Nothing, Taking, Token};
 use day_rules::{MeterStep, StepKind};
 use logbook::Offer;
 
-/// Puts the steps behind a list of so many, and answers how many it found there.
+/// Puts the steps after a list of so many, and answers how many it found there.
 pub(crate) fn put_behind<K: Taking>(
     head: &Head,
     seen: &mut Token,

@@ -1,4 +1,4 @@
--- The first payload behind the head.
+-- The first payload after the head.
 use Rattle.std.proofs.Common.{◌⊎◌, ℕ, [], ◌∷◌, sym, ◌∙◌, ap, subst, arith}
 use Rattle.day_journal.specs.Places.{StandsFor}
 use Rattle.day_journal.specs.Tails.{JournalState, WithAtMostOne, size_after}

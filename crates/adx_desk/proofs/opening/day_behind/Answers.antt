@@ -1,4 +1,4 @@
--- The day of what was opened, or its want of room.
+-- The day of what was opened, or its lack of room.
 use Rattle.std.proofs.Common.{rules, arith, ◌≡◌, ◌+◌, length, min, refl, sym, ◌∙◌, ap, subst}
 use Rattle.adx_io.specs.Streams.{last_count}
 use Rattle.day_journal.specs.Tails.{size_of}

@@ -1,4 +1,4 @@
--- By what the journal's opening left, and what was read behind it.
+-- By what the journal's opening left, and what was read after it.
 use Rattle.std.proofs.Common.{Err, sym, ap, subst}
 use Rattle.adx_desk.specs.Histories.{DeskTerms}
 use Rattle.adx_desk.specs.Opened.{GivesUp}

@@ -1,4 +1,4 @@
--- By what stands behind the first byte.
+-- By what comes after the first byte.
 use Rattle.std.proofs.Common.{sym, ◌∙◌}
 use Rattle.std.proofs.lemmas.Bool.{false≢true}
 use Rattle.day_journal.proofs.Starts.{marked_2, marked_else}
