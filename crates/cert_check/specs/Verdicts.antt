@@ -9,13 +9,13 @@ use Rattle.cert_check.specs.declared.verdict.Verdict.TheVariants.{Accepted, Shap
 use Rattle.dual_cert.specs.Assignments.{Impression, impressions, Assignment, earned, no_charge}
 use Rattle.dual_cert.specs.Certificates.{Fit, HasShape, Covers, AreCovered, bound_of, IsCertificate}
 
--- the first alpha that is more than the whole stands here
+-- the first alpha that is more than the whole is at this place
 pub record IsAboveAt (alphas : List ℕ) (campaign : ℕ) : Type 0 where
   pub listed : campaign < length alphas
   pub before : Fit alphas campaign
   pub above : whole < slice_index alphas campaign
 
--- an impression's first offer that isn't covered stands here
+-- an impression's first offer that isn't covered is at this place
 pub record IsUncoveredAt (alphas : List ℕ) (beta : ℕ) (offers : List Charge) (offer : ℕ) : Type 0 where
   pub listed : offer < length offers
   pub before : All (Covers alphas beta) (take offer offers)

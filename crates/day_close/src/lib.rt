@@ -1,10 +1,10 @@
-//! The closer: the certificate of a day's record, from where its campaigns stand at the end.
+//! The closer: the certificate of a day's record, from where its campaigns are at the end.
 //!
-//! What the certificate is stands in `specs/Closing`; that it meets the rules of every certificate, so that a checker
+//! The certificate is defined in `specs/Closing`; that it meets the rules of every certificate, so that a checker
 //! accepts it, is a clause of `close`. `specs/Choosing` says of a record which offer the rule chooses for each
 //! impression; what makes records and what bounds them cite it.
 //!
-//! Stands on `adx_units`, `campaign_book`, `bid_record` and `dual_cert`.
+//! Uses `adx_units`, `campaign_book`, `bid_record` and `dual_cert`.
 #![tactic(auto)]
 
 mod alphas;

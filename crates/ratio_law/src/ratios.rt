@@ -15,10 +15,10 @@ use day_close::close;
 use dual_cert::WHOLE;
 use std::alloc::Global;
 
-/// How often the bound stands on the left side.
+/// How often the bound counts on the left side.
 const BOUND_PARTS: u128 = 9_999;
 
-/// How often the committed money, times the decline, stands on the right side.
+/// How often the committed money, times the decline, counts on the right side.
 const MONEY_PARTS: u128 = 10_099;
 
 /// The numbers of a day's guarantee: in time in proportion to the record's offers.

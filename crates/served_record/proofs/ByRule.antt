@@ -36,7 +36,7 @@ use Rattle.served_record.proofs.KeptAwards.{gone_front, gone_in, moves_none, tol
 use Rattle.served_record.proofs.RowsFrom.{ChosenFrom, chosen_append, chosen_by_rule, chosen_same}
 use Rattle.served_record.proofs.Selections.{StandsBy, chosen_is_choice, standing_for, stands_by, taken_one}
 
--- an impression's choice brings the campaigns to where they stand for the next one
+-- an impression's choice brings the campaigns to what they have committed for the next one
 stands_next : (cs : List CampaignRow) (before : List Entry) (a : Ask) (imp campaign : ℕ) → StandsBy (row_budgets cs) before a → SellsOnce a → standing_for cs before a imp campaign + picked_charge campaign (impression_of a imp) (chosen_of a imp) ≡ standing_for cs before a (suc imp) campaign
 stands_next cs before a imp campaign s once =
     let budgets : List Units = row_budgets cs in
@@ -76,7 +76,7 @@ ask_taken a campaign once =
     ∙ sum_by-always (λ imp. sum_by (sale_charge campaign) (map (sale_of a) (awarded_offers a.offers imp))) (λ imp. picked_charge campaign (impression_of a imp) (chosen_of a imp)) (imps_of a)
     (λ imp. sum_by-map (sale_charge campaign) (sale_of a) (awarded_offers a.offers imp) ∙ taken_one a imp campaign once)
 
--- the rows of an entry are chosen by the rule, and bring the committed money to what it is behind the entry
+-- the rows of an entry are chosen by the rule, and bring the committed money to what it is after the entry
 record IsByRule (cs : List CampaignRow) (before : List Entry) (e : Entry) (rows : List ImpRow) : Type 0 where
   pub chosen : ChosenFrom cs (committed before) rows
   pub moved : (campaign : ℕ) → committed (before ++ e ∷ []) campaign ≡ committed before campaign + taken_in rows campaign
@@ -109,7 +109,7 @@ entry_by_rule cs terms before (Entry.Budget k change budget) after ws n same leg
 abbrev pub BudgetsStay : Terms → List CampaignRow → List Entry → Type 0
 BudgetsStay terms cs history = (front rest : List Entry) → history ≡ front ++ rest → budgets_after terms front ≡ row_budgets cs
 
--- the rows of the entries behind some others
+-- the rows of the entries after some others
 rows_by_rule : (cs : List CampaignRow) (terms : Terms) (before after : List Entry) (ws : List Award) (n : ℕ) → BudgetsStay terms cs (before ++ after) → IsLegal terms (before ++ after) → gone_in (before ++ after) ≡ 0 → ChosenFrom cs (committed before) (rows_in ws n after)
 rows_by_rule cs terms before [] ws n stay legal none = tt
 rows_by_rule cs terms before (e ∷ es) ws n stay legal none =

@@ -56,7 +56,7 @@ given_by : (o : Option BudgetChange) (campaign : ℕ) (opened : Units) (before :
 given_by None campaign opened before = refl
 given_by (Some x) campaign opened before = given_or (eqb campaign x.campaign) x.budget opened before
 
--- a campaign's budget behind an entry more
+-- a campaign's budget after an entry more
 budget_push : (history : List Entry) (e : Entry) (campaign : ℕ) (opened : Units) → budget_after (history ++ e ∷ []) (campaign, opened) ≡ budget_with (budgeted e) (campaign, budget_after history (campaign, opened))
 budget_push history e campaign opened =
     ap (λ (bs : List Units). unwrap_or (last_or None bs) opened) (filter_map-append (budget_by campaign) history (e ∷ []))
@@ -70,7 +70,7 @@ made_by campaign o = cond (option_map_or (λ x. eqb campaign x.campaign) o false
 changes_push : (history : List Entry) (e : Entry) (campaign : ℕ) → changes_in (history ++ e ∷ []) campaign ≡ changes_in history campaign + made_by campaign (budgeted e)
 changes_push history e campaign = sum_by_push (λ x. cond (changes_budget campaign x) 1 0) history e
 
--- a campaign behind a change, if there is one
+-- a campaign after a change, if there is one
 abbrev row_with : Option BudgetChange → ℕ × CampaignRow → CampaignRow
 row_with None p = p.1
 row_with (Some x) p = cond (eqb p.0 x.campaign) (rebudgeted x.budget p.1) p.1
@@ -99,7 +99,7 @@ same_rows : (n : ℕ) (rows : List CampaignRow) → map (row_with None) (enumera
 same_rows n [] = refl
 same_rows n (r ∷ rs) = ap (λ (t : List CampaignRow). r ∷ t) (same_rows (n + 1) rs)
 
--- the campaigns behind an entry more
+-- the campaigns after an entry more
 pub rows_step : (cs : List Campaign) (history : List Entry) (e : Entry) → campaign_rows cs (history ++ e ∷ []) ≡ rows_after e (campaign_rows cs history)
 rows_step cs history (Entry.Ask a) = rows_push history (Entry.Ask a) 0 cs ∙ same_rows 0 (campaign_rows cs history)
 rows_step cs history (Entry.Win n) = rows_push history (Entry.Win n) 0 cs ∙ same_rows 0 (campaign_rows cs history)
@@ -121,7 +121,7 @@ changes_few : (history : List Entry) (campaign : ℕ) → changes_in history cam
 changes_few history campaign =
     sum_by-le-sum_by (λ e. cond (changes_budget campaign e) 1 0) (λ e. cond (is_some (budgeted e)) 1 0) history (λ e. made_few campaign (budgeted e))
 
--- the entry may come behind the campaigns so far
+-- the entry may come after the campaigns so far
 pub may_come : (cs : List Campaign) (limits : DayLimits) (history : List Entry) (e : Entry) → MayFollow (terms_of (budgets_of cs) limits) history e → MayCome (campaign_rows cs history) e
 may_come cs limits history (Entry.Ask a) follows = tt
 may_come cs limits history (Entry.Win n) follows = tt
@@ -221,7 +221,7 @@ unchanged_front : (campaigns : ℕ) (front rest : List Entry) → IsUnchanged ca
 unchanged_front campaigns front rest none campaign below =
     omega (arith, none campaign below, sum_by-append (λ e. cond (changes_budget campaign e) 1 0) front rest)
 
--- what the rows tell
+-- what the rows say
 no_changes : (n : ℕ) → is_unchanged (Some n) ≡ true → n ≡ 0
 no_changes n h = eqb-true n 0 h
 
@@ -236,7 +236,7 @@ told_from history n (c ∷ cs) told (suc k) below =
     let same : n + suc k ≡ n + 1 + k = omega arith in
     ap (λ (m : ℕ). changes_in history m) same ∙ told_from history (n + 1) cs parts.1 k (omega arith)
 
--- where no row tells a change, the day has the record's budgets at each front of its history
+-- where no row says a change, the day has the record's budgets at each front of its history
 pub fronts_stay : (cs : List Campaign) (limits : DayLimits) (front rest : List Entry) → IsLegal (terms_of (budgets_of cs) limits) (front ++ rest) → list_all (λ (r : CampaignRow). is_unchanged r.changes) (campaign_rows cs (front ++ rest)) ≡ true → budgets_after (terms_of (budgets_of cs) limits) front ≡ row_budgets (campaign_rows cs (front ++ rest))
 fronts_stay cs limits front rest legal told =
     let terms : Terms = terms_of (budgets_of cs) limits in

@@ -62,7 +62,7 @@ gone_won history n c =
     let is : gone_in (history ++ Entry.Win n ∷ []) ≡ sum_by is_gone (noticed NoticeKind.Win n ws) = ap (sum_by is_gone) (awards_notice history NoticeKind.Win n c) in
     omega (arith, is, changed_sum is_gone (noticed_award NoticeKind.Win) n ws c.award c.known)
 
--- an award behind a moment
+-- an award after a moment
 abbrev after : ℕ → Award → Award
 after now w = cond (is_due now w) (expired_award w) w
 
@@ -126,7 +126,7 @@ committed_billed history n campaign c =
     let is : sum_by (held campaign) next ≡ sum_by (held campaign) (noticed NoticeKind.Bill n ws) = ap (sum_by (held campaign)) (awards_notice history NoticeKind.Bill n c) in
     omega (arith, is, was, opened, billed, held_sum ws campaign, held_sum next campaign, changed_sum (held campaign) (noticed_award NoticeKind.Bill) n ws w c.known)
 
--- where nothing is gone behind an entry, it moved no committed money, unless it is an ask
+-- where nothing is gone after an entry, it moved no committed money, unless it is an ask
 abbrev pub MovesNone : List Entry → Entry → Type 0
 MovesNone history (Entry.Ask a) = Unit {0}
 MovesNone history (Entry.Win n) = (campaign : ℕ) → committed (history ++ Entry.Win n ∷ []) campaign ≡ committed history campaign
@@ -144,7 +144,7 @@ moves_none terms history (Entry.Loss n) follows none = omega (arith, none, gone_
 moves_none terms history (Entry.Expire now) follows none = omega (arith, none, gone_expired history now, follows.ends)
 moves_none terms history (Entry.Budget k change budget) follows none = λ campaign. committed_budget history (change_of k change budget) campaign
 
--- rows whose awards are kept tell that none is gone
+-- rows whose awards are kept say that none is gone
 kept_end : (end : Option AwardEnd) → keeps_award (Some (end_told end)) ≡ true → gone_by end ≡ 0
 kept_end None h = refl
 kept_end (Some AwardEnd.Billed) h = refl

@@ -54,7 +54,7 @@ get_within [] k within = absurd (omega arith)
 get_within (x ∷ xs) zero within = refl
 get_within (x ∷ xs) (suc k) within = get_within xs k (omega arith)
 
--- what is found stands at the position
+-- what is found is at the position
 pub found_at : {X : Type 0} (p : X → Bool) (xs : List X) → find p xs ≡ option_and_then (slice_get xs) (position p xs)
 found_at {X} p xs = find_at p xs ∙ by (ltb (position_or_len p xs) (length xs)) refl
   where

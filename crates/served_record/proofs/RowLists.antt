@@ -1,4 +1,4 @@
--- The rows of entries: what they show of the history, that they may stand in a record, and whose awards they tell.
+-- The rows of entries: what they show of the history, that they may be in a record, and whose awards they say.
 use Rattle.std.proofs.Common.{◌≡◌, ℕ, zero, suc, ◌+◌, ◌-◌, ◌*◌, ◌<◌, ◌≤◌, ◌^◌, List, [], ◌∷◌, ◌++◌, map, length, drop, get_or, Bool, true, false, cond, ◌&&◌, refl, sym, ap, ap₂, ◌∙◌, subst, inl, inr, arith, is_some, Option, Some, None, option_map, option_and_then}
 use Rattle.std.specs.List.{All, cons_option, find, position, range_with_len, slice_get}
 use Rattle.std.specs.Option.{ForSome, option_map_or}
@@ -185,7 +185,7 @@ at_back awards n one two at i w is =
     subst (λ (k : ℕ). slice_get awards k ≡ Some w) (omega arith)
     (at (length one + i) w (get-append_right one two (length one + i) (omega arith) ∙ (ap (slice_get two) (omega arith) ∙ is)))
 
--- what stands at a place of a list that is mapped
+-- what is at a place of a list that is mapped
 get_mapped : {X Y : Type 0} (f : X → Y) (xs : List X) (k : ℕ) (x : X) (d : Y) → slice_get xs k ≡ Some x → get_or (map f xs) k d ≡ f x
 get_mapped f [] k x d is = cc
 get_mapped {X} f (y ∷ xs) zero x d is = ap f (ap unwrapped is)
@@ -207,7 +207,7 @@ none_left : (mine : List Award) → map award_charge mine ≡ [] → mine ≡ []
 none_left [] h = refl
 none_left (w ∷ ws) h = absurd (let l : length (map award_charge (w ∷ ws)) ≡ 0 = ap length h in omega arith)
 
--- the rows of impressions, beside the awards that they tell
+-- the rows of impressions, beside the awards that they say
 told_for : (awards : List Award) (n : ℕ) (a : Ask) (imps : List ℕ) (mine : List Award) → map award_charge mine ≡ charges_for a imps → At awards n mine → Told (rows_for awards n a imps) mine
 told_for awards n a [] [] h at = refl
 told_for awards n a [] (w ∷ ws) h at = absurd (let l : length (map award_charge (w ∷ ws)) ≡ 0 = ap length h in omega arith)
@@ -262,7 +262,7 @@ told_by awards n (Entry.Loss m) mine h at = none_left mine h
 told_by awards n (Entry.Expire now) mine h at = none_left mine h
 told_by awards n (Entry.Budget k change budget) mine h at = none_left mine h
 
--- the rows of entries, beside the awards that they tell
+-- the rows of entries, beside the awards that they say
 pub told_in : (awards : List Award) (n : ℕ) (es : List Entry) (mine : List Award) → map award_charge mine ≡ charges_in es → At awards n mine → Told (rows_in awards n es) mine
 told_in awards n [] mine h at = none_left mine h
 told_in awards n (e ∷ es) mine h at =

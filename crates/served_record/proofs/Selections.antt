@@ -95,13 +95,13 @@ is_decided_not : (o : Offer) → (b : Bool) → is_decided o.reason ≡ b → b 
 is_decided_not o b is holds admitted =
     both_ways (is_decided o.reason) (ap is_decided admitted) (is ∙ holds)
 
--- an ask as it stands settled behind some entries, under these budgets
+-- an ask as it is settled after some entries, under these budgets
 pub record StandsBy (budgets : List Units) (before : List Entry) (a : Ask) : Type 0 where
   pub offers : a.offers ≡ settled_offers budgets (committed before) (undecided a).offers
   pub awarded : (place : ℕ) (o : Offer) → slice_get a.offers place ≡ Some o
       → (o.reason ≡ AWARDED) ↔ (chosen_at budgets (standing_at budgets (committed before) (undecided a).offers o.imp) (undecided a).offers o.imp ≡ Some place)
 
--- the budgets behind the entries may be said in other words
+-- the budgets after the entries may be said in other words
 pub stands_by : (terms : Terms) (before : List Entry) (a : Ask) (budgets : List Units) → budgets_after terms before ≡ budgets → StandsSettled terms before a → StandsBy budgets before a
 stands_by terms before a budgets same s =
     let own : StandsBy (budgets_after terms before) before a = record { offers = s.offers; awarded = s.awarded } in
@@ -128,7 +128,7 @@ none_admitted budgets before a s =
     let within : k < length was = omega (arith, length-settled budgets (committed before) was) in
     subst NotAdmitted (sym (settled_at budgets (committed before) was k d within)) (reason_decided budgets (committed before) was k (get_or was k d)))
 
--- what the campaigns stand at for an impression of an ask behind some entries
+-- what the campaigns have committed for an impression of an ask after some entries
 abbrev pub standing_for : List CampaignRow → List Entry → Ask → ℕ → Standing
 standing_for cs before a imp = standing_at (row_budgets cs) (committed before) (undecided a).offers imp
 

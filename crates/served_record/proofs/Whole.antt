@@ -1,4 +1,4 @@
--- The rows of a whole history: what a record says of it, and that it may stand in a record.
+-- The rows of a whole history: what a record says of it, and that it may be in a record.
 use Rattle.std.proofs.Common.{◌≡◌, ℕ, zero, suc, ◌<◌, ◌≤◌, List, [], ◌∷◌, map, length, get_or, refl, sym, ap, ap₂, ◌∙◌, subst, arith, min, Some}
 use Rattle.std.specs.List.{All, enumerate_from, slice_get, sum_by}
 use Rattle.std.proofs.lemmas.List.{length-map}
@@ -83,7 +83,7 @@ row_sound campaigns row f e m = record {
   ended = e;
 }
 
--- the rows may stand in a record of the day
+-- the rows may be in a record of the day
 pub rows_sound : (day : List ℕ) (campaigns : List Campaign) (cs : List CampaignRow) (history : List Entry) (rows : List ImpRow) → IsHeading day cs → cs ≡ campaign_rows campaigns history → IsHistoryOf campaigns history → rows ≡ rows_in (awards_of history) 0 history → All IsNamed rows → IsSound 2 day cs rows
 rows_sound day campaigns cs history rows o own_is h is named =
     let terms = terms_of (budgets_of campaigns) h.limits in

@@ -64,7 +64,7 @@ each_in f history = flat_map (λ e. option_map_or (each_of f) (asked e) []) hist
 abbrev pub impressions_in : List Entry → List Impression
 impressions_in history = each_in impression_of history
 
--- how a record tells the end of an award: an award without an end is live
+-- how a record says the end of an award: an award without an end is live
 -- Example: of four impressions with chosen places 0, none, 1, 0 the ends `billed`, `-`, `expired`, `live` are
 -- those of awards 0, 1 and 2
 abbrev pub end_told : Option AwardEnd → End

@@ -125,11 +125,11 @@ opened_row c = record { seat = c.seat; cid = c.cid; budget = c.budget; changes =
 abbrev pub opened_rows : List Campaign → List CampaignRow
 opened_rows campaigns = map opened_row campaigns
 
--- a campaign behind a change of its budget
+-- a campaign after a change of its budget
 abbrev pub rebudgeted : Units → CampaignRow → CampaignRow
 rebudgeted budget row = record row { budget = budget; changes = option_map (λ n. n + 1) row.changes }
 
--- the campaigns behind an entry
+-- the campaigns after an entry
 abbrev pub rows_after : Entry → List CampaignRow → List CampaignRow
 rows_after (Entry.Ask a) rows = rows
 rows_after (Entry.Win n) rows = rows
@@ -142,13 +142,13 @@ rows_after (Entry.Budget campaign change budget) rows = changed_at (rebudgeted b
 abbrev pub MayChange : CampaignRow → Type 0
 MayChange row = ForSome row.changes (λ n. n + 1 < 2 ^ 32)
 
--- a change may come behind these campaigns
+-- a change may come after these campaigns
 pub record IsChange (rows : List CampaignRow) (campaign : ℕ) (budget : Units) : Type 0 where
   pub known : campaign < length rows
   pub budget_is : IsBudget budget
   pub few : All MayChange rows
 
--- the entry may come behind these campaigns
+-- the entry may come after these campaigns
 abbrev pub MayCome : List CampaignRow → Entry → Type 0
 MayCome rows (Entry.Ask a) = Unit {0}
 MayCome rows (Entry.Win n) = Unit {0}

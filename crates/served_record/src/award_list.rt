@@ -24,7 +24,7 @@ pub(crate) fn awards_in(alloc: Global, entries: &[Entry]) -> Result<Awards, OutO
     Ok(awards)
 }
 
-/// Adds an entry, which stands at that place.
+/// Adds an entry, which is at that place.
 fn add(awards: &mut Awards, place: u32, entry: &Entry) -> Result<(), OutOfMemory>
     requires { Fits awards.old.awards entry.now }
     ensures { OnOk result (awards.new.awards ≡ awards_after place entry.now awards.old.awards) }
@@ -114,7 +114,7 @@ fn expire(awards: &mut Awards, now: u64)
     while expire_first(awards, now) {}
 }
 
-/// Ends the first award that the moment ends, and tells whether there was one.
+/// Ends the first award that the moment ends, and says whether there was one.
 fn expire_first(awards: &mut Awards, now: u64) -> bool
     ensures some { result ≡ is_some (first_due now awards.old.awards) }
     ensures awards { awards.new.awards ≡ expired_at (first_due now awards.old.awards) awards.old.awards }

@@ -82,7 +82,7 @@ fn row_of(alloc: Global, campaign: &Campaign) -> Result<CampaignRow, OutOfMemory
     })
 }
 
-/// Brings the campaigns behind an entry.
+/// Brings the campaigns after an entry.
 fn follow(rows: &mut Vec<CampaignRow>, entry: &Entry)
     requires { MayCome rows.old.items entry.now }
     ensures { rows.new.items ≡ rows_after entry.now rows.old.items }
@@ -101,7 +101,7 @@ fn follow(rows: &mut Vec<CampaignRow>, entry: &Entry)
     }
 }
 
-/// Brings a campaign behind a change of its budget.
+/// Brings a campaign after a change of its budget.
 fn rebudget(row: &mut CampaignRow, budget: Units)
     requires { MayChange row.old }
     ensures { row.new ≡ rebudgeted budget row.old }

@@ -4,7 +4,7 @@
 //! offers, and how the award of each ended. `close_day` gives the certificate beside it, whose bound no assignment of
 //! the day's impressions passes.
 //!
-//! Stands on `adx_units`, `campaign_book`, `formats`, `deal_floor`, `allocator_core`, `notice_book`, `day_rules`,
+//! Uses `adx_units`, `campaign_book`, `formats`, `deal_floor`, `allocator_core`, `notice_book`, `day_rules`,
 //! `day_machine`, `bid_record`, `dual_cert` and `day_close`.
 #![tactic(auto)]
 

@@ -82,7 +82,7 @@ fn add_ask(alloc: Global, rows: &mut Rows, ask: &Ask, awards: &Awards) -> Result
     Ok(())
 }
 
-/// How many awards a row tells: one where it has a chosen offer.
+/// How many awards a row has: one where it has a chosen offer.
 fn awards_told(row: &ImpRow) -> u32
     ensures { result ≡ (if is_some row.now.chosen then 1 else 0) }
 {
@@ -191,7 +191,7 @@ fn end_of(awards: &Awards, n: u32) -> Option<End>
     awards.get(n).map(|award| told(award.end))
 }
 
-/// How a record tells the end of an award.
+/// How a record says the end of an award.
 fn told(end: Option<AwardEnd>) -> End
     ensures { result ≡ end_told end }
 {

@@ -1,4 +1,4 @@
--- The campaigns behind the entries so far.
+-- The campaigns after the entries so far.
 use Rattle.std.proofs.Common.{◌≡◌, take}
 use Rattle.std.specs.List.{All}
 use Rattle.bid_record.specs.Records.{IsCampaign}

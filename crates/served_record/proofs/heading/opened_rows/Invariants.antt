@@ -1,4 +1,4 @@
--- The rows so far and those of the campaigns behind are the rows of all.
+-- The rows so far and those of the campaigns after are the rows of all.
 use Rattle.std.proofs.Common.{◌≡◌, ◌++◌, drop}
 use Rattle.std.specs.List.{All}
 use Rattle.bid_record.specs.Records.{IsCampaign}
