@@ -1,4 +1,4 @@
--- What was asked and what stands, piece by piece.
+-- What was asked and what is left, piece by piece.
 use Rattle.std.proofs.Common.{◌≡◌, inl, inr, ℕ, ◌+◌, ◌<◌, List, [], ◌∷◌, ◌++◌, length, take, refl, sym, ap, ◌∙◌, subst, append_assoc, append-nil, Option, Some, None, option_map, IfSome, IsErr, Result, Ok, Err, true, false, arith}
 use Rattle.std.proofs.Math.Seq.{take-append_seam}
 use Rattle.adx_io.specs.Streams.{WhereTold}
@@ -76,7 +76,7 @@ some_front (Some a) (Some b) front rest piece parts asks = (
   asks ∙ ap (λ (f : List ℕ). with_now a (option_map (asking f) a.now)) (sym (take-append_seam front rest) ∙ ap (take (length front)) parts),
 )
 
--- a start, and the pieces asked behind it
+-- a start, and the pieces asked after it
 pub failed_start : (o n : Option Exchanges) (host : List ℕ) (port : ℕ) (request : List ℕ) (e : Failed) → WhereTold o n (Begins host port (Err e)) → WhereTold o n (AskedIn host port request (Err e))
 failed_start None n host port request e begins = begins
 failed_start (Some o) None host port request e begins = absurd begins

@@ -1,4 +1,4 @@
--- What stands for itself in a form.
+-- What represents itself in a form.
 use Rattle.std.proofs.Common.{◌≡◌, ℕ, List, ap, ◌∙◌}
 use Rattle.std.specs.Prelude.{All, IsUtf8}
 use Rattle.std.specs.Str.Lossy.{utf8_lossy}

@@ -29,7 +29,7 @@ from_tapes None n P Q from told = told
 from_tapes (Some s) None P Q from told = told
 from_tapes (Some s) (Some t) P Q from told = from s t told
 
--- what the connection's tapes say, where the course is told
+-- what the connection's tapes say, where the course is reported
 over_courses : (o n : Option Course) (bytes : List ℕ) (P : Tape → Tape → Type 0) → WhereTold o n (TakesOver bytes) → WhereTold (tape_of o) (tape_of n) P → WhereTold o n (λ a b. WhereTold (tape_of (Some a)) (tape_of (Some b)) P)
 over_courses None n bytes P takes told = takes
 over_courses (Some o) None bytes P takes told = absurd takes

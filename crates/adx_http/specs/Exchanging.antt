@@ -19,13 +19,13 @@ pub record OneMore (host : List ℕ) (port : ℕ) (asked answered : List ℕ) (o
   pub more : exchanges_in new ≡ exchanges_in old ++ record { host = host; port = port; asked = asked; answered = answered } ∷ []
 
 -- A host was called and asked the request. After a fault it was asked some front of it, and where the start failed the
--- call may not stand at all.
+-- call may not have begun at all.
 abbrev pub AskedIn : List ℕ → ℕ → List ℕ → Result Unit Failed → Exchanges → Exchanges → Type 0
 AskedIn host port request (Ok done) old new = new ≡ record { past = exchanges_in old; now = Some (asking request (begun host port)) }
 AskedIn host port request (Err e) old new =
     ((n : ℕ) × OneMore host port (take n request) [] old new) ⊎ (exchanges_in new ≡ exchanges_in old)
 
--- the bytes of the connection that stands: those answered so far, and those left
+-- the bytes of the open connection: those answered so far, and those left
 abbrev pub tape_of : Option Course → Option Tape
 tape_of None = None
 tape_of (Some c) = option_map (λ (k : Connection). k.tape) c.now
@@ -49,7 +49,7 @@ pub record TakesOver (bytes : List ℕ) (old new : Course) : Type 0 where
   pub plan : new.plan ≡ old.plan
   pub tape : WhereTold (tape_of (Some old)) (tape_of (Some new)) (Passes bytes)
 
--- some bytes were answered in the exchange that goes on: the same ones in what is told of it and in the plan
+-- some bytes were answered in the exchange that goes on: the same ones in what is said of it and in the plan
 pub record Hears (old new : Option Exchanges) (before now : Option Course) : Type 0 where
   pub bytes : List ℕ
   pub talk : WhereTold old new (Answers bytes)
@@ -71,12 +71,12 @@ MadeOf hears hearer limit bytes (Err fault) = RefusesResponse limit bytes fault
 abbrev pub HeardSome : {H T : Type 0} → (H → ℕ → List ℕ → T → Type 0) → H → T → Type 0
 HeardSome hears hearer heard = (status : ℕ) × (body : List ℕ) × hears hearer status body heard
 
--- what is made of the bytes that the connection that stands has left
+-- what is made of the bytes that the open connection has left
 abbrev pub HeardFrom : {H T : Type 0} → (H → ℕ → List ℕ → T → Type 0) → H → ℕ → Result T HttpFault → Course → Course → Type 0
 HeardFrom hears hearer limit result old new = WhereTold (tape_of (Some old)) (tape_of (Some new)) (λ o n. MadeOf hears hearer limit o.left result)
 
 -- One exchange more, in which the host was asked the whole request. After a fault of the link it was asked some front of
--- it, and where the start failed the call may not stand at all.
+-- it, and where the start failed the call may not have begun at all.
 abbrev pub Exchanged : {T : Type 0} → List ℕ → ℕ → List ℕ → Result T HttpFault → Exchanges → Exchanges → Type 0
 Exchanged host port request (Err HttpFault.ReadFault) old new =
     ((n : ℕ) × (answered : List ℕ) × OneMore host port (take n request) answered old new) ⊎ (exchanges_in new ≡ exchanges_in old)
@@ -91,6 +91,6 @@ pub record Answered {H T : Type 0} (hears : H → ℕ → List ℕ → T → Typ
 abbrev pub IsFrontOf : List ℕ → List ℕ → Type 0
 IsFrontOf front bytes = (rest : List ℕ) × (bytes ≡ front ++ rest)
 
--- where one exchange more stands, what was answered in it is a front of the bytes that its start was to give
+-- where there is one exchange more, what was answered in it is a front of the bytes that its start was to give
 abbrev pub AnswersFront : Course → Exchanges → Exchanges → Type 0
 AnswersFront c old new = (e : Exchange) → exchanges_in new ≡ exchanges_in old ++ e ∷ [] → IsFrontOf e.answered (next_start c.plan).bytes

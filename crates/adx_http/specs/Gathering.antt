@@ -4,7 +4,7 @@ use Rattle.adx_io.specs.Streams.{Took, Rises}
 use Rattle.adx_http.specs.declared.gathered.Gathered.{Gathered}
 
 -- Of these bytes the sink took a front since it had taken the old ones. Where it didn't fail, the rest is gathered
--- and its count stands, and else its count rose.
+-- and its count stays, and else its count rose.
 pub record Holds (old : Option (List ℕ)) (before : ℕ) (held : Option (List ℕ)) (faults : ℕ) (g : Gathered) (bytes : List ℕ) : Type 0 where
   pub front : List ℕ
   pub rest : List ℕ

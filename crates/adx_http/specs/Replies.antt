@@ -1,4 +1,4 @@
--- The bytes of a reply (RFC 9112, sections 4 to 6). Which fields stand in it is this project's own.
+-- The bytes of a reply (RFC 9112, sections 4 to 6). Which fields are in it is this project's own.
 use Rattle.std.specs.Prelude.{ℕ, List, [], ◌++◌, length, decimal, unwrap_or, codes, Bool, not, ◌&&◌, ◌==◌, nat_lt, nat_le, if◌then◌else◌}
 use Rattle.http.specs.StatusCode.{reason_phrase}
 use Rattle.httparse.specs.Ascii.{crlf_bytes}
@@ -12,10 +12,11 @@ field_line name value = name ++ codes ": " ++ value ++ crlf_bytes
 abbrev pub when : Bool → List ℕ → List ℕ
 when b bytes = if b then bytes else []
 
--- a reply with status 204 has no type, no length and no body, and one to HEAD has no length and no body
+-- a reply with status 204 has no type
 abbrev pub has_type : Reply → Bool
 has_type r = r.json && not (r.status == 204)
 
+-- a reply to HEAD and one with status 204 have no body
 abbrev pub has_body : Reply → Bool
 has_body r = not r.head && not (r.status == 204)
 

@@ -14,7 +14,7 @@ is_question_mark b = b == 63
 abbrev pub is_end : ℕ → Bool
 is_end b = b == 47 || b == 63
 
--- the target without `http://`, in letters of either case, and what stands up to the next slash or question mark
+-- the target without `http://`, in letters of either case, and what comes up to the next slash or question mark
 abbrev pub rest_of : List ℕ → List ℕ
 rest_of target =
     if str_eq_ignore_ascii_case (take 7 target) (codes "http://")
@@ -42,9 +42,11 @@ abbrev pub first_of : {A : Type 0} → Option A → Bool → A → Option A
 first_of (Some earlier) is_named value = Some earlier
 first_of None is_named value = cond is_named (Some value) None
 
--- the value of the first pair with this name, which isn't decoded, and as text
+-- the value of the first pair with this name, which isn't decoded
 abbrev pub raw_value_of : List ℕ → List ℕ → Option (List ℕ)
 raw_value_of name query = option_map (λ (p : List ℕ × List ℕ). p.1) (find (has_name name) (raw_pairs query))
 
+-- the value of the first pair with this name, decoded and as text
+-- Example: of `a=1&b=x%20y&b=z` the value of `b` is `x y`.
 abbrev pub value_of : List ℕ → List ℕ → Option (List ℕ)
 value_of name query = option_map (λ (p : List ℕ × List ℕ). decoded p.1) (find (has_name name) (raw_pairs query))

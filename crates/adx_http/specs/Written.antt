@@ -3,7 +3,7 @@ use Rattle.std.specs.Prelude.{◌≡◌, ℕ, ◌≤◌, List, length, take, Opt
 use Rattle.adx_io.specs.Streams.{Took, Rises}
 use Rattle.adx_http.specs.declared.reply.WriteFault.{WriteFault}
 
--- the sink, where it tells its bytes, took all of these, or some front of them
+-- the sink, where it reports its bytes, took all of these, or some front of them
 abbrev pub Writes : Option (List ℕ) → Option (List ℕ) → List ℕ → Result Unit WriteFault → Type 0
 Writes old new bytes (Ok done) = Took old new bytes
 Writes old new bytes (Err fault) = (n : ℕ) × (n ≤ length bytes) × Took old new (take n bytes)

@@ -21,7 +21,7 @@ pub fn ask<L: Link>(link: &mut L, host: &str, port: u16, request: &[u8]) -> Resu
     put_whole(link, request)
 }
 
-/// Asks the whole piece over the connection that stands. After a fault some front of it was asked.
+/// Asks the whole piece over the open connection. After a fault some front of it was asked.
 fn put_whole<L: Link>(link: &mut L, piece: &[u8]) -> Result<(), Failed>
     ensures asks { WhereTold (L.exchanges link.old) (L.exchanges link.new) (AsksAll piece.now result) }
     ensures stands { WhereTold (L.course link.old) (L.course link.new) StandsAs }

@@ -41,7 +41,7 @@ pub fn exchange<L: Link, H: Hearer + Drop>(
     hear_answer::<L, H, Brand>(link, conn, hearer)
 }
 
-/// Reads the response that comes over the connection that stands.
+/// Reads the response that comes over the open connection.
 fn hear_answer<L: Link, H: Hearer + Drop, B: Lent>(
     link: &mut L,
     conn: &mut Conn,

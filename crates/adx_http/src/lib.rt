@@ -2,14 +2,14 @@
 //!
 //! `write_reply` puts exactly the bytes of a reply, which one definition states; after a fault of the sink it took some
 //! front of them. `read_target` says a target's path and query, `query_value` the first value of a name in a query, and
-//! `query_values` those of two names. No buffer and no offset stands in a contract.
+//! `query_values` those of two names. No buffer and no offset is in a contract.
 //!
 //! One exchange with another host over a link: it is called, asked, and what it answers is heard. `exchange` calls a
 //! host, asks it some bytes whole, and reads the HTTP response that comes, as `http_connection` reads it from any
 //! source; a `Hearer` makes of its status and body what it wants. The contract says what it did of each thing that a
-//! link tells: what it was asked and answered, and its plan.
+//! link reports: what it was asked and answered, and its plan.
 //!
-//! Stands on `adx_units`, `adx_io`, `http_connection`, `form_urlencoded`, `http`, `httparse`, `itoa`, `adx_links` and
+//! Uses `adx_units`, `adx_io`, `http_connection`, `form_urlencoded`, `http`, `httparse`, `itoa`, `adx_links` and
 //! `http_grammar`.
 #![tactic(auto)]
 

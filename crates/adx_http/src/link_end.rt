@@ -1,4 +1,4 @@
-//! A link that stands as a source.
+//! An open link as a source.
 ghost use Rattle.std.specs.Prelude.{◌≡◌};
 ghost use Rattle.adx_http.specs.Exchanging.{Hears};
 
@@ -6,7 +6,7 @@ use adx_io::{Failed, Source};
 use adx_links::Link;
 use std::marker::{Brand, Model, PhantomData};
 
-/// What a link told when it was lent. Each lending picks it.
+/// What a link reported when it was lent. Each lending picks it.
 pub(crate) trait Lent {
     ghost use Rattle.std.specs.Prelude.{Option};
     ghost use Rattle.adx_links.specs.Links.{Course, Exchanges};
@@ -24,8 +24,8 @@ impl Lent for Brand {
     ghost plan = { None };
 }
 
-/// A link that stands as a source of what is answered over its connection. Since it was lent, bytes were
-/// taken from it, and nothing else was done to it: a source tells nothing of what else it stands on, so
+/// An open link as a source of what is answered over its connection. Since it was lent, bytes were
+/// taken from it, and nothing else was done to it: a source reports nothing of what else it uses, so
 /// the type keeps that.
 #[derive(Drop)]
 pub(crate) struct LinkEnd<L: Link, B: Lent> {

@@ -18,7 +18,7 @@ pub struct Reply<'a> {
     pub json: bool,
     /// Whether the reply says the version of OpenRTB, 2.6.
     pub openrtb: bool,
-    /// Whether the connection closes behind the reply.
+    /// Whether the connection closes after the reply.
     pub close: bool,
     /// The methods that are allowed; nothing where the reply doesn't say so.
     pub allow: &'a [u8],
@@ -78,7 +78,7 @@ impl Reply<'_> {
     }
 }
 
-/// Gathers a field line, where it is to stand.
+/// Gathers a field line, where it is to be.
 fn push_field<K: Sink>(
     gathered: &mut Gathered,
     sink: &mut K,

@@ -16,7 +16,7 @@ use std::borrow::CowStr;
 pub struct Target<'a> {
     /// The path, not decoded; `/` where the target has none.
     pub path: &'a [u8],
-    /// What stands behind the first question mark, as `query_value` and `query_values` read it.
+    /// What comes after the first question mark, as `query_value` and `query_values` read it.
     pub query: &'a [u8],
 }
 
@@ -56,7 +56,7 @@ fn end_of_path(bytes: &[u8]) -> usize
     }
 }
 
-/// The target without `http://` and the authority behind it, where it begins so.
+/// The target without `http://` and the authority after it, where it begins so.
 fn without_authority(target: &[u8]) -> &[u8]
     ensures { result.now ≡ rest_of target.now }
 {
@@ -94,7 +94,7 @@ fn first_value<'a>(found: Option<&'a [u8]>, is_named: bool, value: &'a [u8]) -> 
     }
 }
 
-/// Whether bytes are ASCII that stands for itself in a form: none is a plus sign or begins an escape.
+/// Whether bytes are ASCII that represents itself in a form: none is a plus sign or begins an escape.
 fn are_plain(bytes: &[u8]) -> bool
     ensures plain { result ≡ true → All IsPlain bytes.now }
     ensures ascii { result ≡ true → All (λ b. b < 128) bytes.now }
@@ -104,7 +104,7 @@ fn are_plain(bytes: &[u8]) -> bool
         .all(|byte| *byte < 128 && *byte != b'+' && *byte != b'%')
 }
 
-/// A name or a value of a query as text. Most stand for themselves, which is seen at once.
+/// A name or a value of a query as text. Most represent themselves, which is seen at once.
 fn as_text(alloc: Global, bytes: &[u8]) -> Result<CowStr<'_, Global>, OutOfMemory>
     ensures { IfOk result (λ text. cow_str_bytes text ≡ decoded bytes.now) }
 {

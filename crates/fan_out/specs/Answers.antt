@@ -22,6 +22,7 @@ pub data Said : Type 0 where
   refused : Refusal → Said
   link_fault : Said
 
+-- what a bidder's answer says, wherever it lies in memory
 abbrev pub said_by : BidderAnswer → Said
 said_by (BidderAnswer.Bids a) = bids (seen_answer a)
 said_by BidderAnswer.NoBid = no_bid

@@ -34,7 +34,7 @@ abbrev pub AsksNothing : Exchanges → Exchanges → Type 0
 AsksNothing old new = exchanges_in new ≡ exchanges_in old
 
 -- What a bidder was asked. Where its link failed it may have been asked a front of the request, and where the start
--- failed the call may not stand at all; where memory was refused it was asked all of it, or was not called.
+-- failed the call may not have begun at all; where memory was refused it was asked all of it, or was not called.
 abbrev pub Asks : Place → List ℕ → Outcome → Exchanges → Exchanges → Type 0
 Asks p request (Ok link_fault) old new = AsksFront p request old new ⊎ AsksNothing old new
 Asks p request (Ok no_bid) old new = AsksBidder p request old new
@@ -42,7 +42,7 @@ Asks p request (Ok (bids a)) old new = AsksBidder p request old new
 Asks p request (Ok (refused r)) old new = AsksBidder p request old new
 Asks p request (Err e) old new = AsksBidder p request old new ⊎ AsksNothing old new
 
--- One start of the link's plan is over, and what is told of the bidder is what the bytes say that this start answers.
+-- One start of the link's plan is over, and what is said of the bidder is what the bytes say that this start answers.
 -- Where memory was refused the link may not have been started.
 abbrev pub Follows : ℕ → List ℕ → Outcome → Course → Course → Type 0
 Follows limit id (Ok link_fault) old new = new.plan ≡ after_start old.plan
@@ -59,17 +59,17 @@ IsLost (Ok (bids a)) = ⊥
 IsLost (Ok (refused r)) = ⊥
 IsLost (Err e) = ⊤
 
--- where the plan lets the start fail, or the first put, nothing is told of the bidder
+-- where the plan lets the start fail, or the first put, nothing is said of the bidder
 abbrev pub IsPlanned : Outcome → Course → Type 0
 IsPlanned outcome c = (FailsStart c → IsLost outcome) × (IsTrue (next_start c.plan).put_fails → IsLost outcome)
 
--- a fault of the link is told only where its count rose, and none is passed over
+-- a fault of the link is reported only where its count rose, and none is passed over
 pub record IsCaused (before now : ℕ) (outcome : Outcome) : Type 0 where
   pub later : before ≤ now
   pub failed : outcome ≡ Ok link_fault → Rises before now
   pub passed : outcome ≢ Ok link_fault → now ≡ before
 
--- what is told is of the answer
+-- what is said is of the answer
 abbrev pub IsOwn : Outcome → Type 0
 IsOwn (Ok said) = IsOfAnswer said
 IsOwn (Err e) = ⊤

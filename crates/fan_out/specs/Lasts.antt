@@ -9,7 +9,7 @@ use Rattle.fan_out.specs.declared.answer.Refusal.{Refusal}
 use Rattle.fan_out.specs.declared.lane.Lane.{Lane}
 use Rattle.fan_out.specs.Lanes.{Outcome, outcome_of}
 
--- what is told of a bidder whose answer was heard
+-- what is said of a bidder whose answer was heard
 abbrev pub answer_of : Result (Result BidderAnswer OutOfMemory) HttpFault → Result BidderAnswer OutOfMemory
 answer_of (Ok heard) = heard
 answer_of (Err HttpFault.ReadFault) = Ok BidderAnswer.LinkFault
@@ -28,7 +28,7 @@ abbrev pub AreTaken : {L : Type 0} → List (Lane L) → List BidderAnswer → T
 AreTaken ls answers = map (λ (l : Lane _). l.last) ls ≡ map (λ a. Some (Ok a)) answers
 
 module _ {L : Type 0} (Works : Lane L → Lane L → Outcome → Type 0) where
-  -- the lane was worked, and what its work came to stands in it
+  -- the lane was worked, and what its work came to is in it
   pub record Leaves (old new : Lane L) : Type 0 where
     pub answer : Result BidderAnswer OutOfMemory
     pub last : new.last ≡ Some answer

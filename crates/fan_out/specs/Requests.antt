@@ -1,4 +1,4 @@
--- What a bidder is sent (RFC 9112, sections 3 to 6; OpenRTB 2.6, section 2.2). Which fields stand in it is this project's
+-- What a bidder is sent (RFC 9112, sections 3 to 6; OpenRTB 2.6, section 2.2). Which fields are in it is this project's
 -- own.
 use Rattle.std.specs.Prelude.{ℕ, List, ◌++◌, length, decimal, codes}
 use Rattle.httparse.specs.Ascii.{crlf_bytes}
@@ -17,7 +17,7 @@ host_and_port p = p.host ++ codes ":" ++ decimal p.port
 abbrev pub openrtb_lines : List ℕ
 openrtb_lines = field_line (codes "Content-Type") (codes "application/json") ++ field_line (codes "x-openrtb-version") (codes "2.6")
 
--- the end of the head: the connection closes behind the answer
+-- the end of the head: the connection closes after the answer
 abbrev pub last_lines : List ℕ
 last_lines = field_line (codes "Connection") (codes "close") ++ crlf_bytes
 

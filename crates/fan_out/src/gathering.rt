@@ -14,7 +14,7 @@ use std::marker::{Send, Sync};
 use std::thread;
 use std::thread::Threads;
 
-/// Puts a lane's answer behind those of the lanes before.
+/// Puts a lane's answer after those of the lanes before.
 fn put_behind(
     answers: Result<Vec<BidderAnswer>, OutOfMemory>,
     last: Option<Result<BidderAnswer, OutOfMemory>>,
@@ -103,7 +103,7 @@ fn gather_lanes_in_turn<L: Link>(
 }
 
 /// Asks every lane's bidder at the same time, each in a thread of its own where one can be started, and gives the
-/// answers in the order of the lanes. After want of memory the lanes keep their places, and their links and conns stand
+/// answers in the order of the lanes. After lack of memory the lanes keep their places, and their links and conns are
 /// as the work left them.
 pub fn gather<R: Threads + Sync, L: Link + Send>(
     rt: &R,
@@ -120,7 +120,7 @@ pub fn gather<R: Threads + Sync, L: Link + Send>(
 }
 
 /// Asks every lane's bidder, one after the other and without threads, and gives the answers in the order of the lanes.
-/// After want of memory the lanes keep their places, and their links and conns stand as the work left them.
+/// After lack of memory the lanes keep their places, and their links and conns are as the work left them.
 pub fn gather_in_turn<L: Link>(
     alloc: Global,
     lanes: &mut Vec<Lane<L>>,

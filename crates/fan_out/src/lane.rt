@@ -27,7 +27,7 @@ pub struct Lane<L> {
     pub last: Option<Result<BidderAnswer, OutOfMemory>>,
 }
 
-/// What is told of a bidder whose answer was heard.
+/// What is said of a bidder whose answer was heard.
 fn answer_of(
     heard: Result<Result<BidderAnswer, OutOfMemory>, HttpFault>,
 ) -> Result<BidderAnswer, OutOfMemory>

@@ -4,7 +4,7 @@
 //! the bytes that its own bidder answered; `gather_in_turn` does the same without threads. A fault of one bidder takes
 //! out that bidder alone.
 //!
-//! Stands on `adx_links` for links, on `adx_http` for an exchange with a host, and on `rtb_response` for answers.
+//! Uses `adx_links` for links, `adx_http` for an exchange with a host, and `rtb_response` for answers.
 #![tactic(auto)]
 
 mod answer;

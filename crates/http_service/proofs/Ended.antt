@@ -16,7 +16,7 @@ use Rattle.http_service.specs.Replies.{refusal_bytes, reply_to}
 use Rattle.http_service.proofs.Fronts.{requests_front}
 use Rattle.http_service.specs.ConnectionRuns.{BreaksReply, Come, IsLast, IsOwnEnd, connection_by, result_by}
 
--- what was taken of an input that is these messages, of which some bytes wait behind a buffer
+-- what was taken of an input that is these messages, of which some bytes wait after a buffer
 came : (limit : ℕ) (input beyond pending left : List ℕ) (ms : List Request) → AreRequests limit input ms (beyond ++ (pending ++ left)) → (taken : List ℕ) × (input ≡ taken ++ left) × AreRequests limit (taken ++ left) ms ((beyond ++ pending) ++ left)
 came limit input beyond pending left ms are =
     let split : AreRequests limit input ms ((beyond ++ pending) ++ left) = subst (λ (rest : List ℕ). AreRequests limit input ms rest) (sym (append_assoc beyond pending left)) are in
@@ -41,7 +41,7 @@ module _ {S : Type 0} (answers : Answering S) (gives_up : GivingUp S) (limit mos
   abbrev behind : Option Tape
   behind = tape_behind pending told
 
-  -- the connection ended so, as http_service tells it
+  -- the connection ended so, as http_service says it
   abbrev Ended_so : ConnEnd → Type 0
   Ended_so end = EndsWith answers gives_up limit tape behind held held_now s after end
 

@@ -1,4 +1,4 @@
--- Messages that stand before some bytes stand there without them.
+-- Messages that come before some bytes are there without them.
 use Rattle.std.proofs.Common.{◌≡◌, ℕ, List, [], ◌∷◌, ◌++◌, refl, sym, ap, ◌∙◌, append_assoc, subst}
 use Rattle.std.specs.List.{flat_map}
 use Rattle.httparse.specs.Grammar.{print_chunk_line}

@@ -26,7 +26,7 @@ kept_last (m ∷ ms) last all = kept_last ms last (All-tail IsKept m (ms ++ last
 not_closed : (ms : List Request) → All IsKept ms → CloseLast ms → ⊥
 not_closed ms all close = cc (sym (kept_last close.before close.last (subst (All IsKept) close.split all)) ∙ close.closes)
 
--- what stands before a message stands before the last one
+-- what comes before a message comes before the last one
 front_of : (p : List Request) (m : Request) (ms before : List Request) (last : Request) → p ++ m ∷ ms ≡ before ++ last ∷ [] → (q : List Request) × (before ≡ p ++ q)
 front_of [] m ms before last is = (before, refl)
 front_of (x ∷ p) m ms [] last is = absurd (omega (arith, ap length is, length-append p (m ∷ ms)))
@@ -37,7 +37,7 @@ front_of (x ∷ p) m ms (b ∷ before) last is =
     (f.0, ap (λ (l : List Request). b ∷ l) f.1 ∙ ap (λ (y : Request). y ∷ (p ++ f.0)) (sym same))
 
 module _ (limit : ℕ) where
-  -- why no more is read behind these messages, and what is written then beside their replies: nothing, or the reply to a
+  -- why no more is read after these messages, and what is written then beside their replies: nothing, or the reply to a
   -- message that is refused
   abbrev IsQuiet : List Request → List ℕ → Type 0
   IsQuiet ms rest = (GoOn ms × ((rest ≡ []) ⊎ RefusesRequest limit rest HttpFault.Cut)) ⊎ (CloseLast ms ⊎ AreSpent ms)
@@ -48,11 +48,11 @@ module _ (limit : ℕ) where
   abbrev Ends : List Request → List ℕ → List ℕ → Type 0
   Ends ms rest tail = (IsQuiet ms rest × (tail ≡ [])) ⊎ IsRefused ms rest tail
 
-  -- no message comes behind those that keep their connection
+  -- no message comes after those that keep their connection
   abbrev ComesNone : List ℕ → Type 0
   ComesNone rest = (rest ≡ []) ⊎ ((fault : HttpFault) × RefusesRequest limit rest fault)
 
-  -- where messages are read behind some, those keep the connection, and are fewer than may come
+  -- where messages are read after some, those keep the connection, and are fewer than may come
   abbrev GoesOn : List Request → Type 0
   GoesOn p = All IsKept p × (length p < MESSAGE_LIMIT)
 
@@ -84,7 +84,7 @@ module _ (limit : ℕ) where
   comes_some rest m between is (inl none) = let e : request m between ≡ ending = has_one_request limit rest (request m between) ending is none in cc e
   comes_some rest m between is (inr (fault, refuses)) = let e : request m between ≡ refusal fault = has_one_request limit rest (request m between) (refusal fault) is refuses in cc e
 
-  -- read on behind some messages
+  -- read on after some messages
   behind : (p : List Request) (m : Request) (ms : List Request) (rest tail : List ℕ) → Ends (p ++ m ∷ ms) rest tail → Ends ((p ++ m ∷ []) ++ ms) rest tail
   behind p m ms rest tail = subst (λ (l : List Request). Ends l rest tail) (sym (append_assoc p (m ∷ []) ms))
 

@@ -27,7 +27,7 @@ runs_none answers limit ahead tape held s is = record {
   brings = told_same tape (λ o n. AreRequests limit o.left [] (ahead ++ n.left)) (λ t. ap (λ (a : List ℕ). a ++ t.left) (sym is));
 }
 
--- what is brought behind the messages so far
+-- what is brought after the messages so far
 pub brings_more : (limit : ℕ) (ms : List Request) (m : Request) (ahead ahead_now : List ℕ) (tape mid tape_now : Option Tape) → WhereTold tape mid (λ o n. AreRequests limit o.left ms (ahead ++ n.left)) → BringsOne limit ahead ahead_now mid tape_now m
     → WhereTold tape tape_now (λ o n. AreRequests limit o.left (ms ++ m ∷ []) (ahead_now ++ n.left))
 brings_more limit ms m ahead ahead_now tape mid tape_now are one =
@@ -61,7 +61,7 @@ brings_last limit ms ahead tape tape_now fits w =
 pub brings_to : (limit : ℕ) (ms : List Request) (m : Request) (ahead ahead_now : List ℕ) (tape mid tape_now : Option Tape) → WhereTold tape mid (λ o n. AreRequests limit o.left ms (ahead ++ n.left)) → BringsOne limit ahead ahead_now mid tape_now m → BringsLast limit tape tape_now (ms ++ m ∷ [])
 brings_to limit ms m ahead ahead_now tape mid tape_now are one = brings_last limit (ms ++ m ∷ []) ahead_now tape tape_now one.fits (brings_more limit ms m ahead ahead_now tape mid tape_now are one)
 
--- what the sink took behind the replies so far
+-- what the sink took after the replies so far
 served_more : {S : Type 0} (answers : Answering S) (ms : List Request) (m : Request) (held mid held_now : Option (List ℕ)) (s between now : S) → Served answers ms held mid s between → Answers answers Took mid held_now between now m → Served answers (ms ++ m ∷ []) held held_now s now
 served_more answers ms m held mid held_now s between now served one = record {
   out = Served.out served ++ reply_to m (Answers.answer one) (Answers.body one);
@@ -98,7 +98,7 @@ goes_on answers limit count ahead tape tape_now held held_now s now r below = re
   few = subst (λ (n : ℕ). n < MESSAGE_LIMIT) (sym (Runs.many r)) below;
 }
 
--- a refusal behind the messages so far
+-- a refusal after the messages so far
 refuses : {S : Type 0} (answers : Answering S) (limit count : ℕ) (ahead : List ℕ) (tape mid tape_now : Option Tape) (held held_mid held_now : Option (List ℕ)) (s between now : S) (fault : HttpFault)
     → Runs answers limit count ahead tape mid held held_mid s between → count < MESSAGE_LIMIT → now ≡ between → WritesRefusal Took held_mid held_now fault → Finds ahead mid tape_now (λ rest. RefusesRequest limit rest fault)
     → Refuses answers limit tape tape_now held held_now s now fault
@@ -128,7 +128,7 @@ fails_refusing answers limit count ahead tape mid tape_now held held_mid held_no
   brings = brings_found limit r.ms ahead tape mid tape_now (λ rest. RefusesRequest limit rest fault) r.brings found;
 }
 
--- the connection ended behind the messages so far
+-- the connection ended after the messages so far
 pub runs_end : {S : Type 0} (answers : Answering S) (gives_up : GivingUp S) (limit count : ℕ) (ahead ahead_now : List ℕ) (tape mid tape_now : Option Tape) (held held_mid held_now : Option (List ℕ)) (s between now : S) (end : ConnEnd)
     → Runs answers limit count ahead tape mid held held_mid s between → count < MESSAGE_LIMIT → StepGives answers gives_up limit ahead ahead_now mid tape_now held_mid held_now between now (Some end)
     → EndsWith answers gives_up limit tape tape_now held held_now s now end

@@ -17,7 +17,7 @@ use Rattle.http_service.specs.Connections.{Answering, GivingUp}
 use Rattle.http_service.specs.Replies.{fault_status}
 use Rattle.http_service.specs.Steps.{BringsOne, FaultEnds, Finds, MessageEnds, StepGives, WritesRefusal}
 
--- some request that a message shows, where the source doesn't tell its bytes
+-- some request that a message shows, where the source doesn't report its bytes
 method_for : Verb → List ℕ
 method_for Verb.Get = codes "GET"
 method_for Verb.Head = codes "HEAD"
@@ -50,7 +50,7 @@ shows_some : (m : Message) → (r : Request) × Shows m r
 unfolding request_for
 shows_some m = (request_for m, record { verb = verb_back m.verb; target = refl; body = refl; keep = keep_back m.target.now (method_for m.verb) m.keep })
 
--- a message was read: it is the one that the bytes bring, where they are told
+-- a message was read: it is the one that the bytes bring, where they are reported
 message_step : {S : Type 0} (answers : Answering S) (gives_up : GivingUp S) (limit : ℕ) (ahead ahead_now : List ℕ) (tape tape_now : Option Tape) (held held_now : Option (List ℕ)) (s now : S) (m : Message) (end : Option ConnEnd)
     → length ahead_now ≤ room_of limit → WhereTold tape tape_now (λ o n. GivesMessage limit (ahead ++ o.left) (Ok (Some m)) (ahead_now ++ n.left))
     → ((r : Request) → Shows m r → MessageEnds answers gives_up held held_now s now r end)

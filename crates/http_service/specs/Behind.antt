@@ -20,6 +20,6 @@ IsLeftAtEnd ConnEnd.WriteFault rest left = IsLeftButOnePiece rest left
 IsLeftAtEnd ConnEnd.Spent rest left = IsLeftButOnePiece rest left
 IsLeftAtEnd ConnEnd.OutOfMemory rest left = IsLeftButOnePiece rest left
 
--- the same where the source tells its bytes, of what comes in the connection
+-- the same where the source reports its bytes, of what comes in the connection
 abbrev pub IsLeftBehind : ConnEnd → Option Tape → Option Tape → Type 0
 IsLeftBehind end behind tape = WhereTold behind tape (λ rest now. IsLeftAtEnd end rest.left now.left)

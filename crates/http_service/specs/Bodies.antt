@@ -9,7 +9,7 @@ use Rattle.http_service.specs.declared.answer.Methods.{Methods}
 abbrev pub plain : ℕ → Answer
 plain status = record { status = status; openrtb = false; allow = Methods.Unsaid }
 
--- the answer to a method that the methods told here don't include (RFC 9110, section 15.5.6)
+-- the answer to a method that the methods said here don't include (RFC 9110, section 15.5.6)
 abbrev pub disallowed : Methods → Answer
 disallowed methods = record { status = 405; openrtb = false; allow = methods }
 

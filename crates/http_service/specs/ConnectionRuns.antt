@@ -39,15 +39,15 @@ abbrev pub most_beyond : ℕ
 most_beyond = room_of REQUEST_LIMIT + CHUNK
 
 -- The bytes that were taken and those that are left are these messages, and then a rest of which this is so. What was
--- taken beyond the messages stands first in it.
+-- taken beyond the messages comes first in it.
 abbrev pub Come : ℕ → List ℕ → List ℕ → List Request → (List ℕ → List ℕ → Type 0) → Type 0
 Come limit taken left ms Rest = (beyond : List ℕ) × AreRequests limit (taken ++ left) ms (beyond ++ left) × Rest beyond (beyond ++ left)
 
--- how a connection's last message was refused: behind it nothing is read
+-- how a connection's last message was refused: after it nothing is read
 abbrev pub IsRefusedFor : ℕ → HttpFault → List ℕ → List ℕ → Type 0
 IsRefusedFor limit fault beyond rest = RefusesRequest limit rest fault
 
--- a connection ends behind its last message: at most so many bytes were taken beyond it
+-- a connection ends after its last message: at most so many bytes were taken beyond it
 abbrev pub IsLast : ℕ → List ℕ → List ℕ → Type 0
 IsLast most beyond rest = length beyond ≤ most
 
@@ -58,7 +58,7 @@ IsAny beyond rest = Unit {0}
 -- A connection of a service that begins in the state `s` and is left in the state `now`. A body has at most `limit` bytes,
 -- and beyond the last message that ended a connection at most `most` bytes are taken.
 module _ {S : Type 0} (answers : Answering S) (gives_up : GivingUp S) (limit most : ℕ) (s now : S) where
-  -- Why no more is read of a connection: it ends behind a message that keeps it; behind one that doesn't; within a message;
+  -- Why no more is read of a connection: it ends after a message that keeps it; after one that doesn't; within a message;
   -- or as many came as it may bring.
   abbrev pub IsReadOut : List Request → List ℕ → List ℕ → Type 0
   IsReadOut ms taken left =
@@ -79,14 +79,14 @@ module _ {S : Type 0} (answers : Answering S) (gives_up : GivingUp S) (limit mos
       ((ms : List Request) × Replies answers s ms out now × IsReadOut ms taken left)
       ⊎ ((replies reply : List ℕ) × Refuses taken left replies reply × (out ≡ replies ++ reply))
 
-  -- the reply to the last message was being put behind those to all others
+  -- the reply to the last message was being put after those to all others
   abbrev pub BreaksReply : List ℕ → List ℕ → List ℕ → List ℕ → Type 0
   BreaksReply taken left put last =
       (before : List Request) × (m : Request) × (between : S) × (answer : Answer) × (body : List ℕ) × GoOn before
       × Replies answers s before put between × answers between m answer body now × (last ≡ reply_to m answer body)
       × Come limit taken left (before ++ m ∷ []) (IsLast most)
 
-  -- the replies to the last messages, which wait together and are at most so many, were being put behind those to all others
+  -- the replies to the last messages, which wait together and are at most so many, were being put after those to all others
   abbrev pub BreaksTogether : ℕ → List ℕ → List ℕ → List ℕ → List ℕ → Type 0
   BreaksTogether together taken left put last =
       (before waiting : List Request) × (between : S) × (length waiting ≤ together)
@@ -103,7 +103,7 @@ module _ {S : Type 0} (answers : Answering S) (gives_up : GivingUp S) (limit mos
 
   -- What a connection means, by how its run may end of its own, and by what was being put where the sink failed within the
   -- replies. Where the sink failed within the reply to a message that is refused, it took those to all messages before it.
-  -- Example: two requests and a sink that fails within the second reply: the first reply stands in the sink, and a
+  -- Example: two requests and a sink that fails within the second reply: the first reply is in the sink, and a
   -- front of the second.
   abbrev pub connection_by : (Outcome → Type 0) → (List ℕ → List ℕ → List ℕ → List ℕ → Type 0) → Meaning
   connection_by MayEnd Breaks = record {
@@ -116,7 +116,7 @@ module _ {S : Type 0} (answers : Answering S) (gives_up : GivingUp S) (limit mos
   }
 
   -- the same of a connection whose run is done at each such end, and whose replies are put one by one: all replies but the
-  -- last stood in the sink where it failed
+  -- last were in the sink where it failed
   abbrev pub connection : Meaning
   connection = connection_by (λ outcome. outcome ≡ Outcome.Done) BreaksReply
 

@@ -20,7 +20,7 @@ Answering S = S → Request → Answer → List ℕ → S → Type 0
 abbrev pub GivingUp : Type 0 → Type 1
 GivingUp S = S → Request → S → Type 0
 
--- what messages are replied, each in the state that those before it left, and the state behind the last
+-- what messages are replied, each in the state that those before it left, and the state after the last
 abbrev pub Replies : {S : Type 0} → Answering S → S → List Request → List ℕ → S → Type 0
 Replies answers s [] out now = (out ≡ []) × (now ≡ s)
 Replies {S = S} answers s (m ∷ ms) out now =
@@ -45,22 +45,22 @@ pub record AreSpent (ms : List Request) : Type 0 where
   pub kept : All (λ (m : Request). is_kept m.head ≡ true) ms
   pub many : length ms ≡ MESSAGE_LIMIT
 
--- the bytes that come, where the source tells them, are these messages, and then a rest of which this is so: what was
+-- the bytes that come, where the source reports them, are these messages, and then a rest of which this is so: what was
 -- taken beyond them, and what is left
 abbrev pub Brings : ℕ → Option Tape → Option Tape → List Request → (List ℕ → Type 0) → Type 0
 Brings limit tape tape_now ms Rest =
     WhereTold tape tape_now (λ before now. (beyond : List ℕ) × AreRequests limit before.left ms (beyond ++ now.left) × Rest (beyond ++ now.left))
 
--- the bytes that come, where the source tells them, begin with these messages; what was taken beyond them is at most what
+-- the bytes that come, where the source reports them, begin with these messages; what was taken beyond them is at most what
 -- a connection has room for
--- Example: a message that says `close`, and a gigabyte behind it: at most 163,840 bytes of that were taken (limit
+-- Example: a message that says `close`, and a gigabyte after it: at most 163,840 bytes of that were taken (limit
 -- 65,536).
 abbrev pub BringsLast : ℕ → Option Tape → Option Tape → List Request → Type 0
 BringsLast limit tape tape_now ms =
     WhereTold tape tape_now (λ before now. (beyond : List ℕ) × (length beyond ≤ room_of limit) × AreRequests limit before.left ms (beyond ++ now.left))
 
--- the bytes that the source gave, where it tells them, are these messages, and then a rest of which this is so; what is
--- left comes behind that
+-- the bytes that the source gave, where it reports them, are these messages, and then a rest of which this is so; what is
+-- left comes after that
 -- Example: the source gives a message and `GET`, and fails: the message is replied, and the rest is `GET`, which
 -- is unfinished.
 abbrev pub Gave : ℕ → Option Tape → Option Tape → List Request → (List ℕ → Type 0) → Type 0
@@ -77,11 +77,11 @@ pub record Served {S : Type 0} (answers : Answering S) (ms : List Request) (held
 abbrev pub TookFront : Option (List ℕ) → Option (List ℕ) → List ℕ → Type 0
 TookFront held held_now bytes = (front back : List ℕ) × (bytes ≡ front ++ back) × Took held held_now front
 
--- behind these bytes the sink took some front of those
+-- after these bytes the sink took some front of those
 abbrev pub TookWithFront : Option (List ℕ) → Option (List ℕ) → List ℕ → List ℕ → Type 0
 TookWithFront held held_now out bytes = (front back : List ℕ) × (bytes ≡ front ++ back) × Took held held_now (out ++ front)
 
--- a message is refused for this fault, and its reply is written behind those to the messages before it
+-- a message is refused for this fault, and its reply is written after those to the messages before it
 pub record Refuses {S : Type 0} (answers : Answering S) (limit : ℕ) (tape tape_now : Option Tape)
     (held held_now : Option (List ℕ)) (s now : S) (fault : HttpFault) : Type 0 where
   pub ms : List Request
@@ -125,7 +125,7 @@ GaveUp gives_up limit tape tape_now ms s now =
     ((ms ≡ []) × (now ≡ s) × (tape_now ≡ tape)) ⊎ ((m : Request) × gives_up s m now × BringsLast limit tape tape_now (ms ++ m ∷ []))
 
 -- How a connection ended, what its source brought, what its sink took, and in which state the service was left. Where the
--- source failed, all whole messages that it gave were answered, and what it gave behind them is the front of one or nothing.
+-- source failed, all whole messages that it gave were answered, and what it gave after them is the front of one or nothing.
 -- Where the sink failed, it took all replies but the last, and a front of that one.
 -- Example: two messages of which the second says `close`, and more bytes: both are replied, the end is `Closed`,
 -- and at most a connection's room was taken of the bytes beyond.

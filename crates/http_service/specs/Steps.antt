@@ -47,7 +47,7 @@ FaultEnds held held_now fault ConnEnd.WriteFault = WritesRefusal TookFront held 
 FaultEnds held held_now fault ConnEnd.Spent = ⊥
 FaultEnds held held_now fault ConnEnd.OutOfMemory = ⊥
 
--- the bytes that were held and those that come, where the source tells them, begin with this message; those held then are
+-- the bytes that were held and those that come, where the source reports them, begin with this message; those held then are
 -- at most what a connection has room for
 pub record BringsOne (limit : ℕ) (ahead ahead_now : List ℕ) (tape tape_now : Option Tape) (m : Request) : Type 0 where
   pub fits : length ahead_now ≤ room_of limit
@@ -57,7 +57,7 @@ pub record BringsOne (limit : ℕ) (ahead ahead_now : List ℕ) (tape tape_now :
 abbrev pub Finds : List ℕ → Option Tape → Option Tape → (List ℕ → Type 0) → Type 0
 Finds ahead tape tape_now Rest = WhereTold tape tape_now (λ before now. (piece : List ℕ) × (before.left ≡ piece ++ now.left) × Rest (ahead ++ before.left))
 
--- of the bytes that were held and those that the source gave, where it tells them, this is so
+-- of the bytes that were held and those that the source gave, where it reports them, this is so
 abbrev pub FindsGiven : List ℕ → Option Tape → Option Tape → (List ℕ → Type 0) → Type 0
 FindsGiven ahead tape tape_now Rest = WhereTold tape tape_now (λ before now. (given : List ℕ) × (before.left ≡ given ++ now.left) × Rest (ahead ++ given))
 

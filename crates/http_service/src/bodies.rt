@@ -5,7 +5,7 @@ ghost use Rattle.http_service.specs.Bodies.{disallowed as disallowed_of, plain a
 use crate::answer::{Answer, Methods};
 use adx_units::{OutOfMemory, push_text};
 
-/// Writes a text into a body, behind what it holds, as it stands. An error says that memory was refused; the body may
+/// Writes a text into a body, after what it holds, as it is. An error says that memory was refused; the body may
 /// then end in a part of the text.
 pub fn push_body(body: &mut String, text: &str) -> Result<(), OutOfMemory>
     ensures { OnOk result (string_bytes body.new ≡ string_bytes body.old ++ text.now) }
@@ -36,7 +36,7 @@ pub fn disallowed(methods: Methods) -> Answer
     }
 }
 
-/// Writes a JSON object (RFC 8259) that says why a message is refused into a body, behind what it holds. An error says
+/// Writes a JSON object (RFC 8259) that says why a message is refused into a body, after what it holds. An error says
 /// that memory was refused; the body may then end in a part of the object.
 pub fn push_refused(body: &mut String, why: &str) -> Result<(), OutOfMemory>
     ensures { OnOk result (string_bytes body.new ≡ string_bytes body.old ++ refused_body why.now) }

@@ -5,10 +5,10 @@
 //! more were read; it speaks of any service, whose answers are a relation of its own.
 //!
 //! What a connection means as a run: its replies, by the bytes that came. `specs/Connections` has the meaning of a run
-//! that serves a connection, behind what it read before; `result_of` is how such a run ends by the end of its
+//! that serves a connection, after what it read before; `result_of` is how such a run ends by the end of its
 //! connection.
 //!
-//! Stands on `adx_units`, `adx_io`, `adx_json`, `http_connection`, `http_grammar`, `adx_http`, `httparse` and
+//! Uses `adx_units`, `adx_io`, `adx_json`, `http_connection`, `http_grammar`, `adx_http`, `httparse` and
 //! `command_runs`.
 #![tactic(auto)]
 

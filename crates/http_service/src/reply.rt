@@ -20,7 +20,7 @@ pub fn asks_no_body(verb: Verb) -> bool
 }
 
 /// Puts the reply with an answer and its body (RFC 9112, section 4) into the sink. The body is JSON or empty. `close`: it
-/// says that the connection closes behind it (RFC 9112, section 9.6). `head`: it answers a HEAD, and its body isn't put
+/// says that the connection closes after it (RFC 9112, section 9.6). `head`: it answers a HEAD, and its body isn't put
 /// (RFC 9110, section 9.3.2). An error says that the sink failed; some front of the reply was put then.
 pub fn write_answer<K: Sink>(
     sink: &mut K,

@@ -22,7 +22,7 @@ pub trait Service {
     /// The state that a message leaves where memory was refused before it was answered.
     ghost gives_up: { Self → Request → Self → Type 0 };
 
-    /// The references that the service stands on, which no call exchanges.
+    /// The references that the service uses, which no call exchanges.
     ghost place: { Self → List GName } = { λ _. own_place };
 
     /// Answers a message, and writes the answer's body, which is JSON or empty, into `body`.

@@ -106,7 +106,7 @@ fn serve_next<V: Service, S: Source, K: Sink>(
 }
 
 /// Serves the messages of a connection: reads them from the source, and puts the reply to each into the sink before it
-/// reads the next. Ends with the source between two messages, or behind a reply that says `close` (`Closed`); within a
+/// reads the next. Ends with the source between two messages, or after a reply that says `close` (`Closed`); within a
 /// message (`Cut`); at a message that is refused, its reply written (`Refused`); at a fault of the source or of the
 /// sink, which only these have (`ReadFault`, `WriteFault`); after `MESSAGE_LIMIT` messages (`Spent`); or where memory is
 /// refused, for the connection's own, or by the service (`OutOfMemory`). Bodies are at most `REQUEST_LIMIT` bytes.

@@ -1,4 +1,4 @@
--- What was asked, and what was answered behind it.
+-- What was asked, and what was answered after it.
 use Rattle.adx_http.proofs.Whole.{asked_ok, failed_front, waits_ok, whole_front, whole_talk}
 use Rattle.adx_http.proofs.exchanging.exchange.Goals as goal
 

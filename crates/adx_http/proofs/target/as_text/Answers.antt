@@ -1,4 +1,4 @@
--- ASCII that is plain is what it stands for.
+-- ASCII that is plain is what it represents.
 use Rattle.std.proofs.Common.{sym, ◌∙◌}
 use Rattle.std.proofs.lemmas.Str.{IsUtf8-from_ascii}
 use Rattle.std.proofs.lemmas.Str.Ascii.{IsAscii-from_all}
