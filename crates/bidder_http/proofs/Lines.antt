@@ -33,7 +33,7 @@ module _ {X : Type 0} (f : X → List ℕ) where
   pub all_lines : (xs : List X) (i : ℕ) (done whole : List ℕ) → length xs ≤ i → done ++ flat_map f (drop i xs) ≡ whole → done ≡ whole
   all_lines xs i done whole end h = sym (append-nil done) ∙ sym (ap (λ (ys : List X). done ++ flat_map f ys) (drop_all i xs end)) ∙ h
 
--- four pieces, one behind the other
+-- four pieces, one after the other
 pub four : (o a x b y p q r s : List ℕ) → p ≡ o ++ a → q ≡ p ++ x → r ≡ q ++ b → s ≡ r ++ y → s ≡ o ++ (a ++ x ++ b ++ y)
 four o a x b y p q r s ep eq er es =
     es

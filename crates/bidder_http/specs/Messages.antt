@@ -40,6 +40,6 @@ AnswersTarget target verb b bytes a body rows = AnswersAt (page_at (path_of targ
 abbrev pub BidderAnswers : BidderState → Request → Answer → List ℕ → BidderState → Type 0
 BidderAnswers b m a body now = (now.line ≡ b.line) × AnswersTarget m.head.target (verb_of_method m.head.method) b m.body a body now.rows
 
--- a message that isn't answered for want of memory changes nothing
+-- a message that isn't answered for lack of memory changes nothing
 abbrev pub BidderGivesUp : BidderState → Request → BidderState → Type 0
 BidderGivesUp b m now = (now.line ≡ b.line) × (now.rows ≡ b.rows)

@@ -21,7 +21,7 @@ auction_by None = None
 auction_by (Some text) = if is_id_text (Some text) then Some text else None
 
 -- the auction that a query names, of 1 to 128 bytes
--- Example: `a=a1&b=0-0&p=2.5` at `/n/bill` tells a bill of 2,500,000 units.
+-- Example: `a=a1&b=0-0&p=2.5` at `/n/bill` is a bill of 2,500,000 units.
 abbrev pub auction_in : List ℕ → Option (List ℕ)
 auction_in query = auction_by (value_of (codes "a") query)
 
@@ -30,7 +30,7 @@ abbrev pub priced : Result Units PriceFault → Option Units
 priced (Ok price) = Some price
 priced (Err fault) = None
 
--- a price in CPM dollars, in units; a loss may tell none, which is 0
+-- a price in CPM dollars, in units; a loss may have none, which is 0
 abbrev pub price_by : Option (List ℕ) → NoticeKind → Option Units
 price_by (Some text) kind = priced (price_of text)
 price_by None NoticeKind.Win = None
@@ -41,13 +41,14 @@ price_by None NoticeKind.Loss = Some (units 0)
 abbrev pub price_in : NoticeKind → List ℕ → Option Units
 price_in kind query = price_by (value_of (codes "p") query) kind
 
+-- the notice that these three are, if none of them is missing
 abbrev pub notice_by : NoticeKind → Option (List ℕ) → Option (List ℕ) → Option Units → Option LedgerRow
 notice_by kind None bid price = None
 notice_by kind (Some auction) None price = None
 notice_by kind (Some auction) (Some bid) None = None
 notice_by kind (Some auction) (Some bid) (Some price) = Some (record { auction = auction; bid = bid; kind = kind; price = price })
 
--- the notice that a query tells: an auction, a bid and a price; none where one of them is wanting
+-- the notice that a query says: an auction, a bid and a price; none where one of them is missing
 abbrev pub notice_in : NoticeKind → List ℕ → Option LedgerRow
 notice_in kind query = notice_by kind (auction_in query) (value_of (codes "b") query) (price_in kind query)
 
@@ -58,6 +59,8 @@ ruled_answer BidderRuling.Repeat = plain 204
 ruled_answer (BidderRuling.Conflict end) = plain 409
 ruled_answer BidderRuling.Unknown = plain 404
 
+-- the body of the answer to a notice: empty where it counts or came before, and else a line that says why it doesn't
+-- count
 abbrev pub ruled_body : BidderRuling → List ℕ
 ruled_body BidderRuling.Counted = []
 ruled_body BidderRuling.Repeat = []

@@ -26,6 +26,7 @@ abbrev pub OffersBy : Option Tree → Answer → List ℕ → Type 0
 OffersBy None a body = (a ≡ plain 204) × (body ≡ [])
 OffersBy (Some bids) a body = (a ≡ offered) × (body ≡ spelling bids)
 
+-- the bidder's answer to a request: its bids by its prices, or status 204
 abbrev pub OffersTo : PriceLine → BidRequest → Answer → List ℕ → Type 0
 OffersTo line request a body = OffersBy (answer_to line request) a body
 

@@ -48,7 +48,7 @@ pub(crate) fn push_books(out: &mut String, bidder: &Bidder) -> Result<(), OutOfM
     Ok(())
 }
 
-/// Writes what a notice tells.
+/// Writes what a notice says.
 fn push_kind(out: &mut String, kind: NoticeKind) -> Result<(), OutOfMemory>
     ensures { OnOk result (string_bytes out.new ≡ string_bytes out.old ++ kind_text kind) }
 {

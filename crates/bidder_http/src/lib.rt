@@ -3,7 +3,7 @@
 //! `serve_bidder` answers requests for bids at `/`, counts the notices at `/n/win`, `/n/bill` and `/n/loss`, and shows
 //! its sums at `/books` and its ledger at `/ledger`. One relation says what each message is answered and what the ledger
 //! is then; the sink takes exactly the replies to the messages of the bytes, each notice counted once.
-//! Stands on `bidder_core` for the bidder and on `http_service` for connections.
+//! Uses `bidder_core` for the bidder and `http_service` for connections.
 #![tactic(auto)]
 
 mod books;

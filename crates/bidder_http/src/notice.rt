@@ -1,4 +1,4 @@
-//! Notices that a bidder is told.
+//! Notices that a bidder is sent.
 ghost use Rattle.std.specs.Prelude.{◌≡◌, List, [], codes, IfOk, OnErr, option_map, string_bytes, Some, None};
 ghost use Rattle.adx_http.specs.Targets.{value_of};
 ghost use Rattle.adx_units.specs.Money.{price_of as price_of_text};
@@ -16,14 +16,14 @@ use http_service::{Answer, plain, push_refused};
 use notice_book::NoticeKind;
 use std::alloc::Global;
 
-/// What a notice tells.
+/// What a notice says.
 #[derive(Drop)]
 pub(crate) struct Told {
     /// The auction.
     pub auction: Id,
     /// The id of the bid.
     pub bid: Text,
-    /// The price in units; 0 where a loss tells none.
+    /// The price in units; 0 where a loss says none.
     pub price: Units,
 }
 
@@ -57,7 +57,7 @@ fn price_in_text(text: &str) -> Option<Units>
     }
 }
 
-/// The price where a notice tells none; only a loss needn't.
+/// The price where a notice says none; only a loss needn't.
 fn untold_price(kind: NoticeKind) -> Option<Units>
     ensures { result ≡ price_by None kind }
 {
@@ -68,7 +68,7 @@ fn untold_price(kind: NoticeKind) -> Option<Units>
     }
 }
 
-/// The price that a query tells, in units; None where it tells none that is one.
+/// The price that a query says, in units; None where it says none that is one.
 fn price_told(alloc: Global, kind: NoticeKind, query: &[u8]) -> Result<Option<Units>, OutOfMemory>
     ensures { IfOk result (λ found. found ≡ price_in kind query.now) }
 {
@@ -78,7 +78,7 @@ fn price_told(alloc: Global, kind: NoticeKind, query: &[u8]) -> Result<Option<Un
     }
 }
 
-/// The notice of a kind that a query tells.
+/// The notice of a kind that a query says.
 fn told_by(alloc: Global, kind: NoticeKind, query: &[u8]) -> Result<Option<Told>, OutOfMemory>
     ensures { IfOk result (λ found. option_map (row_of kind) found ≡ notice_in kind query.now) }
 {
@@ -136,7 +136,7 @@ fn answer_told(
     answer_ruling(ruling, body)
 }
 
-/// Answers the notice of a kind that a query tells.
+/// Answers the notice of a kind that a query says.
 pub(crate) fn answer_notice(
     alloc: Global,
     bidder: &mut Bidder,

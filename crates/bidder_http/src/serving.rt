@@ -128,7 +128,7 @@ impl Service for Serving<'_> {
     }
 }
 
-/// Serves the messages of a connection: what a bidder is asked, told and shows. The sink takes exactly the replies to
+/// Serves the messages of a connection: what a bidder is asked, sent and shows. The sink takes exactly the replies to
 /// the messages that the source brings, or some front of them where it fails, and the ledger is then that of these
 /// messages, each notice counted once. How the connection ends, `serve_messages` says.
 pub fn serve_bidder<S: Source, K: Sink>(

@@ -48,7 +48,7 @@ pub way_with : {Y L : Type 0} {y : DeskGhosts Y} {Works : List ℕ → List ℕ 
 way_with {y = y} {Works = Works} {IsMoment = IsMoment} {r = r} {start = start} {lanes = lanes} {tape = tape} {tape_now = tape_now} {coming = coming} {before = before} {now = now} {lanes_now = lanes_now} {held = held} {least = least} {waiting = waiting} notices other same w =
     subst (λ (l : List Arrival). IsUnderWay y Works IsMoment r start lanes tape tape_now coming before now lanes_now l false held least waiting) same w
 
--- and behind the same bytes that are held
+-- and after the same bytes that are held
 pub way_behind : {Y L : Type 0} {y : DeskGhosts Y} {Works : List ℕ → List ℕ → Lane L → Lane L → Outcome → Type 0} {IsMoment : ℕ → Type 0} {r : Roster}
     {start : Y} {lanes : List (Lane L)} {tape tape_now : Option Tape} {count : ℕ} {before : Option (List ℕ)} {now : Y} {lanes_now : List (Lane L)} {notices : List Arrival} {held : Option (List ℕ)} {least waiting : ℕ}
     (ahead other : List ℕ) → ahead ≡ other

@@ -1,4 +1,4 @@
--- What a sink has behind all that was put, and the counts of source and sink from step to step.
+-- What a sink has after all that was put, and the counts of source and sink from step to step.
 use Rattle.std.proofs.Common.{◌≡◌, ◌≢◌, inl, inr, ℕ, ◌≤◌, List, [], ◌∷◌, ◌++◌, length, Option, Some, None, Result, Ok, Err, IfOk, IsNone, refl, sym, ap, ◌∙◌, subst, arith, append-nil, length-append}
 use Rattle.std.specs.Io.KnownBytes.{append_known}
 use Rattle.adx_http.specs.Written.{WritesBy}
@@ -36,7 +36,7 @@ pub moves_same : (count : ℕ) (held : Option (List ℕ)) (least waiting least_m
 moves_same count held least waiting least_mid waiting_mid least_now waiting_now (inl (waits, same)) w l = inl (w ∙ waits, l ∙ same)
 moves_same count held least waiting least_mid waiting_mid least_now waiting_now (inr (waits, all)) w l = inr (w ∙ waits, l ∙ all)
 
--- behind all that was put a reply that is expected leaves the sink with it
+-- after all that was put a reply that is expected leaves the sink with it
 pub settled_least : (count : ℕ) (held : Option (List ℕ)) (left : List ℕ) (least waiting least_now waiting_now : ℕ) → IsSettled held left least → Moves count held least waiting least_now waiting_now → least_now ≡ count_of held
 settled_least count held left least waiting least_now waiting_now s (inl (waits, same)) = same ∙ s.all
 settled_least count held left least waiting least_now waiting_now s (inr (waits, all)) = all
@@ -45,11 +45,11 @@ settled_least count held left least waiting least_now waiting_now s (inr (waits,
 pub settled_sunk : (held sunk : Option (List ℕ)) (left : List ℕ) (least : ℕ) → IsSettled held left least → held ≡ append_known sunk left → least ≤ count_of sunk → sunk ≡ held
 settled_sunk held sunk left least s at grown = all_sunk held sunk left at (omega (arith, s.all, grown))
 
--- a call behind one that met no fault
+-- a call after one that met no fault
 pub cause_after : {T : Type 0} (a b c : ℕ) (result : Result T Failed) → b ≡ a → HasCause b c result → HasCause a c result
 cause_after {T = T} a b c result same cause = subst (λ (n : ℕ). HasCause {T = T} n c result) same cause
 
--- a call behind one that met no fault, whatever either gives
+-- a call after one that met no fault, whatever either gives
 pub cause_ok : {T U : Type 0} (a b c : ℕ) (x : T) (y : U) → b ≡ a → HasCause {T = T} b c (Ok x) → HasCause {T = U} a c (Ok y)
 cause_ok a b c x y same cause = record { later = omega (arith, same, cause.later); failed = tt; passed = cause.passed ∙ same }
 
@@ -61,7 +61,7 @@ cause_of_write a b fault failed w = record { later = w.later; failed = w.failed;
 pub cause_of_fault : {T U : Type 0} (a b : ℕ) (failed other : Failed) → HasCause {T = T} a b (Err failed) → HasCause {T = U} a b (Err other)
 cause_of_fault a b failed other cause = record { later = cause.later; failed = cause.failed; passed = tt }
 
--- and behind a call that met no fault
+-- and after a call that met no fault
 pub cause_err : {T U : Type 0} (a b c : ℕ) (failed other : Failed) → b ≡ a → HasCause {T = T} b c (Err failed) → HasCause {T = U} a c (Err other)
 cause_err {T = T} {U = U} a b c failed other same cause = cause_of_fault {T = T} {U = U} a c failed other (cause_after {T = T} a b c (Err failed) same cause)
 
@@ -129,13 +129,13 @@ no_write (Over.Fault fault) end (inl is) write = absurd (let e : ConnEnd.ReadFau
 no_write (Over.Fault fault) end (inr (inl is)) write = absurd (let e : ConnEnd.Cut ≡ ConnEnd.WriteFault = sym is.0 ∙ write in cc e)
 no_write (Over.Fault fault) end (inr (inr is)) write = absurd (let e : ConnEnd.Refused fault ≡ ConnEnd.WriteFault = sym is ∙ write in cc e)
 
--- the causes of an end behind all messages
+-- the causes of an end after all messages
 pub over_causes : (read read_now write write_mid write_now : ℕ) (over : Over) (end : ConnEnd) → OverCauses read read_now write write_mid (Ok over) → write_now ≡ write_mid → IsEndOf over end → HasCauses read read_now write write_now end
 over_causes read read_now write write_mid write_now over end causes then is =
     let reads = over_reads read read_now over causes.0 in
     ends_without read read_now write write_now end reads.0 (then ∙ causes.1) (no_read over end is reads.1) (no_write over end is)
 
--- the sink failed behind them
+-- the sink failed after them
 pub over_failed : (read read_now write write_mid write_now : ℕ) (over : Over) (failed : Failed) → OverCauses read read_now write write_mid (Ok over) → HasCause {T = ConnEnd} write_mid write_now (Err failed) → HasCauses read read_now write write_now ConnEnd.WriteFault
 over_failed read read_now write write_mid write_now over failed causes cause =
     let reads = over_reads read read_now over causes.0 in
@@ -163,7 +163,7 @@ pub fault_causes : (read read_now write : ℕ) (fault : HttpFault) → ReadsBy {
 fault_causes read read_now write HttpFault.ReadFault r = (r.0, r.1, refl)
 fault_causes read read_now write fault r = (r, refl)
 
--- steps behind one that changed no count
+-- steps after one that changed no count
 pub causes_after : (read read_now write write_mid write_now : ℕ) (result : Result (Option Over) Stop) → write_mid ≡ write → StepCauses read read_now write_mid write_now result → StepCauses read read_now write write_now result
 causes_after read read_now write write_mid write_now result same causes = subst (λ (n : ℕ). StepCauses read read_now n write_now result) same causes
 
@@ -184,6 +184,6 @@ pub faults_over : (P : Type 0) (fault : HttpFault) → IfOk (fault_over fault) (
 faults_over P HttpFault.ReadFault = tt
 faults_over P fault = λ none. absurd (cc none)
 
--- the counts behind a call
+-- the counts after a call
 pub causes_behind : {T : Type 0} (a b c : ℕ) (result : Result T Stop) → b ≡ a → StopCauses b c result → StopCauses a c result
 causes_behind {T = T} a b c result same causes = subst (λ (n : ℕ). StopCauses {T = T} n c result) same causes

@@ -1,4 +1,4 @@
--- What the next call on the source brings behind the messages that came.
+-- What the next call on the source brings after the messages that came.
 use Rattle.std.proofs.Common.{◌≡◌, inl, inr, ℕ, suc, ◌<◌, List, [], ◌∷◌, ◌++◌, length, Bool, true, false, All, Option, Some, None, Ok, Err, refl, sym, ap, ◌∙◌, subst, arith, append_assoc, length-append}
 use Rattle.std.proofs.lemmas.List.Elements.{All-nil}
 use Rattle.adx_io.specs.Streams.{Tape, WhereTold}
@@ -27,14 +27,14 @@ use Rattle.exchange_http.specs.Running.{CameAndStay, CameSo, CameToFault, Coming
 use Rattle.exchange_http.specs.Serving.{IsAny}
 use Rattle.exchange_http.specs.declared.over.Over.{Over}
 
--- a message was read: it is the one that the bytes bring, where they are told
+-- a message was read: it is the one that the bytes bring, where they are reported
 pub brings_one : (c c_now : ConnState) (tape tape_now : Option Tape) (m : Message) → c.failed ≡ false → AnswersMessage c c_now tape tape_now (Ok (Some m))
     → (r : Request) × BringsOne c.limit c.held c_now.held tape tape_now r × Shows m r
 brings_one c c_now tape tape_now m sound answers =
     let step = served_step {S = Unit {0}} (λ s r a body next. ⊥) (λ s r next. Shows m r) c c_now tape tape_now None None tt tt m (Some ConnEnd.OutOfMemory) sound answers (λ r shows. (shows, refl)) in
     (step.0, step.1, step.2.0)
 
--- of the bytes behind the messages this is so
+-- of the bytes after the messages this is so
 came_with : (limit : ℕ) (ahead : List ℕ) (tape tape_old tape_now : Option Tape) (ms : List Request) (P : List ℕ → Type 0) (Q : Tape → List ℕ → Type 0) → WhereTold tape tape_old (λ o n. AreRequests limit o.left ms (ahead ++ n.left)) → Advances tape_old tape_now
     → WhereTold tape_old tape_now (λ o n. Q n (ahead ++ o.left)) → ((n : Tape) (bytes : List ℕ) → Q n bytes → P bytes) → Brings limit tape tape_now ms P
 came_with limit ahead None None None ms P Q are advances told weaker = refl
@@ -49,7 +49,7 @@ came_with limit ahead (Some t) (Some o) (Some n) ms P Q are advances told weaker
       subst P is (weaker n (ahead ++ o.left) told),
     )
 
--- bytes that were taken behind messages are beyond them
+-- bytes that were taken after messages are beyond them
 beyond_more : (limit : ℕ) (tape tape_old tape_now : Option Tape) (ms : List Request) → Brings limit tape tape_old ms IsAny → Advances tape_old tape_now → Brings limit tape tape_now ms IsAny
 beyond_more limit None None None ms b advances = refl
 beyond_more limit None None (Some n) ms b advances = absurd (cc advances)
@@ -72,7 +72,7 @@ goes_on : (ms : List Request) (count : ℕ) → length ms ≡ count → count < 
 goes_on ms count many less kept = record { kept = kept; few = subst (λ (n : ℕ). n < MESSAGE_LIMIT) (sym many) less }
 
 module _ (tape tape_old tape_now : Option Tape) (ahead : List ℕ) (count : ℕ) (ms : List Request) where
-  -- messages that stay, and bytes behind them
+  -- messages that stay, and bytes after them
   stay_and : CameAndStay tape tape_old ahead count ms → count < MESSAGE_LIMIT → Advances tape_old tape_now → GoOn ms × Brings REQUEST_LIMIT tape tape_now ms IsAny
   stay_and came less advances = (
     goes_on ms count came.many less came.stay,

@@ -21,7 +21,7 @@ use Rattle.exchange_http.specs.declared.over.Over.{Over}
 use Rattle.exchange_http.proofs.Gathered.{known_more, known_none, sunk_front}
 use Rattle.exchange_http.proofs.OneMore.{all_served, none_late}
 
--- the reply of a refusal behind all that was put, or a front of it
+-- the reply of a refusal after all that was put, or a front of it
 pub refusal_put : (held sunk held_now : Option (List ℕ)) (left : List ℕ) (fault : HttpFault) (status : ℕ) → fault_status fault ≡ Some status → held_now ≡ append_known held (refusal_bytes status) → held_now ≡ append_known sunk left → left ≡ [] → WritesRefusal Took held sunk fault
 refusal_put held sunk held_now left fault status answered is at none = record { status = status; answered = answered; took = sym (known_none sunk) ∙ ap (append_known sunk) (sym none) ∙ sym at ∙ is }
 

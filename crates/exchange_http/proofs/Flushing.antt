@@ -28,7 +28,7 @@ pub on_fault : {T E P Q : Type 0} (result : Result T E) → OnErr result P → (
 on_fault (Ok x) p f = tt
 on_fault (Err e) p f = f p
 
--- the replies were gathered, behind what was expected
+-- the replies were gathered, after what was expected
 pub wrote_cause : {T : Type 0} (a b c : ℕ) (done : T) → b ≡ a → WritesBy b c (Ok tt) → HasCause {T = T} a c (Ok done)
 wrote_cause a b c done same w = record { later = omega (arith, same, w.later); failed = tt; passed = w.passed ∙ same }
 
@@ -51,7 +51,7 @@ pub same_calls : (b : Bool) (old new : BatchState) (x : Arrival) → b ≡ false
 same_calls true old new x is clause = absurd (cc is)
 same_calls false old new x is clause = ap (λ (s : BatchState). s.calls) clause.1
 
--- under way with the same notices, and behind the same last message
+-- under way with the same notices, and after the same last message
 pub way_notices : {Y L : Type 0} {y : DeskGhosts Y} {Works : List ℕ → List ℕ → Lane L → Lane L → Outcome → Type 0} {IsMoment : ℕ → Type 0} {r : Roster}
     {start : Y} {lanes : List (Lane L)} {tape tape_now : Option Tape} {coming : Coming} {before : Option (List ℕ)} {now : Y} {lanes_now : List (Lane L)} {close : Bool} {held : Option (List ℕ)} {least waiting : ℕ}
     (notices other : List Arrival) → notices ≡ other

@@ -1,4 +1,4 @@
--- Replies that are gathered behind those that a sink took.
+-- Replies that are gathered after those that a sink took.
 use Rattle.std.proofs.Common.{◌≡◌, inl, inr, ℕ, ◌+◌, ◌-◌, ◌≤◌, List, [], ◌∷◌, ◌++◌, length, take, drop, Option, Some, None, refl, sym, ap, ◌∙◌, subst, arith, append_assoc, append-nil, length-append, length-drop}
 use Rattle.std.proofs.lemmas.List.{drop-drop, take-append-drop, take_all}
 use Rattle.std.specs.Io.KnownBytes.{append_known}
@@ -20,7 +20,7 @@ split_behind (x ∷ h) front (y ∷ s) left is le =
     let rest = split_behind h front s left tail shorter in
     (rest.0, (λ i. sym head i ∷ rest.1 i), rest.2)
 
--- what a sink took of bytes that were gathered behind others, which it has
+-- what a sink took of bytes that were gathered after others, which it has
 pub sunk_front : (held sunk held_now : Option (List ℕ)) (front left : List ℕ) → held_now ≡ append_known held front → held_now ≡ append_known sunk left → count_of held ≤ count_of sunk
     → (f b : List ℕ) × (front ≡ f ++ b) × Took held sunk f
 sunk_front None None held_now front left is at le = (front, [], sym (append-nil front), refl)
@@ -32,7 +32,7 @@ sunk_front (Some h) (Some s) held_now front left is at le =
     let parts = split_behind h front s left same le in
     (parts.0, left, parts.2, ap Some parts.1)
 
--- bytes behind bytes
+-- bytes after bytes
 pub known_more : (old : Option (List ℕ)) (first rest : List ℕ) → append_known (append_known old first) rest ≡ append_known old (first ++ rest)
 known_more None first rest = refl
 known_more (Some h) first rest = ap Some (append_assoc h first rest)
@@ -50,7 +50,7 @@ put_on old now items put n is =
     ap (λ (s : Option (List ℕ)). append_known s (drop (put + n) items)) (is ∙ ap (λ (l : List ℕ). append_known old (take n l)) whole) ∙ known_more old (take n (drop put items)) (drop (put + n) items)
     ∙ ap (λ (l : List ℕ). append_known old (take n (drop put items) ++ l)) rest ∙ ap (append_known old) (take-append-drop n (drop put items))
 
--- messages that were replied behind others
+-- messages that were replied after others
 pub replies_join : {S : Type 0} (answers : Answering S) (s : S) (ms : List Request) (out : List ℕ) (between : S) (more : List Request) (due : List ℕ) (now : S)
     → Replies answers s ms out between → Replies answers between more due now → Replies answers s (ms ++ more) (out ++ due) now
 replies_join {S = S} answers s [] out between more due now are then =

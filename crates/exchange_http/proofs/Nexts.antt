@@ -26,7 +26,7 @@ use Rattle.exchange_http.proofs.Ended.{over_ends}
 use Rattle.exchange_http.proofs.Gathered.{known_none}
 use Rattle.exchange_http.proofs.UnderWay.{Way, may_fail}
 
--- a message that the held bytes begin with comes first, whatever the source brings behind them
+-- a message that the held bytes begin with comes first, whatever the source brings after them
 pub held_brings : (limit : ℕ) (ahead ahead_now : List ℕ) (r : Request) (tape : Option Tape) → length ahead_now ≤ room_of limit → IsRequestThen limit ahead r ahead_now → BringsOne limit ahead ahead_now tape tape r
 held_brings limit ahead ahead_now r None fits is = record { fits = fits; is = refl }
 held_brings limit ahead ahead_now r (Some t) fits is = record { fits = fits; is = request_stays limit ahead t.left r ahead_now is }

@@ -82,7 +82,7 @@ notice_bytes m x o close waits kept =
     twice true = refl
     twice false = refl
 
--- messages of which the first has one behind it
+-- messages of which the first has one after it
 first_stays : (close : Bool) (m n : Request) (ms : List Request) → StayTo close (m ∷ n ∷ ms) → (is_kept m.head ≡ true) × StayTo close (n ∷ ms)
 first_stays false m n ms all = (All-head (λ (r : Request). is_kept r.head ≡ true) m (n ∷ ms) all, All-tail (λ (r : Request). is_kept r.head ≡ true) m (n ∷ ms) all)
 first_stays true m n ms ([], last, is, kept, closes) = absurd (let e : n ∷ ms ≡ [] = cc is in cc e)

@@ -1,4 +1,4 @@
--- One message more of a connection: answered, given up for want of memory, or its reply cut off by the sink.
+-- One message more of a connection: answered, given up for lack of memory, or its reply cut off by the sink.
 use Rattle.std.proofs.Common.{◌≡◌, inl, inr, ℕ, ◌≤◌, List, [], ◌∷◌, ◌++◌, Bool, Option, true, false, not, refl, sym, ap, ◌∙◌, subst, arith, append-nil}
 use Rattle.std.specs.Io.KnownBytes.{append_known}
 use Rattle.std.proofs.lemmas.List.Elements.{All-nil}
@@ -48,7 +48,7 @@ module _ {Y L : Type 0} (y : DeskGhosts Y) (Works : List ℕ → List ℕ → La
     pub left_unmade : LeavesUnmade Works IsMoment r lanes m steps lanes_now
     pub ran : y.runs old new steps
 
-  -- the reply to one message, behind the steps so far
+  -- the reply to one message, after the steps so far
   one_replies : (old new : Y) (steps : List Step) (lanes_old lanes_new : List (Lane L)) (m : Request) (a : Answer) (body : List ℕ) (h : AnsweredSo old new lanes_old lanes_new m (reply_of a body))
       → Replies (AnswersOn Works IsMoment r) (record { steps = steps; lanes = lanes_old }) (m ∷ []) (reply_to m a body) (record { steps = steps ++ h.steps; lanes = lanes_new })
   one_replies old new steps lanes_old lanes_new m a body h = (

@@ -73,7 +73,7 @@ module _ (r : Roster) where
   one_call : (c d : Called) (said other : Reply) → c ≡ d → CallReplies r c said → CallReplies r d other → said ≡ other
   one_call c d said other same is also = one_reply_by c.at c.call c.ended said other is (subst (λ (v : Called). CallReplies r v other) (sym same) also)
 
-  -- behind one tick
+  -- after one tick
   one_behind : (ticked : Called) (ended : Ended) (asked again : BidRequest) (answers others : List BidderAnswer) (now later : ℕ) (steps steps_too more more_too : List Step) (said other : Reply)
       → AsksBehind r asked answers now ticked ended steps said → AsksBehind r again others later ticked ended steps_too other → steps ++ more ≡ steps_too ++ more_too → (steps ≡ steps_too) × (said ≡ other)
   one_behind ticked was_done asked again answers others now later steps steps_too more more_too said other (c, ask_is, are, replies) (d, ask_too, too, replies_too) same =
@@ -149,7 +149,7 @@ module _ (r : Roster) where
       one_answered : (request : Request) → Here old request steps new said → There old_too request steps_too new_too other → Alike
       one_answered request x y = alike x.meaning y.meaning (one_meaning request x.meaning y.meaning x.means y.means) x.answered y.answered
 
-    -- steps only come behind those that were
+    -- steps only come after those that were
     steps_behind : (s : Course L) (requests : List Request) (out : List ℕ) (now : Course L) → Replies (AnswersOn Works (IsMomentOf other_clock) r) s requests out now → (more : List Step) × (now.steps ≡ s.steps ++ more)
     steps_behind s [] out now are = ([], ap (λ (c : Course L). c.steps) are.1 ∙ sym (append-nil s.steps))
     steps_behind s (m ∷ requests) out now are =

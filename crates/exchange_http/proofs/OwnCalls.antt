@@ -42,7 +42,7 @@ use Rattle.exchange_http.specs.Owned.{OwnLost, OwnRuns}
 use Rattle.desk_calls.specs.Meanings.{Told}
 use Rattle.desk_calls.specs.OnDisk.{FullOnly}
 
--- a call is told that the journal is full only where it may be
+-- a call is answered that the journal is full only where it may be
 full_may : (terms : DeskTerms) (history : List Entry) (entry : Option Entry) (size : ℕ) → FullOnly terms history entry (Some (Fault.JournalFull size)) → MayBeFull terms history entry size
 full_may terms history None size full = full
 full_may terms history (Some e) size full = (full.0, full.1)
@@ -58,7 +58,7 @@ own_cause before now old new (Err (DeskFault.NotAJournal at)) ends = absurd ends
 own_cause before now old new (Err (DeskFault.BadLength at)) ends = absurd ends
 own_cause before now old new (Err DeskFault.OutOfMemory) ends = absurd ends
 
--- notices that are done in turn stand one behind another
+-- notices that are done in turn come one after another
 along_in_turn : (terms : DeskTerms) (history : List Entry) (calls : List Arrival) → IsLegal terms.day history → AreSteps alone terms history (took_in_turn history calls) (after_arrivals history calls)
 along_in_turn terms history [] legal = refl
 along_in_turn terms history (x ∷ calls) legal =
@@ -223,7 +223,7 @@ module _ {D : Type 0} (d : Ghosts D) where
     )
     own_lost (Err fault) same s ends unmoved = absurd ends
 
--- what was written behind nothing
+-- what was written after nothing
 pub behind_none : {T E : Type 0} (result : Result T E) (before now table : List ℕ) → before ≡ [] → OnOk result (now ≡ before ++ table) → OnOk result (now ≡ table)
 behind_none (Ok x) before now table none is = is ∙ ap (λ (l : List ℕ). l ++ table) none
 behind_none (Err e) before now table none is = tt

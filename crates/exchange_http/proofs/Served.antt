@@ -94,7 +94,7 @@ module _ {Y L C G : Type 0} (y : DeskGhosts Y) (l : LinkGhosts L) (c : ClockGhos
     );
   }
 
--- the references that a sink stands on, one by one
+-- the references that a sink uses, one by one
 abbrev name_or : GName → List GName → GName
 name_or other [] = other
 name_or other (n ∷ ns) = n

@@ -48,7 +48,7 @@ pub record Read : Type 0 where
 abbrev pub read_so : Option Tape → List ℕ → Read
 read_so tape held = record { tape = tape; held = held }
 
--- a message is this notice, behind which the connection closes or stays
+-- a message is this notice, after which the connection closes or stays
 abbrev pub IsNotice : NoticeKind → List ℕ → ℕ → Bool → Request → Type 0
 IsNotice kind auction award close m = Means m (notifies kind auction award) × (is_kept m.head ≡ not close)
 
@@ -57,7 +57,7 @@ abbrev pub ShowsOther : Message → Other → Request → Type 0
 ShowsOther message other m = Shows message m × WantsOther m other
 
 module _ {Y L C G O : Type 0} (y : DeskGhosts Y) (l : LinkGhosts L) (c : ClockGhosts C) (o : OutletGhosts O) where
-  -- by the roster and the clock of a floor, messages from a beginning on stand so on a floor
+  -- by the roster and the clock of a floor, messages from a beginning on are so on a floor
   abbrev pub WayOn : Floor Y L C G → (start : Y) (lanes : List (Lane L)) (tape tape_now : Option Tape) (coming : Coming)
       (before : Option (List ℕ)) → Floor Y L C G → Bool → Stand O → Type 0
   WayOn by start lanes tape tape_now coming before f close k =

@@ -20,7 +20,7 @@ use Rattle.desk_calls.proofs.RunsJoined.{runs_join}
 use Rattle.desk_calls.proofs.RunsTogether.{batch_given_up}
 use Rattle.desk_calls.specs.Meanings.{Told}
 
--- the calls of steps behind steps
+-- the calls of steps after steps
 told_append : (first rest : List Step) → told_of (first ++ rest) ≡ told_of first ++ told_of rest
 told_append [] rest = refl
 told_append (took c ∷ first) rest =

@@ -1,4 +1,4 @@
--- What is told of the steps of one who owns a desk. This project's own.
+-- What is said of the steps of one who owns a desk. This project's own.
 use Rattle.std.specs.Prelude.{◌≡◌, List, [], Err}
 use Rattle.adx_desk.specs.Desks.{OnDisk}
 use Rattle.adx_desk.specs.Endings.{FailsDisk}
@@ -14,7 +14,7 @@ use Rattle.desk_calls.specs.Told.{told_of}
 
 -- These steps were made on a desk that nobody else calls: each at the history that those before it leave, and with all that
 -- the disk keeps of their calls.
--- Example: a tick and a bill behind it, both done: the bill is at the history that the tick left.
+-- Example: a tick and a bill after it, both done: the bill is at the history that the tick left.
 pub record OwnRuns {D : Type 0} (d : Ghosts D) (old new : OnDisk D) (steps : List Step) : Type 0 where
   pub along : AreSteps alone old.desk.terms old.desk.history steps new.desk.history
   pub terms : new.desk.terms ≡ old.desk.terms

@@ -124,7 +124,7 @@ module _ {Y : Type 0} (runs : Y → Y → List Step → Type 0) where
       × Moves (length notices) held least waiting least_now waiting_now)
 
 module _ {Y L : Type 0} (y : DeskGhosts Y) (Works : List ℕ → List ℕ → Lane L → Lane L → Outcome → Type 0) (IsMoment : ℕ → Type 0) (r : Roster) where
-  -- Messages were replied or their notices wait, from a desk and lanes on, over a source and behind what a sink took before.
+  -- Messages were replied or their notices wait, from a desk and lanes on, over a source and after what a sink took before.
   pub record IsUnderWay (start : Y) (lanes : List (Lane L)) (tape tape_now : Option Tape) (coming : Coming)
       (before : Option (List ℕ)) (now : Y) (lanes_now : List (Lane L)) (notices : List Arrival) (close : Bool)
       (held : Option (List ℕ)) (least waiting : ℕ) : Type 0 where
@@ -203,7 +203,7 @@ StepStops read read_now write write_now Stop.WriteFault = (read_now ≡ read) ×
 StepStops read read_now write write_now Stop.OutOfMemory = (read_now ≡ read) × (write_now ≡ write)
 StepStops read read_now write write_now Stop.ReadFault = (read ≤ read_now) × Rises read read_now × (write_now ≡ write)
 
--- the counts of source and sink behind all messages, and behind one
+-- the counts of source and sink after all messages, and after one
 abbrev pub OverCauses : (read read_now write write_now : ℕ) → Result Over Stop → Type 0
 OverCauses read read_now write write_now (Ok over) = OverReads read read_now over × (write_now ≡ write)
 OverCauses read read_now write write_now (Err stop) = StepStops read read_now write write_now stop

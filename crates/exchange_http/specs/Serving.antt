@@ -63,11 +63,12 @@ EndsWith answers gives_up limit tape tape_now held held_now s now ConnEnd.Spent 
 EndsWith answers gives_up limit tape tape_now held held_now s now ConnEnd.OutOfMemory =
     EndsService answers gives_up limit tape tape_now held held_now s now ConnEnd.OutOfMemory
 
--- what a connection brings and takes: the bytes of its source, and those that its sink took, where they tell them
+-- what a connection brings and takes: the bytes of its source, and those that its sink took, where they report them
 pub record Talked : Type 0 where
   pub tape : Option Tape
   pub held : Option (List ℕ)
 
+-- such a pair
 abbrev pub talked : Option Tape → Option (List ℕ) → Talked
 talked tape held = record { tape = tape; held = held }
 
@@ -81,7 +82,7 @@ EndsSo l IsMoment r before now lanes course end =
 pub record ServesFloor {Y L C G : Type 0} (y : DeskGhosts Y) (l : LinkGhosts L) (c : ClockGhosts C) (old new : Floor Y L C G)
     (before now : Talked) (end : ConnEnd) : Type 0 where
   pub steps : List Step
-  -- the desk tells this of its steps,
+  -- the desk says this of its steps,
   pub ran : y.runs old.desk new.desk steps
   -- and by them the messages were replied
   pub ends : EndsSo l (IsMomentOf (c.moment old.clock.now)) old.roster.now before now old.lanes.now.items

@@ -66,7 +66,7 @@ fn end_so<O: Outlet>(outlet: &mut O, over: Over) -> Result<ConnEnd, Failed>
     }
 }
 
-/// Ends a connection whose messages are over: takes the notices that wait, puts all replies, and behind them the reply to
+/// Ends a connection whose messages are over: takes the notices that wait, puts all replies, and after them the reply to
 /// a message that is refused.
 pub(crate) fn finish<
     Y: DayDesk,

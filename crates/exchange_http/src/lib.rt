@@ -9,7 +9,7 @@
 //! A desk that one connection owns, as a desk that one calls. `OwnDesk` lends a desk: its history stays between two
 //! calls. What the disk keeps of the calls is a run of `Records`.
 //!
-//! Stands on `http_service` for the loop over messages, and on `exchange_messages` for what is done with each.
+//! Uses `http_service` for the loop over messages, and `exchange_messages` for what is done with each.
 #![tactic(auto)]
 
 mod ending;

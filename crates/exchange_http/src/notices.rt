@@ -72,7 +72,7 @@ fn close_behind<Y: DayDesk, L: Link + Drop, C: Clock, F: Fn(Round<'_, L>) -> Giv
     }
 }
 
-/// Takes a notice behind none that waits.
+/// Takes a notice after none that waits.
 fn begin_notice<Y: DayDesk, L: Link + Drop, C: Clock, F: Fn(Round<'_, L>) -> Given<L>, O: Outlet>(
     floor: &mut Floor<'_, Y, L, C, F>,
     keeping: &mut Keeping<O>,
@@ -100,7 +100,7 @@ fn begin_notice<Y: DayDesk, L: Link + Drop, C: Clock, F: Fn(Round<'_, L>) -> Giv
     }
 }
 
-/// Lets a notice wait; those that wait are taken first where it can't wait behind them, and with it where the connection
+/// Lets a notice wait; those that wait are taken first where it can't wait after them, and with it where the connection
 /// closes.
 pub(crate) fn take_notice<
     Y: DayDesk,

@@ -77,7 +77,7 @@ fn answer_other<Y: DayDesk, L: Link + Drop, C: Clock, F: Fn(Round<'_, L>) -> Giv
     }
 }
 
-/// Takes a message that is no notice, behind the notices that wait and with all replies before it put, since it may wait
+/// Takes a message that is no notice, after the notices that wait and with all replies before it put, since it may wait
 /// for bidders.
 pub(crate) fn take_other<
     Y: DayDesk,

@@ -99,7 +99,7 @@ impl<K: Sink> Sink for Outgoing<K> {
 
     ghost faults = { λ o. K.faults o.sink };
 
-    /// What the sink took, and behind it what is gathered.
+    /// What the sink took, and after it what is gathered.
     ghost held = { λ o. append_known (K.held o.sink) (drop o.put o.bytes.items) };
 
     /// With the counts that no call of a sink changes.

@@ -14,10 +14,10 @@ use http_service::Answer;
 
 /// Where replies go out: a sink, and before it replies that are gathered for it.
 pub(crate) trait Outlet {
-    /// The bytes that the sink took and those that are gathered for it, where the sink tells.
+    /// The bytes that the sink took and those that are gathered for it, where the sink reports.
     ghost held: { Self → Option (List ℕ) };
 
-    /// The bytes that the sink took, where it tells them.
+    /// The bytes that the sink took, where it reports them.
     ghost sunk: { Self → Option (List ℕ) };
 
     /// The bytes that are gathered.
@@ -32,7 +32,7 @@ pub(crate) trait Outlet {
     /// How often the sink has failed.
     ghost faults: { Self → ℕ };
 
-    /// The references that it stands on.
+    /// The references that it uses.
     ghost place: { Self → List GName };
 
     /// Gathers the reply with an answer and its body.
@@ -48,7 +48,7 @@ pub(crate) trait Outlet {
         ensures same { (waiting self.new ≡ waiting self.old) × (least self.new ≡ least self.old) }
         ensures place { place self.new ≡ place self.old };
 
-    /// Gathers the reply to a message that is refused, behind which the connection closes.
+    /// Gathers the reply to a message that is refused, after which the connection closes.
     fn refuse(&mut self, status: u16) -> Result<(), WriteFault>
         ensures written { Writes (held self.old) (held self.new) (refusal_bytes status) result }
         ensures cause { WritesBy (faults self.old) (faults self.new) result }
@@ -72,7 +72,7 @@ pub(crate) trait Outlet {
         ensures cause { HasCause (faults self.old) (faults self.new) result }
         ensures place { place self.new ≡ place self.old };
 
-    /// What is gathered stands behind what the sink took.
+    /// What is gathered comes after what the sink took.
     ghost is_held: { (o : Self) → held o ≡ append_known (sunk o) (left o) };
 
     /// The sink only grows.

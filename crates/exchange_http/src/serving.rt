@@ -136,12 +136,12 @@ pub fn serve_floor<
 
 /// Serves a connection of an exchange: reads messages from the source, and puts the reply to each into the sink, in their
 /// order. A request for bids at `/openrtb` is looked up; where it is new every lane's bidder is asked; then the clock is
-/// read, the desk ticks and takes the ask at that moment. Notices that stand whole in what was taken are taken together,
+/// read, the desk ticks and takes the ask at that moment. Notices that are whole in what was taken are taken together,
 /// up to 32 of them in one record of the journal, and one by one where the disk failed at that. What was written is put
 /// before more is taken from the source and before bidders are asked, and the sink has the replies to all
 /// messages whose calls were made but at most the last 32.
 ///
-/// Ends with the source between two messages, or behind a reply that says `close` (`Closed`); within a message (`Cut`); at
+/// Ends with the source between two messages, or after a reply that says `close` (`Closed`); within a message (`Cut`); at
 /// a message that is refused, its reply written (`Refused`); at a fault of the source or of the sink, whose count rose
 /// (`ReadFault`, `WriteFault`); after `MESSAGE_LIMIT` messages (`Spent`); or where memory is refused (`OutOfMemory`), the
 /// replies to all messages before put. A fault of the disk is answered by a reply, and the connection goes on.

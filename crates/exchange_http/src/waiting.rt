@@ -40,7 +40,7 @@ impl Waiting {
         Ok(Waiting { batch, outcomes })
     }
 
-    /// Lets a notice wait behind the others. False, and nothing is changed, exactly where 32 wait, or one of that award,
+    /// Lets a notice wait after the others. False, and nothing is changed, exactly where 32 wait, or one of that award,
     /// or the auction's id isn't of 1 to 128 bytes.
     pub(crate) fn add(&mut self, kind: NoticeKind, auction: &str, award: u32) -> bool
         ensures { MatchBool result
@@ -51,7 +51,7 @@ impl Waiting {
         self.batch.add(kind, auction, award)
     }
 
-    /// Takes the notices that wait, and gathers the replies to them in their order; behind the last of them the
+    /// Takes the notices that wait, and gathers the replies to them in their order; after the last of them the
     /// connection closes or stays.
     pub(crate) fn flush<Y: DayDesk, O: Outlet>(
         &mut self,
@@ -85,7 +85,7 @@ impl Waiting {
     }
 }
 
-/// Gathers the replies to notices; behind the last of them the connection closes or stays.
+/// Gathers the replies to notices; after the last of them the connection closes or stays.
 fn write_outcomes<O: Outlet>(
     outlet: &mut O,
     outcomes: &[Option<Answer>],
@@ -106,7 +106,7 @@ fn write_outcomes<O: Outlet>(
     Ok(())
 }
 
-/// Whether the connection closes behind a reply that these are behind.
+/// Whether the connection closes after a reply that these come after.
 fn closes_behind(close: bool, behind: &[Option<Answer>]) -> bool
     ensures { result ≡ (close && (length behind.now == 0)) }
 {

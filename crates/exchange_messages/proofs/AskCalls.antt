@@ -61,7 +61,7 @@ change_replied r terms at x answer said opened is replied =
     subst (λ (t : DeskTerms). AnswerReplies r (budget_reply t.day at x).answer (ask_told (with_entry at (budget_reply t.day at x).entry) (budget_reply t.day at x).answer) said) opened by_answer
 
 module _ {Y : Type 0} (runs : Y → Y → List Step → Type 0) (r : Roster) where
-  -- the copy of an ask that was done may be told
+  -- the copy of an ask that was done may be answered
   pub done_fits : (way : Way) (seen : Y → List Entry) (terms : DeskTerms) (old new : Y) (a : Ask) (done : Done) (lent : Option (Bor Ask))
       → ((steps : List Step) → runs old new steps → AreSteps way terms (seen old) steps (seen new)) → terms ≡ desk_terms r → IsAsked terms.day runs old new a done → option_map (λ x. x.now) lent ≡ done.ask → IfSome lent (λ a. MayBeTold a.now)
   done_fits way seen terms old new a done lent along opened (at, ran, is) shown =
@@ -78,7 +78,7 @@ module _ {Y : Type 0} (runs : Y → Y → List Step → Type 0) (r : Roster) whe
   pub call_left : {P : List Entry → Type 0} (old new : Y) (call : Call) (ended : Ended) → Takes runs old new call ended P → LeavesCall runs old new call
   call_left old new call ended (at, ran, is) = (record { at = at; call = call; ended = ended }, refl, ran)
 
-  -- one that was given up by a fault that its reply tells
+  -- one that was given up by a fault that its reply says
   pub fault_taken : (old new : Y) (call : Call) (fault : DeskFault) (told : Fault) (said : Reply) → told_as fault ≡ Some told → Takes runs old new call (ended_by fault) (λ at. Unit {0}) → said ≡ fault_reply told → TakesCall runs old new r call said
   fault_taken old new call fault told said is (at, ran, any) replied = record {
     called = record { at = at; call = call; ended = was_given_up told };
@@ -94,7 +94,7 @@ module _ {Y : Type 0} (runs : Y → Y → List Step → Type 0) (r : Roster) whe
       record { called = record { at = at; call = set_budget x; ended = was_done }; is = refl; ran = ran; replied = change_replied r terms at x answer said opened is replied }
 
   module _ (join : JoinsSteps runs) (IsMoment : ℕ → Type 0) (asked : BidRequest) (answers : List BidderAnswer) where
-    -- behind a tick that was done the ask was taken
+    -- after a tick that was done the ask was taken
     pub asked_ticked : {P : List Entry → Type 0} (old mid new : Y) (now : ℕ) (a : Ask) (said : Reply) → IsMoment now → a ≡ ask_by r asked answers now → Takes runs old mid (tick now) was_done P → TakesCall runs mid new r (ask a) said
         → AsksAt runs old new r IsMoment asked answers said
     asked_ticked old mid new now a said is_moment is (at, ran, any) taken =

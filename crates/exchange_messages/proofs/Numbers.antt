@@ -47,7 +47,7 @@ at_split history place a at = absurd (cc at)
 fits : (first before awards bids offers sold sales limit most cap : ℕ) → before ≡ first → awards ≡ before → awards ≤ bids → bids + offers ≤ limit → limit ≤ most → sold ≡ sales → sales ≤ offers → most ≤ cap → first + sold ≤ cap
 fits first before awards bids offers sold sales limit most cap e long few within under same less small = omega arith
 
--- an ask that stands in a legal history may be told
+-- an ask that is in a legal history may be answered
 pub may_be_told : (terms : Terms) (history : List Entry) (place : ℕ) (a : Ask) → AreTerms terms → IsLegal terms history → ask_at history place ≡ Some a → MayBeTold a
 may_be_told terms history place a are legal at =
     let s = at_split history place a at in

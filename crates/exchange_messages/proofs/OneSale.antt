@@ -17,7 +17,7 @@ use Rattle.rtb_response.specs.Notices.{notice_url}
 use Rattle.rtb_response.specs.declared.sold.Sold.{Sold}
 use Rattle.exchange_messages.specs.Sales.{HasTree, IsSale, IsSold, expanded, markup_values, sold_bids, texts_at}
 
--- what tells the addresses of an award's notices, as that crate has it
+-- what the addresses are of an award's notices, as that crate has it
 abbrev FirstOf : {T U : Type 0} → (T → U) → Type 0
 FirstOf {T} f = T
 
@@ -36,7 +36,7 @@ one_kept body t u (inl json) (inr (f, named, fault, none)) = absurd (no_fault bo
 one_kept body t u (inr (f, named, fault, none)) (inl json) = absurd (no_fault body u f named json fault)
 one_kept body t u (inr (f, named, fault, none)) (inr (g, other_named, other_fault, other_none)) = none ∙ sym other_none
 
--- what the exchange's answer tells of an award is a function of what is told of it
+-- what the exchange's answer says of an award is a function of what is said of it
 same_parts : (url : Urls) (s o : Sold) → s.award ≡ o.award → s.imp ≡ o.imp → s.seat ≡ o.seat → s.charge ≡ o.charge → tree_of s.body ≡ tree_of o.body → seat_tree url s ≡ seat_tree url o
 same_parts url s o award imp seat charge body = rw (award, imp, seat, charge, body) refl
 

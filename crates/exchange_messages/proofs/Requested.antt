@@ -93,12 +93,12 @@ module _ {L : Type 0} (Works : List ℕ → List ℕ → Lane L → Lane L → O
 abbrev pub GathersAt : {L : Type 0} → LinkGhosts L → Tree → BidRequest → List (Lane L) → List (Lane L) → List BidderAnswer → List Entry → Type 0
 GathersAt l t asked old new answers at = Gathers (works l) (seen_in at asked.id asked.digest) t asked old new answers
 
--- steps behind steps
+-- steps after steps
 abbrev pub JoinsSteps : {Y : Type 0} → (Y → Y → List Step → Type 0) → Type 0
 JoinsSteps {Y = Y} runs = (a b c : Y) (first rest : List Step) → runs a b first → runs b c rest → runs a c (first ++ rest)
 
 module _ {Y : Type 0} (runs : Y → Y → List Step → Type 0) (join : JoinsSteps runs) where
-  -- either way its steps are told
+  -- either way its steps are said
   pub request_runs : {A E : Type 0} (old mid new : Y) (r : Roster) (IsMoment : ℕ → Type 0) (asked : BidRequest) (lent : List BidderAnswer) (said : A → Reply) (at : List Entry) (result : Result A E) → runs old mid (looked at ∷ [])
       → IfOk result (λ a. AsksAt runs mid new r IsMoment asked lent (said a)) → OnErr result (StopsAt runs mid new r IsMoment asked lent ⊎ runs mid new [])
       → (steps : List Step) × runs old new steps
@@ -106,7 +106,7 @@ module _ {Y : Type 0} (runs : Y → Y → List Step → Type 0) (join : JoinsSte
   request_runs old mid new r IsMoment asked lent said at (Err e) look asked_so (inl stopped) = (looked at ∷ stopped.steps, join old mid new (looked at ∷ []) stopped.steps look stopped.ran)
   request_runs old mid new r IsMoment asked lent said at (Err e) look asked_so (inr none) = (looked at ∷ [], join old mid new (looked at ∷ []) [] look none)
 
-  -- either way the step of a change is told
+  -- either way the step of a change is said
   pub change_runs : {A E : Type 0} (old new : Y) (r : Roster) (call : Call) (said : A → Reply) (result : Result A E) → IfOk result (λ a. TakesCall runs old new r call (said a)) → OnErr result (LeavesCall runs old new call)
       → (steps : List Step) × runs old new steps
   change_runs old new r call said (Ok a) taken left = (took taken.called ∷ [], taken.ran)
@@ -123,7 +123,7 @@ module _ {Y L C G : Type 0} (y : DeskGhosts Y) where
     lanes = b.lanes ∙ a.lanes;
   }
 
-  -- a floor behind steps
+  -- a floor after steps
   pub floor_on : (same : (a b : Y) (steps : List Step) → y.runs a b steps → y.terms b ≡ y.terms a) (old new : Floor Y L C G) (steps : List Step) → new.roster ≡ old.roster → IsFloor y old → y.runs old.desk new.desk steps
       → AreLanes old.roster.now new.lanes.now.items → IsFloor y new
   floor_on same old new steps roster floor ran are = record {
@@ -167,7 +167,7 @@ module _ {Y L C G : Type 0} (y : DeskGhosts Y) (l : LinkGhosts L) (c : ClockGhos
     ran = look.1;
   }
 
-  -- or behind it
+  -- or after it
   pub request_stopped : (old new : Floor Y L C G) (mid : Y) (m : Request) (t : Tree) (asked : BidRequest) (answers lent : List BidderAnswer) → lent ≡ answers
       → Looks y.runs old.desk mid (GathersAt l t asked old.lanes.now.items new.lanes.now.items answers)
       → StopsAt y.runs mid new.desk old.roster.now (IsMomentOf (c.moment old.clock.now)) asked lent ⊎ y.runs mid new.desk [] → Means m (asks t asked) → GivesUpHere y l c old new m

@@ -1,4 +1,4 @@
--- The expansion of a template is by the texts that its values show, wherever these stand.
+-- The expansion of a template is by the texts that its values show, wherever these are.
 use Rattle.std.proofs.Common.{◌≡◌, ℕ, List, [], ◌∷◌, ◌++◌, Bool, true, false, ◌&&◌, ◌==◌, refl, ap, ◌∙◌, codes, ◌⊎◌, inl, inr}
 use Rattle.std.specs.List.{after_first, before_first, flat_map, list_any, slice_split}
 use Rattle.std.specs.Str.{bytes_eq}

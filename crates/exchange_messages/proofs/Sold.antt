@@ -1,4 +1,4 @@
--- Awards of an ask, told one behind another.
+-- Awards of an ask, written one after another.
 use Rattle.std.proofs.Common.{◌≡◌, ◌≤◌, ◌<◌, ℕ, zero, suc, ◌+◌, List, [], ◌∷◌, ◌++◌, take, drop, get_or, length, length-take, length-append, append_assoc, filter, Bool, true, cond, ◌==◌, Option, Some, None, refl, sym, ap, ◌∙◌, subst, inl, inr, codes, arith}
 use Rattle.std.specs.List.{AllZip, enumerate_from, flat_map, range_with_len}
 use Rattle.std.proofs.lemmas.Bool.{and_from, cases_lt, eq-eqb}
@@ -104,7 +104,7 @@ front_sold cs a imp items i done sold same low h =
 next : (n : ℕ) → suc n ≡ n + 1
 next n = omega arith
 
--- what stands for a number below another has room in what stands for all below that
+-- what holds a number below another has room in what holds all below that
 pub range_few : {X : Type 0} (f : ℕ → List X) (i n : ℕ) → i < n → length (flat_map f (range_with_len 0 i)) + length (f i) ≤ length (flat_map f (range_with_len 0 n))
 range_few f i zero low = absurd (omega (arith, low))
 range_few f i (suc n) low =

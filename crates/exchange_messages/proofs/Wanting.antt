@@ -1,4 +1,4 @@
--- What a message means, by what its head tells.
+-- What a message means, by what its head says.
 use Rattle.std.proofs.Common.{◌≡◌, ℕ, List, Bool, true, false, Option, Some, None, codes, refl, sym, ap, ap₂, ◌∙◌, subst}
 use Rattle.std.specs.Cow.{cow_str_bytes}
 use Rattle.adx_http.specs.Targets.{path_of, query_of, value_of}
@@ -38,7 +38,7 @@ by_path : (m : Request) (p : Path) (meaning : Meaning) → path_named (path_of m
 by_path m p meaning named served h =
     subst (λ o. MeansBy o m meaning) (sym named) (subst (λ b. ServedMeans b p m meaning) (sym served) h)
 
--- what is wanted is what is meant, where the head tells it
+-- what is wanted is what is meant, where the head says it
 other_told : (m : Request) (o : Other) (meaning : Meaning) → other_meaning o ≡ Some meaning → Means m meaning → WantsOther m o
 other_told m Other.Bids meaning told h = absurd (cc told)
 other_told m Other.Books meaning told h = let same : meaning ≡ wants_books = cc told in subst (Means m) same h

@@ -27,7 +27,7 @@ module _ {Y : Type 0} (runs : Y → Y → List Step → Type 0) (old new : Y) wh
   abbrev pub ShowsMeters : (Meters → Type 0) → Type 0
   ShowsMeters IsSo = (at : List Entry) × (m : Meters) × runs old new (metered at m ∷ []) × IsSo m
 
-  -- a request was asked at a moment of the clock, by what its bidders answered, behind a tick at that moment
+  -- a request was asked at a moment of the clock, by what its bidders answered, after a tick at that moment
   pub record AsksAt (r : Roster) (IsMoment : ℕ → Type 0) (asked : BidRequest) (answers : List BidderAnswer) (said : Reply) : Type 0 where
     pub steps : List Step
     pub now : ℕ

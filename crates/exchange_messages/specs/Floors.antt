@@ -19,7 +19,7 @@ use Rattle.exchange_messages.specs.declared.floor.Floor.{Floor}
 use Rattle.exchange_messages.specs.declared.gathering.Round.{Round}
 use Rattle.adx_units.specs.declared.memory.OutOfMemory.{OutOfMemory}
 
--- a moment that a clock gives: below 2^63, and the one that it tells
+-- a moment that a clock gives: below 2^63, and the one that it reports
 -- Example: of two bidders whose first lane's link fails, the answers are none and the second one's bids.
 abbrev pub IsMomentOf : Option ℕ → ℕ → Type 0
 IsMomentOf told now = (now < 2 ^ 63) × IfSome told (λ m. now ≡ m)

@@ -3,7 +3,7 @@
 use Rattle.std.specs.Prelude.{ℕ, List, ◌++◌, codes, decimal}
 use Rattle.day_rules.specs.declared.meters.Meters.{Meters}
 
--- a number behind its name
+-- a number after its name
 abbrev pub meter_text : List ℕ → ℕ → List ℕ
 meter_text name number = name ++ decimal number
 
@@ -18,5 +18,6 @@ counts_part m =
 abbrev pub money_part : Meters → List ℕ
 money_part m = meter_text (codes ",\"reserved\":") m.reserved ++ meter_text (codes ",\"billed\":") m.billed
 
+-- the meters as one JSON object: the counts, and then the money in units
 abbrev pub meters_text : Meters → List ℕ
 meters_text m = counts_part m ++ money_part m ++ codes "}"

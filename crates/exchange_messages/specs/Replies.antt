@@ -36,7 +36,7 @@ refusal_reply Refusal.Call = with_status 400 (refused_body (codes "call"))
 refusal_reply (Refusal.Json fault) = with_status 400 (refused_body (json_why fault))
 refusal_reply (Refusal.Request fault) = with_status 400 (refused_body (request_why fault))
 
--- a message may be told the refusal: it isn't want of memory
+-- a message may be answered by the refusal: it isn't out of memory
 abbrev pub IsTold : Refusal → Type 0
 IsTold Refusal.Path = Unit {0}
 IsTold (Refusal.Method path) = Unit {0}

@@ -37,7 +37,7 @@ abbrev pub no_texts : ℕ → Kept
 no_texts place = record { bid = place; seat = []; bidid = []; adid = []; nurl = []; burl = []; lurl = []; body = [] }
 
 -- the texts that are kept of the bid at a place, or empty ones. markup_values a o k: what the macros of its markup
--- stand for: its charge is the price, and there is no loss
+-- represent: its charge is the price, and there is no loss
 abbrev pub texts_at : List Kept → ℕ → Kept
 texts_at kept place = unwrap_or (find (λ k. k.bid == place) kept) (no_texts place)
 
@@ -45,7 +45,7 @@ texts_at kept place = unwrap_or (find (λ k. k.bid == place) kept) (no_texts pla
 abbrev pub imp_sold : Ask → Offer → List ℕ
 imp_sold a o = slice_index_or a.imps o.imp []
 
--- what the macros of an award's markup stand for: its charge is the price, and there is no loss
+-- what the macros of an award's markup represent: its charge is the price, and there is no loss
 abbrev pub markup_values : Ask → Offer → Kept → Values
 markup_values a o k = record {
   auction = lent a.auction;
@@ -62,6 +62,7 @@ abbrev pub with_markup : Values → Tree → Option (List ℕ) → Tree
 with_markup values t None = t
 with_markup values t (Some markup) = with_member (codes "adm") (text (markup_expansion values markup)) t
 
+-- the body with the macros of its `adm` replaced; a body without that text stays as it is
 abbrev pub expanded : Values → Tree → Tree
 expanded values t = with_markup values t (text_in (member_in (codes "adm") t))
 
@@ -74,7 +75,7 @@ abbrev pub IsBodySold : Ask → Offer → ℕ → Tree → Type 0
 IsBodySold a offer place sold =
     (t : Tree) × HasTree (texts_at a.kept place).body t × (sold ≡ expanded (markup_values a offer (texts_at a.kept place)) t)
 
--- an award with its number, of an offer at a place: what the exchange's answer tells of it
+-- an award with its number, of an offer at a place: what the exchange's answer says of it
 pub record IsSold (campaigns : List Campaign) (a : Ask) (award : ℕ × (ℕ × Offer)) (s : Sold) : Type 0 where
   pub number : s.award ≡ award.0
   pub imp : s.imp ≡ imp_sold a award.1.1

@@ -59,7 +59,7 @@ abbrev pub SoldReplies : Bool → Roster → Ask → Reply → Type 0
 SoldReplies true r a said = (body : List ℕ) × IsSale r a body × (said ≡ sale_reply body)
 SoldReplies false r a said = said ≡ no_content
 
--- the same, if there is one; a notice that stands there already is about none
+-- the same, if there is one; a notice that is there already is about none
 abbrev pub AskReplies : Roster → Option Ask → Reply → Type 0
 AskReplies r None said = said ≡ no_content
 AskReplies r (Some a) said = SoldReplies (is_awarded a) r a said
@@ -89,6 +89,7 @@ RepliesBy r at call was_done said =
 RepliesBy r at call (was_given_up fault) said = said ≡ fault_reply fault
 RepliesBy r at call wanted_memory said = ⊥
 
+-- the reply to a call, by the history at which it was taken and how it ended
 abbrev pub CallReplies : Roster → Called → Reply → Type 0
 CallReplies r c said = RepliesBy r c.at c.call c.ended said
 
@@ -96,7 +97,7 @@ CallReplies r c said = RepliesBy r c.at c.call c.ended said
 abbrev pub change_call : Roster → List ℕ → List ℕ → ℕ → Units → Call
 change_call r seat cid change budget = set_budget (change_of (pair_place r.campaigns seat cid) change budget)
 
--- Behind the tick of a request: where that was done, the request is asked at the same moment; where the disk's fault gave
+-- After the tick of a request: where that was done, the request is asked at the same moment; where the disk's fault gave
 -- it up, it isn't.
 abbrev pub AsksBehind : Roster → BidRequest → List BidderAnswer → ℕ → Called → Ended → List Step → Reply → Type 0
 AsksBehind r asked answers now ticked was_done steps said =
@@ -150,7 +151,7 @@ module _ {L : Type 0} (Works : List ℕ → List ℕ → Lane L → Lane L → O
     pub means : Means request meaning
     pub answered : IsAnsweredAs old meaning steps new said
 
-  -- The steps of a request for bids whose reply wasn't made, for want of memory: a look, or with its tick, or with its tick and
+  -- The steps of a request for bids whose reply wasn't made, for lack of memory: a look, or with its tick, or with its tick and
   -- its ask. Its lanes are as their work left them.
   abbrev pub LeavesAsked : List (Lane L) → Tree → BidRequest → List Step → List (Lane L) → Type 0
   LeavesAsked old t asked steps new =
@@ -162,7 +163,7 @@ module _ {L : Type 0} (Works : List ℕ → List ℕ → Lane L → Lane L → O
       ⊎ ((ticked.ended ≡ was_done) × (c : Called) × (c.call ≡ ask (ask_by r asked answers now))
       × (later ≡ took ticked ∷ took c ∷ [])))))
 
-  -- the call of a change of a budget whose reply wasn't made, for want of memory
+  -- the call of a change of a budget whose reply wasn't made, for lack of memory
   abbrev pub LeavesChange : List (Lane L) → Request → List Step → List (Lane L) → Type 0
   LeavesChange old request steps new =
       (seat cid : List ℕ) × (change : ℕ) × (budget : Units) × Means request (sets_budget seat cid change budget)

@@ -1,4 +1,4 @@
--- What the head of a message tells of what it means.
+-- What the head of a message says of what it means.
 use Rattle.std.specs.Prelude.{◌≡◌, ℕ, List, Option, Some, None}
 use Rattle.std.specs.Cow.{cow_str_bytes}
 use Rattle.http_connection.specs.Messages.{Request}
@@ -12,7 +12,7 @@ use Rattle.exchange_messages.specs.declared.wanted.Wanted.{Wanted}
 abbrev pub change_meant : ChangeTexts → Meaning
 change_meant c = change_meaning (cow_str_bytes c.seat) (cow_str_bytes c.cid) (cow_str_bytes c.number) (cow_str_bytes c.budget)
 
--- the meaning of a message that wants this, where its head tells it
+-- the meaning of a message that wants this, where its head says it
 abbrev pub other_meaning : Other → Option Meaning
 other_meaning Other.Bids = None
 other_meaning Other.Books = Some wants_books
@@ -20,6 +20,7 @@ other_meaning Other.Meters = Some wants_meters
 other_meaning (Other.Budget change) = Some (change_meant change)
 other_meaning (Other.Nothing why) = Some (refused why)
 
+-- what is meant by a message that wants this; a request for bids means what its body says, which isn't read yet
 abbrev pub meaning_of : Wanted → Option Meaning
 meaning_of (Wanted.Notice kind auction award) = Some (notifies kind (cow_str_bytes auction) award)
 meaning_of (Wanted.Other other) = other_meaning other

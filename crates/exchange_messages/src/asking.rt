@@ -32,7 +32,7 @@ use std::alloc::Global;
 /// The room with which the body that bidders are asked with begins, in bytes: that of a short one.
 const BODY_ROOM: usize = 1_024;
 
-/// What the bidders answer to a request; nobody is asked, and none answers, where the request or its id stands in the
+/// What the bidders answer to a request; nobody is asked, and none answers, where the request or its id is in the
 /// history.
 pub(crate) fn gather_new<Y: DayDesk, L: Link + Drop, F: Fn(Round<'_, L>) -> Given<L>>(
     alloc: Global,
@@ -93,7 +93,7 @@ fn take_ask<Y: DayDesk>(
     }
 }
 
-/// Asks a request by what its bidders answered, at the moment that the clock tells and behind a tick at that moment; the
+/// Asks a request by what its bidders answered, at the moment that the clock reports and after a tick at that moment; the
 /// reply's body is put into `out`.
 pub(crate) fn ask_now<Y: DayDesk, C: Clock>(
     alloc: Global,

@@ -43,7 +43,7 @@ pub struct Floor<'a, Y, L, C, F> {
     pub desk: Y,
     /// A lane for each bidder of the roster.
     pub lanes: &'a mut Vec<Lane<L>>,
-    /// What tells the moment of each request.
+    /// What gives the moment of each request.
     pub clock: &'a C,
     /// How the lanes are asked.
     pub gatherer: F,

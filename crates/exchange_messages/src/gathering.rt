@@ -19,7 +19,7 @@ pub struct Round<'a, L> {
     pub id: &'a Id,
 }
 
-/// The lanes behind their work, and the bidders' answers in the order of the lanes.
+/// The lanes after their work, and the bidders' answers in the order of the lanes.
 pub type Given<L> = (Vec<Lane<L>>, Result<Vec<BidderAnswer>, OutOfMemory>);
 
 /// Asks one bidder after the other, without threads.

@@ -3,14 +3,14 @@
 //! A message asks for bids, is a notice, sets a budget, wants the books or the meters, or is refused; that is one
 //! relation over its head and body (`Means`), and what it is answered is one relation over the day's history
 //! (`IsAnswered`): the calls that it makes, what becomes of the lanes to the bidders, and the reply. The functions read
-//! what the head tells, and write the replies: the exchange's answer to an ask that was awarded (OpenRTB 2.6, section
+//! what the head says, and write the replies: the exchange's answer to an ask that was awarded (OpenRTB 2.6, section
 //! 4.2.1), what else a call is answered, the meters, and why a message is no call.
 //!
 //! What an exchange does with a message: on its day's desk, over the lanes to its bidders, at the moment of its clock.
 //! A `Floor` takes messages one at a time, over a desk that is owned or shared and with lanes that are asked in turn or
 //! at once. `make_ask` is the ask of a request and its answers.
 //!
-//! Stands on `desk_calls` for the desk, on `fan_out` for the bidders, and on `http_service` for messages.
+//! Uses `desk_calls` for the desk, `fan_out` for the bidders, and `http_service` for messages.
 #![tactic(auto)]
 
 mod asking;

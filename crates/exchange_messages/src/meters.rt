@@ -6,7 +6,7 @@ use adx_json::push_number;
 use adx_units::OutOfMemory;
 use day_rules::Meters;
 
-/// Writes a number behind its name.
+/// Writes a number after its name.
 fn push_meter(out: &mut String, name: &str, number: u64) -> Result<(), OutOfMemory>
     ensures { OnOk result (string_bytes out.new ≡ string_bytes out.old ++ meter_text name.now number) }
 {

@@ -33,7 +33,7 @@ fn push_body_refused(alloc: Global, out: &mut String, why: &LineRefusal) -> Resu
 }
 
 /// The reply to a message that is no call of the day, with its body in `out`. An error says that memory was refused, here
-/// or before, as the refusal tells.
+/// or before, as the refusal says.
 pub fn refuse(alloc: Global, out: &mut String, why: Refusal) -> Result<HttpAnswer, OutOfMemory>
     requires { string_bytes out.old ≡ [] }
     ensures replied { IfOk result (λ a. reply_of a (string_bytes out.new) ≡ refusal_reply why) }

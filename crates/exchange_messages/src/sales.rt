@@ -167,7 +167,7 @@ fn add_if_sold(
     Ok(())
 }
 
-/// Adds the awards for an impression behind those for the impressions before it.
+/// Adds the awards for an impression after those for the impressions before it.
 fn add_sold(
     alloc: Global,
     roster: &Roster,
@@ -188,7 +188,7 @@ fn add_sold(
     Ok(())
 }
 
-/// What the exchange's answer tells of the awards of an ask, in the order of its impressions.
+/// What the exchange's answer says of the awards of an ask, in the order of its impressions.
 fn all_sold(alloc: Global, roster: &Roster, ask: &Ask) -> Result<Vec<Sold>, OutOfMemory>
     requires told { MayBeTold ask.now }
     ensures { IfOk result (λ v. AreSold roster.entry.now.campaigns ask.entry.now (sold_bids ask.entry.now) v.items) }

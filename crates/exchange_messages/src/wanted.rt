@@ -1,4 +1,4 @@
-//! What a message wants, as far as its head tells.
+//! What a message wants, as far as its head says.
 ghost use Rattle.std.specs.Prelude.{◌≡◌, IfOk};
 ghost use Rattle.http_connection.specs.Answers.{Shows};
 ghost use Rattle.http_connection.specs.Messages.{Request};
@@ -27,7 +27,7 @@ pub struct ChangeTexts<'a> {
     pub budget: CowStr<'a, Global>,
 }
 
-/// What a message wants that is no notice, as far as its head tells.
+/// What a message wants that is no notice, as far as its head says.
 #[derive(Drop)]
 pub enum Other<'a> {
     /// Bids, for the request in its body.
@@ -42,7 +42,7 @@ pub enum Other<'a> {
     Nothing(Refusal),
 }
 
-/// What a message wants, as far as its head tells.
+/// What a message wants, as far as its head says.
 #[derive(Drop)]
 pub enum Wanted<'a> {
     /// That a notice of an award of an auction is taken.

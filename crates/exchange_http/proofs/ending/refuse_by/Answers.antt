@@ -1,4 +1,4 @@
--- The refusal, or some front of it, behind all that was put.
+-- The refusal, or some front of it, after all that was put.
 use Rattle.std.proofs.Common.{[], refl, sym, ◌∙◌, take, drop, arith, append-nil}
 use Rattle.std.proofs.lemmas.List.{take-append-drop}
 use Rattle.http_service.specs.Replies.{refusal_bytes}

@@ -1,4 +1,4 @@
--- The laws stand in `Meant`.
+-- The laws are in `Meant`.
 use Rattle.exchange_http.proofs.Meant.{has_meaning, one_meaning}
 use Rattle.exchange_http.proofs.laws.has_meaning.Goals as goal
 

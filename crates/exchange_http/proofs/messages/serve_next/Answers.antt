@@ -1,4 +1,4 @@
--- The next message, from what was taken, or behind all replies.
+-- The next message, from what was taken, or after all replies.
 use Rattle.exchange_messages.proofs.Requested.{kept_on}
 use Rattle.fan_out.specs.Lanes.{works}
 use Rattle.std.proofs.Common.{◌≡◌, ◌≤◌, ℕ, suc, [], length, Option, refl, sym, ap, ◌∙◌, subst}

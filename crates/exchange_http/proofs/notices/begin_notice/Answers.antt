@@ -1,4 +1,4 @@
--- A notice waits behind none, or was taken alone.
+-- A notice waits after none, or was taken alone.
 use Rattle.std.proofs.Common.{◌≡◌, [], ◌∷◌, ◌++◌, sym, ◌∙◌}
 use Rattle.day_rules.specs.Laws.{Arrival}
 use Rattle.exchange_messages.specs.Floors.{IsMomentOf}

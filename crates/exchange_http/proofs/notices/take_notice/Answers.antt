@@ -1,4 +1,4 @@
--- A notice waits behind others, or behind none that were taken first.
+-- A notice waits after others, or after none that were taken first.
 use Rattle.std.proofs.Common.{◌≡◌, [], ◌∷◌, ◌++◌, false, refl, sym, ◌∙◌}
 use Rattle.day_rules.specs.Laws.{Arrival}
 use Rattle.exchange_http.specs.Running.{before_one}

@@ -1,4 +1,4 @@
--- One message more, behind the notices that waited and with all replies put.
+-- One message more, after the notices that waited and with all replies put.
 use Rattle.exchange_messages.proofs.Requested.{kept_on}
 use Rattle.fan_out.specs.Lanes.{works}
 use Rattle.std.proofs.Common.{◌≡◌, [], refl, sym, ap, ◌∙◌}

@@ -1,4 +1,4 @@
--- The tick, and the ask behind it.
+-- The tick, and the ask after it.
 use Rattle.std.proofs.Common.{inl, inr, ◌∙◌, string_bytes}
 use Rattle.std.proofs.lemmas.Result.{IfOk-weaker}
 use Rattle.desk_calls.proofs.ToldAnswers.{on_err}

@@ -1,4 +1,4 @@
--- The counts, one behind the other.
+-- The counts, one after the other.
 use Rattle.std.proofs.Common.{◌≡◌, ◌++◌, codes, string_bytes}
 use Rattle.answer_lines.proofs.Chains.{and_then}
 use Rattle.exchange_messages.specs.Meters.{meter_text}

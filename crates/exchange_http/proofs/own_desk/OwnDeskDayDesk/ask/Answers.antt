@@ -1,4 +1,4 @@
--- An ask was done, or given up, or wasn't taken for want of memory.
+-- An ask was done, or given up, or wasn't taken for lack of memory.
 use Rattle.day_rules.specs.Replies.{ask}
 use Rattle.exchange_http.proofs.OwnCalls.{own_asked, own_refused}
 use Rattle.exchange_http.proofs.own_desk.OwnDeskDayDesk.ask.Goals as goal

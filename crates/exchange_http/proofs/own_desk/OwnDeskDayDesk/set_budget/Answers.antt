@@ -1,4 +1,4 @@
--- A change of a budget was done, or given up, or wasn't taken for want of memory.
+-- A change of a budget was done, or given up, or wasn't taken for lack of memory.
 use Rattle.day_rules.specs.Entries.{change_of}
 use Rattle.day_rules.specs.Replies.{set_budget}
 use Rattle.exchange_http.proofs.OwnCalls.{own_changed, own_refused}
