@@ -1,8 +1,8 @@
 //! A checker of certificates, for who audits a closed day and needs nothing of the exchange that served it.
 //!
-//! The program reads a document from standard input, a record with a certificate behind it, and writes one line: the bound of
+//! The program reads a document from standard input, a record with a certificate after it, and writes one line: the bound of
 //! a certificate that is accepted, or why it isn't. The call `check_input` of `command_check` does all that it does, from the
-//! bytes of a source to those of a sink and the exit status; its contract is the program's. Here stand the standard streams
+//! bytes of a source to those of a sink and the exit status; its contract is the program's. Here are the standard streams
 //! and what is said on standard error.
 #![tactic(auto)]
 
@@ -18,7 +18,7 @@ use std::io;
 use std::io::ErrorKind;
 use std::process::ExitCode;
 
-/// Whether words stand behind the program's name.
+/// Whether words come after the program's name.
 fn has_words(rt: &HostRuntime) -> io::Result<bool> {
     Ok(std::env::args(rt)?.nth(1).is_some())
 }

@@ -1,4 +1,4 @@
--- Connections served one behind another, and how a run over them ends.
+-- Connections served one after another, and how a run over them ends.
 use Rattle.std.proofs.Common.{◌≡◌, ℕ, List, [], ◌∷◌, ◌++◌, Bool, true, false, ◌||◌, refl, sym, ap, ◌∙◌, subst, inl, inr}
 use Rattle.std.proofs.Math.Bool.{or-false, or_assoc}
 use Rattle.adx_links.specs.Pairs.{AcceptorTold}
@@ -15,7 +15,7 @@ pub one_more : (cs : List Connection) (c : Connection) (first mid now : BidderSt
 one_more [] c first mid now are is = (now, subst (λ (b : BidderState). IsServed b c now) are is, refl)
 one_more (x ∷ cs) c first mid now (between, one, rest) is = (between, one, one_more cs c between mid now rest is)
 
--- whether one of them ended for want of memory, once one more was served
+-- whether one of them ended for lack of memory, once one more was served
 pub short_more : (cs : List Connection) (c : Connection) → is_any_short (cs ++ c ∷ []) ≡ (is_any_short cs || is_short c.end)
 short_more [] c = or-false (is_short c.end)
 short_more (x ∷ cs) c = ap (λ (b : Bool). is_short x.end || b) (short_more cs c) ∙ sym (or_assoc (is_short x.end) (is_any_short cs) (is_short c.end))
@@ -48,7 +48,7 @@ serves_none old new first bidder now short (cs, k) t = (
   },
 )
 
--- the end that a run tells, by whether one of its connections ended for want of memory
+-- the end that a run answers, by whether one of its connections ended for lack of memory
 pub ends_over : (old new : AcceptorTold) (first now : BidderState) (short : Bool) (end : BidEnd) → HasServedSome new first now short → IsOver old new →
     (short ≡ true → end ≡ BidEnd.OutOfMemory) → (short ≡ false → end ≡ BidEnd.Over) → EndsServing old new first now end
 ends_over old new first now true end some over wants whole = subst (EndsServing old new first now) (sym (wants refl)) (some, inl over)

@@ -23,7 +23,7 @@ abbrev pub lack_line : NoLine → List ℕ
 lack_line NoLine.Cut = roster_refused_line RosterRefusal.Cut
 lack_line NoLine.Long = roster_refused_line RosterRefusal.Long
 
--- a first line tells the bidder whose price line it is, with no notice yet; another is refused by its first fault
+-- a first line says the bidder whose price line it is, with no notice yet; another is refused by its first fault
 abbrev pub price_heads : Heads BidderState
 price_heads = record {
   tells = IsPriceLine;

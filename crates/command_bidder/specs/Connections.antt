@@ -7,7 +7,7 @@ use Rattle.http_connection.specs.declared.conn.ConnEnd.{ConnEnd}
 use Rattle.http_service.specs.Connections.{EndsWith, HasCauses}
 use Rattle.http_service.specs.declared.limits.TheConstants.{REQUEST_LIMIT}
 
--- a connection: what its pair told when it was given out and when it was given back, and how it ended
+-- a connection: what its pair reported when it was given out and when it was given back, and how it ended
 -- Example: a bill on the first connection and the same bill on the second: 204 twice, and one row in the ledger.
 pub record Connection : Type 0 where
   pub came : PairTold
@@ -25,7 +25,7 @@ abbrev pub AreServed : BidderState → List Connection → BidderState → Type 
 AreServed bidder [] now = now ≡ bidder
 AreServed bidder (c ∷ cs) now = (between : BidderState) × IsServed bidder c between × AreServed between cs now
 
--- the connection ended for want of memory
+-- the connection ended for lack of memory
 abbrev pub is_short : ConnEnd → Bool
 is_short ConnEnd.Closed = false
 is_short ConnEnd.Cut = false

@@ -23,7 +23,7 @@ LacksPrices document why =
     ((line : List ℕ) × IsShortLine document line × RefusesPriceLine line why)
     ⊎ ((none : NoLine) × HasNoLine none document × (why ≡ refusal_by none))
 
--- what was found of the document; where memory was refused nothing is told
+-- what was found of the document; where memory was refused nothing is said
 abbrev pub FindsFirst : List ℕ → Result BidderState PricesFault → Type 0
 FindsFirst document (Ok b) = BeginsWithPrices document b
 FindsFirst document (Err (PricesFault.Refused why)) = LacksPrices document why

@@ -31,7 +31,7 @@ RefusesPriceLine line why =
     ((t : Tree) × IsJson line t × RefusesPrices t why)
     ⊎ ((f : JsonFault) × (f ≢ JsonFault.OutOfMemory) × IsFault line f × (why ≡ Json f))
 
--- what was found of the line's value; where memory was refused nothing is told
+-- what was found of the line's value; where memory was refused nothing is said
 abbrev pub FindsPrices : Tree → Result BidderState PricesFault → Type 0
 FindsPrices t (Ok b) = IsPrices t b
 FindsPrices t (Err (PricesFault.Refused why)) = RefusesPrices t why

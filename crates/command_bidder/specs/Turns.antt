@@ -36,7 +36,7 @@ pub record HasServed (new : AcceptorTold) (bidder now : BidderState) (connection
 abbrev pub HasServedSome : AcceptorTold → BidderState → BidderState → Bool → Type 0
 HasServedSome new bidder now short = (cs : List Connection) × HasServed new bidder now cs short
 
--- how a run behind the price line ended
+-- how a run after the price line ended
 abbrev pub EndsServing : AcceptorTold → AcceptorTold → BidderState → BidderState → BidEnd → Type 0
 EndsServing old new bidder now BidEnd.Over = HasServedSome new bidder now false × IsOver old new
 EndsServing old new bidder now (BidEnd.Refused why) = ⊥

@@ -14,7 +14,7 @@ use bidder_core::Bidder;
 use std::alloc::Global;
 use std::sync::Wait;
 
-/// How a run ends whose acceptor ended it so. Want of memory stands first.
+/// How a run ends whose acceptor ended it so. Lack of memory comes first.
 fn ended(short: bool, end: BidEnd) -> BidEnd
     ensures short { short ≡ true → result ≡ OutOfMemory }
     ensures whole { short ≡ false → result ≡ end }
@@ -44,12 +44,12 @@ fn serve_all<R: Wait, A: Acceptor>(
     unreachable!()
 }
 
-/// Serves a bidder over an acceptor: its price line is the first of the document, and what comes behind the line isn't
+/// Serves a bidder over an acceptor: its price line is the first of the document, and what comes after the line isn't
 /// looked at. Connections are served one after another, each with the ledger that those before it left. However a
 /// connection ends, its pair is closed for its peer and given back, and the next one is taken.
 ///
-/// `Over`: no more connections come, and none ended for want of memory. `Refused`: the first line isn't a price line, and
-/// the acceptor is as it was. `AcceptorFault`: the acceptor failed, whose count rose then, and no connection ended for want
+/// `Over`: no more connections come, and none ended for lack of memory. `Refused`: the first line isn't a price line, and
+/// the acceptor is as it was. `AcceptorFault`: the acceptor failed, whose count rose then, and no connection ended for lack
 /// of memory. `OutOfMemory`: memory was refused before the bidder was made, and the acceptor is as it was; or within a
 /// connection, and the run went on to its end.
 ///

@@ -19,7 +19,7 @@ fn refusal_of(none: NoLine) -> RosterRefusal
     }
 }
 
-/// The bidder of the first line of a document, with no notice yet, or why it is none. What comes behind the line isn't
+/// The bidder of the first line of a document, with no notice yet, or why it is none. What comes after the line isn't
 /// looked at.
 pub fn first_prices(alloc: Global, document: &[u8]) -> Result<Bidder, PricesFault>
     ensures finds { FindsFirst document.now result }

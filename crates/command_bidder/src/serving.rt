@@ -105,7 +105,7 @@ impl Led for Bidding {
 }
 
 /// Serves a bidder: its price line is the first of the source, and the HTTP connection that comes after it brings what the
-/// bidder is asked, told and shows. What is replied is put into the sink before more is asked of the source.
+/// bidder is asked, sent and shows. What is replied is put into the sink before more is asked of the source.
 ///
 /// `Done`: the connection was read to an end of its own, and all replies were put. `Refused`: the first line isn't a price
 /// line, and the sink took the answer that says why; at most one piece was taken from the source after it. No other outcome

@@ -14,7 +14,7 @@ use std::alloc::Global;
 /// What came of a turn.
 #[derive(Clone, Copy)]
 pub(crate) enum Turn {
-    /// A connection was served, and whether it ended for want of memory.
+    /// A connection was served, and whether it ended for lack of memory.
     Served(bool),
     /// No more connections come.
     Over,
@@ -22,7 +22,7 @@ pub(crate) enum Turn {
     Failed,
 }
 
-/// Whether a connection ended for want of memory.
+/// Whether a connection ended for lack of memory.
 fn ends_short(end: ConnEnd) -> bool
     ensures { result ≡ is_short end }
 {

@@ -1,4 +1,4 @@
--- Pieces of a document, one behind another.
+-- Pieces of a document, one after another.
 use Rattle.std.proofs.Common.{◌≡◌, ◌∙◌, ◌<◌, ◌+◌, ℕ, List, [], ◌∷◌, ◌++◌, length, take, map, get_or, slice_index_or, Option, Result, Ok, Err, sym, ap, subst, append_assoc, append-nil, arith}
 use Rattle.std.proofs.lemmas.List.{get_or-map, length-map, take_more}
 use Rattle.std.proofs.lemmas.List.FromFn.{get_or-enumerate_from, length-enumerate_from}
@@ -9,7 +9,7 @@ use Rattle.formats.specs.Parts.{ended}
 use Rattle.history_runs.specs.Putting.{PutsBytes, PutsFront, PutsPiece}
 use Rattle.history_runs.proofs.Putting.{front_on, puts_first, puts_more}
 
--- a piece behind another
+-- a piece after another
 pub steps_on : (h0 h1 h2 : Option (List ℕ)) (o0 o1 o2 x y : List ℕ) (result : Result (Unit {0}) Stop)
     → PutsFront h0 h1 (o0 ++ x) o1 → PutsPiece h1 h2 (o1 ++ y) o2 result → PutsPiece h0 h2 (o0 ++ (x ++ y)) o2 result
 steps_on h0 h1 h2 o0 o1 o2 x y (Ok done) first step =
@@ -23,7 +23,7 @@ pub stops_first : (h0 h1 : Option (List ℕ)) (o0 x y : List ℕ) (stop : Stop) 
 stops_first h0 h1 o0 x y stop puts =
     subst (λ (b : List ℕ). PutsBytes h0 h1 b (Err stop)) (append_assoc o0 x y) (puts_first h0 h1 (o0 ++ x) y stop puts)
 
--- more was written behind what is still to be put
+-- more was written after what is still to be put
 pub written_more : (h0 h1 : Option (List ℕ)) (o0 o1 o2 x y : List ℕ) → PutsFront h0 h1 (o0 ++ x) o1 → o2 ≡ o1 ++ y → PutsFront h0 h1 (o0 ++ (x ++ y)) o2
 written_more h0 h1 o0 o1 o2 x y first is = record {
   front = first.front;

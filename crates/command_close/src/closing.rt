@@ -73,7 +73,7 @@ impl Lines for BetaLines<'_> {
     }
 }
 
-/// Writes a record's last line behind those of its impressions, which are put in pieces.
+/// Writes a record's last line after those of its impressions, which are put in pieces.
 fn put_imps<S: Source, K: Sink>(imps: &[ImpRow], talk: &mut Talk<'_, S, K>) -> Result<(), Stop>
     ensures puts { PutsPiece (state_of talk.old).held (state_of talk.new).held
         ((state_of talk.old).out ++ (flat_map ended (map imp_line (enumerate_from 0 imps.now)) ++ ended (end_line (length imps.now))))
@@ -105,7 +105,7 @@ fn put_record<S: Source, K: Sink>(day: &Record, talk: &mut Talk<'_, S, K>) -> Re
     }
 }
 
-/// Writes a certificate's last line behind those of its betas, which are put in pieces.
+/// Writes a certificate's last line after those of its betas, which are put in pieces.
 fn put_betas<S: Source, K: Sink>(
     betas: &[u64],
     bound: u128,
@@ -190,7 +190,7 @@ fn put_closed_day<S: Source, K: Sink>(
     match close_day(alloc, roster, entries) {
         Ok(closed) => {
             let put = put_document(&closed, talk);
-            // The program ends behind it: as that of the desk that is left, this memory isn't freed piece by piece.
+            // The program ends after it: as that of the desk that is left, this memory isn't freed piece by piece.
             forget(closed);
             put
         }
@@ -223,7 +223,7 @@ impl Print for ClosedDays {
 /// no assignment of the day's impressions passes. A checker accepts that certificate.
 ///
 /// The first line of the source is the roster's; what comes after it is read to its end and nothing depends on it. Then the
-/// roster's day is opened on the disk, and the document is put into the sink. No entry is added: the disk stands for the
+/// roster's day is opened on the disk, and the document is put into the sink. No entry is added: the disk represents the
 /// same history afterwards.
 ///
 /// `Done`: the sink took the whole document. `Refused`: the first line isn't a roster's, or the input passes `INPUT_LIMIT`

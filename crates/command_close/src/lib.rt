@@ -2,8 +2,8 @@
 //!
 //! `close_journal` prints the document of the day that a journal keeps: the record of its history, and the certificate
 //! that bounds what any assignment of its impressions earns. `measure_journal` prints the line of its revenue guarantee.
-//! What they print stands in `specs/ClosedDays` and `specs/Guarantees`.
-//! Stands on `history_runs` for the run, on `served_record` for the document, and on `ratio_law` for the guarantee.
+//! What they print is in `specs/ClosedDays` and `specs/Guarantees`.
+//! Uses `history_runs` for the run, `served_record` for the document, and `ratio_law` for the guarantee.
 #![tactic(auto)]
 
 mod closing;

@@ -61,7 +61,7 @@ fn put_line<L: Lines, S: Source, K: Sink>(
     }
 }
 
-/// Puts lines into the sink behind what was written, in pieces; of the last piece a part may still be to be put.
+/// Puts lines into the sink after what was written, in pieces; of the last piece a part may still be to be put.
 pub(crate) fn put_lines<L: Lines, S: Source, K: Sink>(
     lines: &L,
     talk: &mut Talk<'_, S, K>,

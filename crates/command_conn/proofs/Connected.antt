@@ -1,4 +1,4 @@
--- A connection on a desk that was opened on a loan of a disk, told of the disk.
+-- A connection on a desk that was opened on a loan of a disk, said of the disk.
 use Rattle.std.proofs.Common.{◌≡◌, ◌∙◌, subst, ℕ, List, Option, Some, Result}
 use Rattle.adx_io.specs.Streams.{Rises, Tape, WhereTold}
 use Rattle.day_journal.specs.declared.disk.Disk.{Ghosts as DiskGhosts}
@@ -30,7 +30,7 @@ use Rattle.command_conn.specs.Steps.{EndsConn, ServesDesk}
 use Rattle.command_conn.proofs.Disks.{serves_lent}
 use Rattle.command_conn.proofs.Ends.{ends_so, serving_wrote}
 
--- a clock that tells a moment and one that tells the same
+-- a clock that gives a moment and one that gives the same
 pub same_moment : {D L : Type 0} {d : DiskGhosts D} {l : LinkGhosts L} {r : Roster} {before behind : Talked} {lanes lanes_now : List (Lane L)} {old new : OnDisk D} {result : ConnEnd}
     (told now : ℕ) → told ≡ now
     → ServesConnection d l (IsMomentOf (Some told)) r before behind lanes lanes_now old new result → ServesConnection d l (IsMomentOf (Some now)) r before behind lanes lanes_now old new result

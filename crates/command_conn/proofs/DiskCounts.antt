@@ -13,7 +13,7 @@ use Rattle.desk_calls.specs.Told.{told_of}
 use Rattle.command_conn.specs.Exchanges.{Day, EndsServed, LeavesDay, was_given_up, was_served, was_unbegun}
 use Rattle.command_conn.proofs.Disks.{counts_later}
 
--- a run whose first line told no roster met no fault of the disk, and neither did one that is done
+-- a run whose first line had no roster met no fault of the disk, and neither did one that is done
 headless_other : (outcome : Outcome) (result : Result Outcome Stop) → EndsHeadless result → result ≡ Ok outcome → outcome ≡ Outcome.Refused
 headless_other outcome (Ok o) ends is = cc (is, ends)
 headless_other outcome (Err stop) ends is = absurd (cc is)

@@ -22,7 +22,7 @@ use Rattle.desk_calls.specs.Meanings.{Told, turns_of}
 use Rattle.desk_calls.specs.OnDisk.{FullEach, history_after}
 use Rattle.command_conn.specs.OnDisk.{KeepsHistory, ServesTogether, StandsAmong}
 
--- no record is in doubt behind a run, or one of the run, where none was before it
+-- no record is in doubt after a run, or one of the run, where none was before it
 doubt_of : (terms : Terms) (start : List Entry) (told : List Told) (next : List Entry) → MayBeLeftBy terms start told [] next → (next ≡ []) ⊎ IsLeftInDoubt terms start told next
 doubt_of terms start told next (inl none) = inl none
 doubt_of terms start told next (inr (inl (same, still))) = inl same
@@ -109,7 +109,7 @@ module _ {D E : Type 0} (disk_of : E → D) (faults : D → ℕ) (reads : D → 
             (keeps_histories (may_leave (disk_of now.disk)) now.desk next keeps)));
       }
 
-  -- the same of the disk before the loan and behind it
+  -- the same of the disk before the loan and after it
   pub serves_lent : (terms : DeskTerms) (old : E) (desk now : OnDisk E) (told : List Told) (first last : D) → disk_of old ≡ first → disk_of now.disk ≡ last
       → Opens (λ e. reads (disk_of e)) (λ e. may_leave (disk_of e)) (λ e. moment (disk_of e)) (λ e. left_since (disk_of e)) terms old desk.disk desk.desk
       → faults (disk_of desk.disk) ≡ faults (disk_of old)

@@ -39,7 +39,7 @@ FirstTold = HeadTold roster_heads input_limit longer one_roster one_refusal_line
 abbrev Ended : Roster → Day → List ℕ → List ℕ → Type 0
 Ended r day rest out = (outcome : Outcome) × (taken left : List ℕ) × (rest ≡ taken ++ left) × (means r day).ends outcome taken left out
 
--- a whole output: the refusal of the first line; or that of what comes behind a roster's
+-- a whole output: the refusal of the first line; or that of what comes after a roster's
 abbrev Whole : Option (Roster × Day) → List ℕ → List ℕ → Type 0
 Whole None input out = FirstRefused input out
 Whole (Some (r, day)) input out = (line rest : List ℕ) × FirstTold input r line rest × Ended r day rest out
@@ -51,7 +51,7 @@ whole_of (Some (r, day)) input out (outcome, taken, left, is, e) =
     let t = told_as roster_heads input_limit longer one_roster one_refusal_line not_both r (λ allowed more. (means r day).ends outcome more left out) taken left e in
     (t.0, t.1 ++ left, subst (λ i. FirstTold i r t.0 (t.1 ++ left)) (sym is) t.2, (outcome, t.1, left, refl, t.3))
 
--- behind one roster's line
+-- after one roster's line
 one_behind : (r : Roster) (day other : Day) (rest out whole : List ℕ) → AreAlikeDays day other → Ended r day rest out → Ended r other rest whole → out ≡ whole
 one_behind r was_unbegun was_unbegun rest out whole alike (outcome, taken, left, is, (never, few, said)) y = absurd (cc never)
 one_behind r was_unbegun (was_given_up why) rest out whole alike x y = absurd alike

@@ -1,5 +1,5 @@
--- What a day of an exchange on one connection means, by what came of it beside its input: the history that its journal stood
--- for, the lanes to its bidders, and the steps that its messages made. This project's own.
+-- What a day of an exchange on one connection means, by what came of it beside its input: the history that its journal represented,
+-- the lanes to its bidders, and the steps that its messages made. This project's own.
 use Rattle.std.specs.Prelude.{◌≡◌, ℕ, List, Option, Some, Result, Ok, Err}
 use Rattle.adx_desk.specs.Rosters.{desk_terms}
 use Rattle.adx_desk.specs.declared.fault.DeskFault.{DeskFault}
@@ -47,7 +47,7 @@ EndsBy told other = ⊥
 -- What the connection of a roster's day means, over lanes that work so. The roster's moment is that of every message. Where
 -- the sink failed within the replies, it took all of them but those to the last messages, which wait together: one record of
 -- the journal, of up to 32 notices, or fewer messages.
--- Example: a head that is refused behind 1,000 notices: the sink took the replies to all 1,000 before it fails
+-- Example: a head that is refused after 1,000 notices: the sink took the replies to all 1,000 before it fails
 -- within the refusal's.
 abbrev pub serving : {L : Type 0} → (List ℕ → List ℕ → Lane L → Lane L → LaneOutcome → Type 0) → Roster → List (Lane L) → Course L → Meaning
 serving Works r lanes course =
@@ -56,7 +56,7 @@ serving Works r lanes course =
     (BreaksTogether (AnswersOn Works (IsMomentOf (Some r.now)) r) (GivesUpOn Works (IsMomentOf (Some r.now)) r) REQUEST_LIMIT
     most_beyond (begun lanes) course BATCH_LIMIT)
 
--- what the command means behind its roster's line: its bidders answer by the texts of the roster
+-- what the command means after its roster's line: its bidders answer by the texts of the roster
 abbrev pub means : Roster → Day → Meaning
 means r was_unbegun = not_opened DeskFault.OutOfMemory
 means r (was_given_up why) = not_opened why

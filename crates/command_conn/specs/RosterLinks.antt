@@ -25,7 +25,7 @@ plan_of texts = record { starts = map answers texts; past_end = no_content }
 abbrev pub begins_with : List (List ℕ) → Course
 begins_with texts = record { now = Some (connection_of (answers [])); plan = plan_of texts }
 
--- so it goes on behind a start: by the first of the texts to come
+-- so it goes on after a start: by the first of the texts to come
 abbrev pub started_with : List (List ℕ) → Course
 started_with texts = record { now = Some (connection_of (next_start (plan_of texts))); plan = after_start (plan_of texts) }
 
@@ -52,16 +52,19 @@ pub record AreLanesTo (places : List Place) (texts : List (List (List ℕ))) (la
 abbrev pub AreRosterLanes : Roster → List (Lane RosterLink) → Type 0
 AreRosterLanes r lanes = AreLanesTo r.bidders (texts_of r.bidders r.replies) lanes
 
--- what such a link tells: nothing of what it is asked; its course; no fault; and it stands on nothing that changes
+-- what such a link reports: nothing of what it is asked
 abbrev pub exchanges_told : RosterLink → Option Exchanges
 exchanges_told l = None
 
+-- its course
 abbrev pub course_told : RosterLink → Option Course
 course_told l = Some (course_of l)
 
+-- it has no faults
 abbrev pub no_faults : RosterLink → ℕ
 no_faults l = 0
 
+-- it uses nothing that changes
 abbrev pub stands_alone : RosterLink → List GName
 stands_alone l = own_place
 

@@ -29,7 +29,7 @@ EndsConn ConnEnd.WriteFault faults result = result ≡ Err Stop.WriteFault
 EndsConn ConnEnd.Spent faults result = EndsReadOut faults result
 EndsConn ConnEnd.OutOfMemory faults result = result ≡ Err Stop.OutOfMemory
 
--- The connection behind a roster's line was served on a desk, and the run ended so. What the buffer holds was taken of the
+-- The connection after a roster's line was served on a desk, and the run ended so. What the buffer holds was taken of the
 -- source and not looked at.
 pub record ServesDesk {D L : Type 0} (d : DiskGhosts D) (l : LinkGhosts L) (r : Roster) (behind tape_now : Option Tape)
     (held held_now : Option (List ℕ)) (lanes lanes_now : List (Lane L)) (old new : OnDisk D)

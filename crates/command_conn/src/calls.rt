@@ -8,7 +8,7 @@ use adx_io::{Failed, copy_front};
 use adx_links::{Link, NO_CONTENT};
 use adx_units::Text;
 
-/// A link behind a start, over the texts to come before it.
+/// A link after a start, over the texts to come before it.
 fn started<'a>(texts: &'a [Text]) -> RosterLink<'a>
     ensures { course_of result ≡ started_with texts.entry.now }
 {

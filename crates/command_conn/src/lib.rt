@@ -1,15 +1,15 @@
 //! The command that serves a day of an exchange on one connection.
 //!
 //! `run_conn` reads a roster's line from a source, opens the roster's day on a disk, and serves the HTTP connection
-//! that comes after the line, with bidders that answer by the roster's own texts. What it writes stands in
+//! that comes after the line, with bidders that answer by the roster's own texts. What it writes is in
 //! `specs/Exchanges`. It knows no words of a command.
 //!
 //! Links to the bidders of a roster, which answer by the roster's own texts. A `RosterLink` answers at each start the
-//! next of a bidder's texts, borrowed from the roster. It never fails, takes no memory in its calls, tells what it will
+//! next of a bidder's texts, borrowed from the roster. It never fails, takes no memory in its calls, says what it will
 //! answer and what it answered, and keeps nothing of what it is asked. `roster_lanes` has a lane for each bidder of a
 //! roster, with such a link.
 //!
-//! Stands on `command_runs` and `history_runs` for the run, and on `exchange_http` for the connection.
+//! Uses `command_runs` and `history_runs` for the run, and `exchange_http` for the connection.
 #![tactic(auto)]
 
 mod calls;

@@ -203,7 +203,7 @@ impl<D: Disk> Led for Exchanging<'_, D> {
 
 /// Serves a day of an exchange on one connection, on a disk.
 ///
-/// The roster line is the first of the source. The roster's day is opened by the history that the disk's file stands for, and
+/// The roster line is the first of the source. The roster's day is opened by the history that the disk's file represents, and
 /// the HTTP connection that comes after the line is served on it, to its end. The roster's bidders answer by its `replies`,
 /// and its `now` is the moment of every request. An entry is in the journal before its reply is put, and what was replied is
 /// put before more is asked of the source.

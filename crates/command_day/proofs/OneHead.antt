@@ -1,4 +1,4 @@
--- The first line of an input tells one head, or is refused in one way.
+-- The first line of an input has one head, or is refused in one way.
 use Rattle.std.proofs.Common.{◌≡◌, ◌⊎◌, inl, inr, ℕ, ◌+◌, ◌-◌, ◌<◌, ◌≤◌, List, [], ◌∷◌, ◌++◌, length, refl, sym, ap, ◌∙◌, append_assoc, append-nil, length-append, arith, subst}
 use Rattle.adx_io.specs.Lines.{HasNoNewline}
 use Rattle.adx_io.specs.Talk.{ended}
@@ -68,7 +68,7 @@ module _ {H : Type 0} (heads : Heads H) (limit : ℕ) (longer : line_limit < lim
       let same = first_same line line' rest rest' none none' (sym is ∙ is') in
       (one_head line h other tells (subst (λ l. heads.tells l other) (sym same) tells'), same, rest_same line line' rest rest' none none' (sym is ∙ is'))
 
-  -- what comes behind a head
+  -- what comes after a head
   pub told_as : (h : H) (Holds : ℕ → List ℕ → Type 0) (taken left : List ℕ) → AfterHead heads limit h Holds taken → (line more : List ℕ) × Told (taken ++ left) h line (more ++ left) × Holds (limit - length (ended line)) more
   told_as h Holds taken left (line, more, none, short, tells, is, holds) =
       (line, more, (none, short, tells, ap (λ t. t ++ left) is ∙ append_assoc (ended line) more left ∙ newline line (more ++ left)), holds)

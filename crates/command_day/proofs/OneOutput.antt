@@ -45,7 +45,7 @@ told_equal t t' e f = λ i. record { call = e i; fault = f i }
 first_fault : (f g : Option Fault) (a b : List (Option Fault)) → f ∷ a ≡ g ∷ b → f ≡ g
 first_fault f g a b e = cc
 
--- equal behind one front
+-- equal after one front
 behind_same : {X : Type 0} (front a b : List X) → front ++ a ≡ front ++ b → a ≡ b
 behind_same [] a b e = e
 behind_same (x ∷ front) a b e = behind_same front a b (cc e)
@@ -76,7 +76,7 @@ call_same w terms number history (calls c) told told' out out' a b agree (t, is,
     (only ∙ ap (λ (u : Told). u ∷ []) same ∙ sym only', e ∙ ap (call_answer w terms history) same ∙ sym e')
 call_same w terms number history (refused why) told told' out out' a b agree (none, e) (none', e') = (none ∙ sym none', e ∙ sym e')
 
--- the faults behind the calls of one line
+-- the faults after the calls of one line
 faults_behind : (before more rest now : List Told) (a : List (Option Fault)) → now ≡ (before ++ more) ++ rest → faults_of now ++ a ≡ faults_of before ++ (faults_of more ++ (faults_of rest ++ a))
 faults_behind before more rest now a is =
     ap (λ (l : List Told). faults_of l ++ a) is
@@ -226,7 +226,7 @@ module _ (r : Roster) (start : List Entry) (told later : List Told) (unwritten :
   put_so : (bytes behind put : List ℕ) (mid : Calls) (number : ℕ) → Answered (answering r start) ([], None) 2 bytes put mid number → script ≡ bytes ++ behind → length bytes ≤ allowed → Goes mid (told, unwritten) → IsFront put whole
   put_so bytes behind put mid number answered is few goes = script_front r start allowed bytes behind script put whole mid (told, unwritten) (told ++ later, None) number answered is few goes agrees b
 
-  -- where the run was cut short: what stood in the sink, and what the last step was to add
+  -- where the run was cut short: what was in the sink, and what the last step was to add
   cut_front : (bytes taken left put last : List ℕ) (mid : Calls) (number : ℕ) → script ≡ taken ++ left → Answered (answering r start) ([], None) 2 bytes put mid number
       → CutShort (answering r start) allowed mid (told, unwritten) number bytes taken left last → IsFront (put ++ last) whole
   cut_front bytes taken left put last mid number is answered (inl (piece, none, within, (ahead, few, at), same, nothing)) =

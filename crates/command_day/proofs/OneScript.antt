@@ -48,7 +48,7 @@ cut_front (l ∷ lines) (o ∷ others) behind last whole whole' piece e =
     let more = cut_front lines others behind last (All-tail HasNoNewline l lines whole) (All-tail HasNoNewline o others whole') piece rest in
     (more.0, ap (λ x. x ∷ others) (sym same) ∙ ap (λ ls. l ∷ ls) more.1, more.2)
 
--- no whole line stands in a piece without a newline
+-- no whole line is in a piece without a newline
 no_more : (more : List (List ℕ)) (piece last : List ℕ) → HasNoNewline piece → piece ≡ flat_map ended more ++ last → (more ≡ []) × (piece ≡ last)
 no_more [] piece last none e = (refl, e)
 no_more (m ∷ more) piece last none e =

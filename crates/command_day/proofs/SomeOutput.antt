@@ -112,7 +112,7 @@ no_disk_fault [] all = All-nil (λ (t : Told). t.fault ≢ Some Fault.Disk)
 no_disk_fault (t ∷ told) all =
     All-cons (λ (u : Told). u.fault ≢ Some Fault.Disk) t told (λ is. absurd (cc (sym (All-head IsDone t told all) ∙ is))) (no_disk_fault told (All-tail IsDone t told all))
 
--- a list of more than n items has n and one more in front
+-- a list of more than n items has n and one more before them
 split_at : (n : ℕ) (xs : List ℕ) → n < length xs → (part : List ℕ) × (more : ℕ) × (rest : List ℕ) × (xs ≡ part ++ more ∷ rest) × (length part ≡ n)
 split_at n [] long = absurd (omega (arith, long))
 split_at zero (x ∷ xs) long = ([], x, xs, refl, refl)

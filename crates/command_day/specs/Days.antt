@@ -1,4 +1,4 @@
--- What a day of script lines means, by what came of it beside its input: the history that its journal stood for, and its
+-- What a day of script lines means, by what came of it beside its input: the history that its journal represented, and its
 -- calls, each done or given up. This project's own.
 -- Example: a roster's line and a line of one tick, on an empty journal, write the tick's line and then the closing
 -- table, and the run ends `Done`; where the disk failed in the tick, its line says `diskfault`, the table is the
@@ -27,7 +27,7 @@ EndsBy told Outcome.Done = HasNoDiskFault told
 EndsBy told Outcome.DiskFault = HasDiskFault told
 EndsBy told other = ⊥
 
--- the calls of a day that were answered, and one more whose answer wasn't written for want of memory, if there is one
+-- the calls of a day that were answered, and one more whose answer wasn't written for lack of memory, if there is one
 abbrev pub Calls : Type 0
 Calls = List Told × Option Told
 
@@ -38,7 +38,7 @@ MayBeCall r line (Some t) = Means r line (calls t.call)
 
 -- How the lines of a roster's day are answered that began with this history, by the calls so far. A line is answered by its
 -- call at the history of those, or refused; where memory was refused, its call may have been taken. The end is the closing
--- table, behind the refusal of a last piece without a newline.
+-- table, after the refusal of a last piece without a newline.
 abbrev pub answering : Roster → List Entry → Answering Calls
 answering r start = record {
   answers = λ before number line out now.
@@ -63,7 +63,7 @@ day_command (given_up r why) = led roster_heads input_limit r (λ allowed. not_o
 day_command (served r start told unwritten) = led roster_heads input_limit r (lines r start told unwritten)
 
 -- how the run of a day ends that was served: at the end of its input by the disk's faults, or before that refused or
--- stopped; an answer isn't written for want of memory alone
+-- stopped; an answer isn't written for lack of memory alone
 abbrev pub EndsServed : List Told → Option Told → Result Outcome Stop → Type 0
 EndsServed told unwritten (Ok Outcome.Refused) = unwritten ≡ None
 EndsServed told unwritten (Ok outcome) = EndsBy told outcome × (unwritten ≡ None)

@@ -61,7 +61,7 @@ abbrev pub course_by : Option (Roster × Day) → Course
 course_by None = unopened
 course_by (Some (r, day)) = course_of r day
 
--- what the command means behind the roster's line; so many bytes may be read
+-- what the command means after the roster's line; so many bytes may be read
 abbrev pub day_after : Roster → ℕ → Day → Meaning
 day_after r allowed (was_given_up why) = not_opened why
 day_after r allowed (was_served start told unwritten) = lines r start told unwritten allowed

@@ -45,7 +45,7 @@ fn push_told(
     Ok(())
 }
 
-/// The fault that a line tells of a call that was given up; want of memory has no line.
+/// The fault that a line says of a call that was given up; lack of memory has no line.
 fn fault_told(fault: DeskFault) -> Result<Fault, OutOfMemory>
     requires { IsOfCall fault }
     ensures { IfOk result (λ told. told_as fault ≡ Some told) }

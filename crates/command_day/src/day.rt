@@ -93,7 +93,7 @@ impl<D: Disk> Led for Serving<'_, D> {
 
 /// Serves a day of script lines from its roster line to its closing table, on a disk.
 ///
-/// The roster line is the first of the source. Its day is opened by the history that the disk's file stands for. Then each
+/// The roster line is the first of the source. Its day is opened by the history that the disk's file represents. Then each
 /// line of the script is answered with a line, and after the last the closing table is written. A call's entry is in the
 /// journal before its answer is written, and the answer is put into the sink before the next line is read. A call that the
 /// disk's fault gives up, or that the journal has no room for, is answered so, and the day goes on.

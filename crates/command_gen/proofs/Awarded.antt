@@ -20,7 +20,7 @@ at_end : (history : List Entry) (e : Entry) → slice_get (history ++ e ∷ []) 
 at_end [] e = refl
 at_end (x ∷ history) e = at_end history e
 
--- what is told of an answer is the award that the reply makes
+-- what is said of an answer is the award that the reply makes
 abbrev TellsAward : List Entry → Reply → Type 0
 TellsAward history r =
     (answer : Answer) (told : Option Ask) (next : List Entry) → answer ≡ r.answer → told ≡ ask_for next answer → next ≡ with_entry history r.entry → award_in answer told ≡ award_by history r.answer

@@ -31,7 +31,7 @@ turns_done terms seed (t ∷ told) all =
     let P : Told → Type 0 = λ u. u.fault ≡ None in
     λ i. record { call = t.call; outcome = outcome_by (All-head P t told all i) } ∷ turns_done terms seed told (All-tail P t told all) i
 
--- two lists of calls are done where they are behind one another
+-- two lists of calls are done where they are after one another
 done_parts : (xs ys : List Told) → AreDone (xs ++ ys) → AreDone xs × AreDone ys
 done_parts [] ys all = (All-nil (λ (t : Told). t.fault ≡ None), all)
 done_parts (t ∷ xs) ys all =
@@ -40,7 +40,7 @@ done_parts (t ∷ xs) ys all =
     (All-cons P t xs (All-head P t (xs ++ ys) all) rest.0, rest.1)
 
 module _ (terms : Terms) (seed : ℕ) where
-  -- the calls of some asks, and of those that come behind them
+  -- the calls of some asks, and of those that come after them
   pub from_append : (n m i j k : ℕ) (h : List Entry) (xs ys : List Told) → j ≡ i + n → k ≡ n + m → AreFrom terms seed n i h xs → AreFrom terms seed m j (run terms h (turns_of xs)) ys
       → AreFrom terms seed k i h (xs ++ ys)
   from_append zero m i j k h xs ys behind count none rest =
@@ -118,7 +118,7 @@ module _ {D : Type 0} (faults : D → ℕ) (may_leave : D → List ℕ → Type 
   pub day_starts : (seed : ℕ) (desk : OnDisk D) → TookFirst faults may_leave moment left_since desk desk seed 0
   day_starts seed desk = record { told = []; serves = refl; first = refl; none = none_at_all }
 
-  -- the desk behind the first asks, as the calls of the next see it
+  -- the desk after the first asks, as the calls of the next see it
   at_next : (seed number : ℕ) (old now : OnDisk D) (took : TookFirst faults may_leave moment left_since old now seed number) (P : Terms → List Entry → Type 0)
       → P now.desk.terms.day now.desk.history → P old.desk.terms.day (run old.desk.terms.day old.desk.history (turns_of took.told))
   at_next seed number old now took P p =

@@ -43,7 +43,7 @@ module _ {D T : Type 0} (faults : D → ℕ) (may_leave : D → List ℕ → Typ
   takes_failed (DeskFault.BadLength at) result taken s ends passed = absurd ends
   takes_failed DeskFault.OutOfMemory result taken s ends passed = absurd ends
 
--- an ask that was given up: passed over for want of the journal's room, and else the end
+-- an ask that was given up: passed over for lack of room in the journal, and else the end
 pub ask_passed : {D T : Type 0} (faults : D → ℕ) (may_leave : D → List ℕ → Type 0) (moment : D → ℕ) (left_since : D → ℕ → List ℕ → Type 0) (old new : OnDisk D) (a : Ask) (fault : DeskFault) (passed : Result (Unit {0}) EarlyEnd) (result : Result (Option ℕ) EarlyEnd)
     → IsCall (length old.desk.terms.day.budgets) (ask a) → Serves {T = T} may_leave moment left_since old new (reply old.desk.terms.day old.desk.history (ask a)).entry (Err fault)
     → EndsAsk {T = T} (faults old.disk) (faults new.disk) old.desk new.desk (reply old.desk.terms.day old.desk.history (ask a)).entry (Err fault)

@@ -186,7 +186,7 @@ module _ (terms : DeskTerms) (seed : ℕ) (told : List Told) (ok : AreTerms term
       let count : length front + suc (length back) ≡ length told = sym (length-append front (one ∷ back)) ∙ sym (ap (λ l. length l) split) in
       omega (arith, few, before, one_more, count, weight_more h e, head_size terms h long, none_held)
 
-  -- so none of the calls is told that the journal is full
+  -- so none of the calls is answered that the journal is full
   never_full : (front : List Told) (one : Told) (back : List Told) (size : ℕ) → FullEach terms [] told → told ≡ front ++ one ∷ back → one.fault ≡ Some (Fault.JournalFull size) → ⊥
   never_full front one back size full split is =
       by (reply terms.day (history_after terms.day [] front) one.call).entry refl

@@ -32,7 +32,7 @@ none_at_all = All-nil (λ (t : Told). t.fault ≢ Some Fault.Disk)
 pub none_of : (t : Told) → t.fault ≢ Some Fault.Disk → HasNoDiskFault (t ∷ [])
 none_of t other = All-cons (λ (u : Told). u.fault ≢ Some Fault.Disk) t [] other none_at_all
 
--- the last of the calls was given up by the disk, behind some of which none was
+-- the last of the calls was given up by the disk, after some of which none was
 pub fault_behind : (xs ys : List Told) → HasNoDiskFault xs → EndsAtFault ys → EndsAtFault (xs ++ ys)
 fault_behind xs ys none f = record {
   front = xs ++ f.front;
@@ -48,7 +48,7 @@ fault_alone t is = record { front = []; faulted = t; split = refl; before = none
 pub calls_append : (xs ys : List Told) → calls_of (xs ++ ys) ≡ calls_of xs ++ calls_of ys
 calls_append xs ys = map-append (λ (t : Told). t.call) xs ys
 
--- some calls behind others, by how it ended
+-- some calls after others, by how it ended
 pub took_behind : (Whole Begin Last_whole Last_begin : List Told → Type 0) (xs ys : List Told) (result : Result (Unit {0}) EarlyEnd) → HasNoDiskFault xs
     → (Whole ys → Last_whole (xs ++ ys)) → (Begin ys → Last_begin (xs ++ ys)) → TookBy Whole Begin result ys → TookBy Last_whole Last_begin result (xs ++ ys)
 took_behind Whole Begin Last_whole Last_begin xs ys (Ok over) none whole begin took = (whole took.0, none_append xs ys none took.1)
@@ -105,7 +105,7 @@ module _ {D : Type 0} (faults : D → ℕ) (may_leave : D → List ℕ → Type 
       subst (λ (l : List Told). DeskRuns faults reads may_leave moment left_since terms disk start l new) (append_assoc before (t ∷ []) told)
       (runs_more reads terms disk start (before ++ t ∷ []) mid new told (call_goes_on faults reads may_leave moment left_since terms disk start before old mid t runs call) rest)
 
-  -- no calls; these, and others behind them; and these alone where they ended early
+  -- no calls; these, and others after them; and these alone where they ended early
   pub takes_none : (desk : OnDisk D) → TakesCalls faults may_leave moment left_since desk desk [] (Ok tt)
   takes_none desk = record { told = []; serves = refl; took = (refl, none_at_all) }
 
@@ -139,7 +139,7 @@ module _ {D : Type 0} (faults : D → ℕ) (may_leave : D → List ℕ → Type 
           let follow = calls_behind seed number (award_told desk.desk.terms.day desk.desk.history asked.call asked.fault) in
           (asked ∷ done_told follow, record { asked = asked; behind = done_told follow; is = refl; follow = calls_of_done follow; all = refl })
 
-  -- an ask and the calls behind it
+  -- an ask and the calls after it
   pub ask_then : (seed number : ℕ) (old mid new : OnDisk D) (award : Option ℕ) (result : Result (Unit {0}) EarlyEnd) → TakesAsk faults may_leave moment left_since old mid (ask_by seed number) (Ok award)
       → TakesCalls faults may_leave moment left_since mid new (calls_behind seed number award) result → TakesNumber faults may_leave moment left_since old new seed number result
   ask_then seed number old mid new award result (t, is, call, other, awarded) rest = record {

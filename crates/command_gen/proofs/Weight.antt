@@ -177,7 +177,7 @@ one_kept g place =
       empty_few g,
     )
 
--- the bytes of the kept bids that stay: those of winners, since none wants to be told of its loss
+-- the bytes of the kept bids that stay: those of winners, since none wants to be notified of its loss
 kept_step : (g : Bool) (o : Option Kept) (rest : List Kept) (most : ℕ) → (o ≡ None) ⊎ ((k : Kept) × (o ≡ Some k) × (length (kept_in g k) ≤ 45)) → length (flat_map (kept_in g) rest) ≤ most
     → length (flat_map (kept_in g) (cons_option o rest)) ≤ 45 + most
 kept_step g None rest most is few = omega (arith, few)

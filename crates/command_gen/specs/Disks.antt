@@ -1,4 +1,4 @@
--- What the calls of a generated day make of a desk, with all that a disk tells as one value. Only private clauses cite this
+-- What the calls of a generated day make of a desk, with all that a disk reports as one value. Only private clauses cite this
 -- file.
 use Rattle.std.specs.Prelude.{ℕ, List, Option, Result}
 use Rattle.day_journal.specs.declared.disk.Disk as disk

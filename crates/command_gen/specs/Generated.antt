@@ -1,4 +1,4 @@
--- The calls of a generated day: its roster's line, the words of a seed, and the calls that they tell. This project's own.
+-- The calls of a generated day: its roster's line, the words of a seed, and the calls that they report. This project's own.
 use Rattle.std.specs.Prelude.{◌≡◌, ℕ, zero, suc, ◌+◌, ◌*◌, ◌/◌, ◌%◌, List, [], ◌∷◌, ◌++◌, map, codes, decimal, length, ◌==◌, if◌then◌else◌, Option, Some, None}
 use Rattle.sha2.specs.Sha256.{sha256}
 use Rattle.rand_xoshiro.specs.SplitMix64.{mix_u64}
@@ -90,11 +90,11 @@ abbrev pub notices_behind : ℕ → ℕ → Option ℕ → List Call
 notices_behind seed number None = []
 notices_behind seed number (Some award) = notices_by (word_at seed (9 * number + 8) % 4) (decimal number) award
 
--- behind every hundredth ask time comes to its moment
+-- after every hundredth ask time comes to its moment
 abbrev pub ticks_behind : ℕ → List Call
 ticks_behind number = if suc number % 100 == 0 then tick number ∷ [] else []
 
--- what comes behind an ask with a number
+-- what comes after an ask with a number
 abbrev pub calls_behind : ℕ → ℕ → Option ℕ → List Call
 calls_behind seed number award = notices_behind seed number award ++ ticks_behind number
 
@@ -109,7 +109,7 @@ award_told terms history call None = award_by history (reply terms history call)
 award_told terms history call (Some fault) = None
 
 module _ (terms : Terms) (seed : ℕ) where
-  -- the calls of the ask with a number after a history: the ask, and what comes behind it
+  -- the calls of the ask with a number after a history: the ask, and what comes after it
   abbrev pub calls_of_ask : List Entry → ℕ → List Call
   calls_of_ask history number =
       ask (ask_by seed number) ∷ calls_behind seed number (award_by history (reply terms history (ask (ask_by seed number))).answer)

@@ -33,7 +33,7 @@ table_after r start told = closing_table r.campaigns (terms_by r) (history_after
 
 -- How a generated day ended that was opened with this history. Done: all its calls were taken, and the closing table was
 -- written. By the disk: at its first fault, and nothing was written. By the sink: all calls were taken, and a prefix of the
--- table was written. For want of memory: some first ones were taken, and nothing was written.
+-- table was written. For lack of memory: some first ones were taken, and nothing was written.
 abbrev pub EndsTaken : Roster → ℕ → ℕ → List Entry → List Told → (held held_now : Option (List ℕ)) → Result Outcome Stop → Type 0
 EndsTaken r seed asks start told held held_now (Ok Outcome.Done) =
     AreOfDay (terms_by r) seed asks start told × HasNoDiskFault told × Took held held_now (table_after r start told)
@@ -54,7 +54,7 @@ TellsTable r seed asks start held held_now result =
     → Took held held_now (closing_table r.campaigns (terms_by r) (generated_history (terms_by r) seed asks))
 
 -- How a generated day ended whose opening gave up for this cause: with its line, of which a fault of the disk has none; or
--- with a prefix of the line; or with nothing for want of memory.
+-- with a prefix of the line; or with nothing for lack of memory.
 abbrev pub EndsUntaken : DeskFault → (held held_now : Option (List ℕ)) → Result Outcome Stop → Type 0
 EndsUntaken why held held_now (Ok outcome) = (unopened_end why ≡ Ok outcome) × Took held held_now (unopened_line why)
 EndsUntaken why held held_now (Err Stop.ReadFault) = ⊥
@@ -62,7 +62,7 @@ EndsUntaken why held held_now (Err Stop.WriteFault) =
     (unopened_end why ≡ Ok Outcome.NoHistory) × TookPrefix held held_now (unopened_line why)
 EndsUntaken why held held_now (Err Stop.OutOfMemory) = (why ≢ DeskFault.DiskFault) × (held_now ≡ held)
 
--- How a generated day ended, by how it went. It wasn't opened only for want of memory. Its roster is that of the line.
+-- How a generated day ended, by how it went. It wasn't opened only for lack of memory. Its roster is that of the line.
 abbrev pub EndsGenerated : ℕ → ℕ → Course → (held held_now : Option (List ℕ)) → Result Outcome Stop → Type 0
 EndsGenerated seed asks unopened held held_now result = (result ≡ Err Stop.OutOfMemory) × (held_now ≡ held)
 EndsGenerated seed asks (given_up r why) held held_now result =

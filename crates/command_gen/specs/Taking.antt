@@ -26,7 +26,7 @@ use Rattle.command_gen.specs.GeneratedEnds.{EndsAtFault, EndsTaken}
 abbrev pub calls_of : List Told → List Call
 calls_of told = map (λ (t : Told). t.call) told
 
--- a call that was given up by this fault: want of the journal's room is passed over, and the others end the run
+-- a call that was given up by this fault: lack of the journal's room is passed over, and the others end the run
 abbrev pub PassedBy : DeskFault → Result (Unit {0}) EarlyEnd → Type 0
 PassedBy DeskFault.DiskFault result = result ≡ Err EarlyEnd.DiskFault
 PassedBy (DeskFault.JournalFull size) result = result ≡ Ok tt
@@ -36,7 +36,7 @@ PassedBy (DeskFault.NotAJournal at) result = ⊥
 PassedBy (DeskFault.BadLength at) result = ⊥
 PassedBy DeskFault.OutOfMemory result = result ≡ Err EarlyEnd.OutOfMemory
 
--- the number of an answered ask's award, by the ask that the answer tells
+-- the number of an answered ask's award, by the ask that the answer reports
 abbrev pub award_in : Answer → Option Ask → Option ℕ
 award_in (Answer.Awarded entry) None = None
 award_in (Answer.Awarded entry) (Some a) = Some a.first

@@ -22,7 +22,7 @@ const MOST_CHARGE: u64 = 1_000_000;
 /// The life of each award, in seconds.
 const LIFE: u32 = 3_600;
 
-/// The offer that a word tells.
+/// The offer that a word says.
 fn offer_of(word: u64) -> Offer
     ensures { result ≡ offer_by word }
 {

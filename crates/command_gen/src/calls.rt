@@ -23,7 +23,7 @@ use std::alloc::Global;
 /// After each of so many asks time comes to the last one's moment.
 const ASKS_OF_TICK: u64 = 100;
 
-/// What a call that was given up is for the run: want of the journal's room is passed over, and the others end it.
+/// What a call that was given up is for the run: lack of the journal's room is passed over, and the others end it.
 fn passed_over(fault: DeskFault) -> Result<(), EarlyEnd>
     requires { IsOfCall fault }
     ensures { PassedBy fault result }
@@ -81,7 +81,7 @@ fn take_notice<D: Disk>(
     }
 }
 
-/// Takes the notices of an award that a word tells.
+/// Takes the notices of an award that a word says.
 fn take_notices<D: Disk>(
     desk: &mut Desk<D>,
     word: u64,
@@ -117,7 +117,7 @@ fn take_tick<D: Disk>(desk: &mut Desk<D>, number: u64) -> Result<(), EarlyEnd>
     }
 }
 
-/// Takes what comes after an ask with this number: the notices of its award that a word tells, and a tick.
+/// Takes what comes after an ask with this number: the notices of its award that a word says, and a tick.
 fn take_behind<D: Disk>(
     desk: &mut Desk<D>,
     word: u64,

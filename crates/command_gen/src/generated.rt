@@ -143,7 +143,7 @@ fn serve_roster<K: Sink, D: Disk>(
 
 /// Runs a generated day on a disk, and puts its closing table into the sink.
 ///
-/// The day is that of a roster line of 16 campaigns, opened by the history that the disk's file stands for. It takes so many
+/// The day is that of a roster line of 16 campaigns, opened by the history that the disk's file represents. It takes so many
 /// asks by the words of SplitMix64 from the seed (Steele, Lea, Flood, OOPSLA 2014), eight offers for each, after each
 /// award a bill, a loss, a bill twice or nothing, and after each hundredth ask a tick. An ask for which the journal has
 /// no room is given up, and the day goes on.

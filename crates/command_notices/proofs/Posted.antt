@@ -1,4 +1,4 @@
--- The posts that are pending behind a whole history.
+-- The posts that are pending after a whole history.
 use Rattle.std.proofs.Common.{◌≡◌, ◌∙◌, List, [], ◌++◌, take, ap, arith, subst, Result, Ok}
 use Rattle.std.proofs.lemmas.List.{take_all}
 use Rattle.adx_units.specs.declared.memory.OutOfMemory.{OutOfMemory}

@@ -34,7 +34,7 @@ module _ {L : Type 0} (l : links.Ghosts L) where
     pub tries : Tries posts link link_now outcomes
     pub left_is : left ≡ left_of posts outcomes
 
-  -- what came of the posts, by how a run ended behind its opening
+  -- what came of the posts, by how a run ended after its opening
   abbrev pub TriesSo : List Post → L → L → PostEnd → Type 0
   TriesSo posts link link_now PostEnd.Delivered = TriesAll posts link link_now []
   TriesSo posts link link_now PostEnd.Pending = (left : List Post) × (0 < length left) × TriesAll posts link link_now left

@@ -22,7 +22,7 @@ LacksRoster document why =
     ((line : List ℕ) × IsShortLine document line × RefusesRosterLine line why)
     ⊎ ((none : NoLine) × HasNoLine none document × (why ≡ refusal_by none))
 
--- what was found of the document; where memory was refused nothing is told
+-- what was found of the document; where memory was refused nothing is said
 abbrev pub FindsFirst : List ℕ → Result Roster RosterLineFault → Type 0
 FindsFirst document (Ok roster) = BeginsWithRoster document roster
 FindsFirst document (Err (RosterLineFault.Refused why)) = LacksRoster document why

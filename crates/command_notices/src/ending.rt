@@ -19,7 +19,7 @@ pub enum PostEnd {
     },
     /// The disk failed.
     DiskFault,
-    /// The disk's file stands for no history of the roster.
+    /// The disk's file represents no history of the roster.
     NoHistory,
     /// Memory was refused.
     OutOfMemory,

@@ -72,7 +72,7 @@ fn post_day<D: Disk + Drop, L: Link>(
 ///
 /// `Delivered` and `Pending`: all were tried, and none or some are pending. `Refused`: the first line isn't a roster, and
 /// disk and link are as they were. `DiskFault` and `NoHistory`: the day wasn't opened, since the disk failed, whose count
-/// rose then, or since its file stands for no history of the roster. `OutOfMemory`: memory was refused; the first notices
+/// rose then, or since its file represents no history of the roster. `OutOfMemory`: memory was refused; the first notices
 /// may have been tried.
 pub fn post_notices<D: Disk + Drop, L: Link>(
     alloc: Global,

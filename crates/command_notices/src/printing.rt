@@ -77,7 +77,7 @@ impl Print for Notices {
 /// the order of the history's entries.
 ///
 /// The first line of the source is the roster's; what comes after it is read to its end and nothing depends on it. Then the
-/// roster's day is opened on the disk, and the lines are put into the sink. No entry is added: the disk stands for the same
+/// roster's day is opened on the disk, and the lines are put into the sink. No entry is added: the disk represents the same
 /// history afterwards.
 ///
 /// `Done`: the sink took all these lines. `Refused`: the first line isn't a roster's, or the input passes `INPUT_LIMIT`

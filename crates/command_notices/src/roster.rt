@@ -17,7 +17,7 @@ fn refusal_of(none: NoLine) -> RosterRefusal
     }
 }
 
-/// The roster of the first line of a document, or why it is none. What comes behind the line isn't looked at.
+/// The roster of the first line of a document, or why it is none. What comes after the line isn't looked at.
 pub fn first_roster(alloc: Global, document: &[u8]) -> Result<Roster, RosterLineFault>
     ensures finds { FindsFirst document.now result }
 {

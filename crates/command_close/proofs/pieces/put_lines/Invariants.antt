@@ -1,4 +1,4 @@
--- The first lines were written behind what was, and a front of all that was put.
+-- The first lines were written after what was, and a front of all that was put.
 use Rattle.std.proofs.Common.{◌≡◌, ◌++◌, take}
 use Rattle.std.specs.List.{flat_map}
 use Rattle.adx_io.specs.TalkState.{place_of, state_of}

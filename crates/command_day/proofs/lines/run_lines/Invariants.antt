@@ -1,4 +1,4 @@
--- The lines so far were read and answered, and their answers stand in the sink.
+-- The lines so far were read and answered, and their answers are in the sink.
 use Rattle.std.proofs.Common.{◌≡◌, List, []}
 use Rattle.adx_desk.specs.Rosters.{desk_terms}
 use Rattle.adx_io.specs.TalkState.{place_of, state_of}

@@ -1,4 +1,4 @@
--- The ask, and what comes behind it.
+-- The ask, and what comes after it.
 use Rattle.std.proofs.Common.{◌≡◌, ◌∙◌, ◌+◌, ◌*◌, ℕ, Ok, Err, sym, ap, subst, arith}
 use Rattle.std.proofs.lemmas.Result.{err_from_is_err_and}
 use Rattle.day_rules.specs.Asks.{IsUndecided, IsWellFormed}

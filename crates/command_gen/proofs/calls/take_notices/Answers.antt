@@ -1,4 +1,4 @@
--- A bill twice: one call behind the other.
+-- A bill twice: one call after the other.
 use Rattle.std.proofs.Common.{ℕ, [], ◌∷◌, Err, sym, subst}
 use Rattle.std.proofs.lemmas.Result.{err_from_is_err_and}
 use Rattle.day_rules.specs.Replies.{Call, notice}

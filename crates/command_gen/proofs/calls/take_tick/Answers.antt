@@ -6,7 +6,7 @@ use Rattle.command_gen.specs.Taking.{TakesCalls}
 use Rattle.command_gen.proofs.DeskTaken.{takes_done, takes_failed}
 use Rattle.command_gen.proofs.calls.take_tick.Goals as goal
 
--- a tick comes behind each hundredth ask
+-- a tick comes after each hundredth ask
 here : (number : ℕ) → (number + 1) % 100 ≡ 0 → ticks_behind number ≡ tick number ∷ []
 here number is =
     let same : suc number % 100 ≡ 0 = omega (arith, is) in
