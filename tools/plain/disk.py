@@ -1,5 +1,12 @@
-"""The bytes of a journal, a disk that fails by a list, and a day kept on it, as docs/FORMATS.md has them."""
+"""The bytes of a journal, a disk that fails by a list, and a day kept on it, as docs/FORMATS.md has them. Entries are read by the reader of
+tools/read-journal."""
+import os
+import sys
+
 from day import Day, kept_bids
+
+sys.path.append(os.path.dirname(os.path.dirname(os.path.realpath(__file__))))
+from journal import TEXTS, Ask, Expire, Notice, Reader  # noqa: E402
 
 MARK = b'ADXJRNL2'
 HEAD = b'\x01' + MARK + b'\x00'
@@ -184,62 +191,27 @@ def is_unfinished(first, size):
     return size <= 1 or (size <= 10 and first[0] == 0) or (size == 10 and first[9] == 0 and first[1:9] in (MARK, b'ADXJRNL1'))
 
 
-class Numbers:
-    """A history's bytes, read one after another. Of an ask no bid is read that wasn't written so."""
-
-    def __init__(self, data):
-        self.data, self.at = data, 0
-
-    def bytes(self, count):
-        self.at += count
-        return self.data[self.at - count:self.at]
-
-    def number(self):
-        value, shift = 0, 0
-        while True:
-            byte = self.bytes(1)[0]
-            value += byte % 128 << shift
-            shift += 7
-            if byte < 128:
-                return value
-
-    def text(self):
-        return self.bytes(self.number()).decode()
-
-
 class Read:
-    """A bid that was read."""
+    """A bid that was read. Of an ask no bid is read that wasn't written so."""
+
+    def __init__(self, offer, texts):
+        self.imp, self.campaign, self.charge, self.life, self.reason = offer
+        self.seat, self.bidid, self.adid, self.nurl, self.burl, self.lurl, self.body = (texts.get(name, '') for name in TEXTS)
 
     def size(self):
         return sum(len(text.encode()) for text in (self.seat, self.bidid, self.adid, self.nurl, self.burl, self.lurl, self.body))
 
 
 def entries_in(data):
-    """The entries of format 2 that follow each other."""
-    found, numbers = [], Numbers(data)
-    while numbers.at < len(data):
-        kind = numbers.bytes(1)[0]
-        if kind in (2, 3, 4):
-            found.append(({2: 'win', 3: 'bill', 4: 'loss'}[kind], numbers.number()))
-        elif kind == 5:
-            found.append(('expire', numbers.number()))
-        elif kind == 6:
-            found.append(('budget', (numbers.number(), numbers.number(), numbers.number())))
+    """The entries of format 2 that follow each other, as the plain day has them."""
+    found = []
+    for entry in Reader(2).entries(data, 0):
+        if isinstance(entry, Ask):
+            bids = [Read(offer, entry.kept.get(place, {})) for place, offer in enumerate(entry.offers)]
+            found.append(('ask', {'auction': entry.auction, 'digest': entry.digest, 'now': entry.moment, 'first': entry.first, 'imps': entry.imps,
+                                  'bids': bids}))
+        elif isinstance(entry, Notice):
+            found.append((entry.kind, entry.award))
         else:
-            found.append(('ask', read_ask(numbers)))
+            found.append(('expire', entry.moment) if isinstance(entry, Expire) else ('budget', tuple(entry)))
     return found
-
-
-def read_ask(numbers):
-    ask = {'auction': numbers.text(), 'digest': numbers.bytes(32), 'now': numbers.number(), 'first': numbers.number()}
-    ask['imps'] = [numbers.text() for _ in range(numbers.number())]
-    ask['bids'] = []
-    for _ in range(numbers.number()):
-        bid = Read()
-        bid.imp, bid.campaign, bid.charge, bid.life, bid.reason = (numbers.number() for _ in range(5))
-        bid.seat = bid.bidid = bid.adid = bid.nurl = bid.burl = bid.lurl = bid.body = ''
-        ask['bids'].append(bid)
-    for _ in range(numbers.number()):
-        bid = ask['bids'][numbers.number()]
-        bid.seat, bid.bidid, bid.adid, bid.nurl, bid.burl, bid.lurl, bid.body = (numbers.text() for _ in range(7))
-    return ask
