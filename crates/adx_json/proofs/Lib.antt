@@ -35,4 +35,3 @@ pub mod Meeting
 pub mod Judging
 pub mod Items
 pub mod Finding
-pub mod Listing

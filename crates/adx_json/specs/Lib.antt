@@ -13,4 +13,3 @@ pub mod Values
 pub mod Checks
 pub mod Walks
 pub mod FoundMembers
-pub mod Rows
