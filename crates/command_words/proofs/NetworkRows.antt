@@ -1,142 +1,31 @@
 -- Words of the commands that talk over the network, in plain spelling, are read as what they ask for.
-use Rattle.std.proofs.Common.{◌≡◌, ◌≢◌, ◌∙◌, inl, inr, sym, ap, ap₂, subst, refl, ℕ, ◌&&◌, ◌||◌, Bool, true, false, not, List, [], ◌∷◌, map, Option, Some, None, is_some, true≢false}
-use Rattle.std.specs.List.{All}
-use Rattle.std.specs.Str.{bytes_eq}
-use Rattle.std.proofs.lemmas.List.Elements.{All-head, All-tail}
-use Rattle.clap.proofs.OnLiterals.{clap_on_literals}
-use Rattle.clap.specs.Faults.{check_fault, fault_of}
-use Rattle.clap.specs.Kinds.{HasKind, IsAmong, Kinds, check_kinds}
+use Rattle.std.proofs.Common.{◌≡◌, ◌≢◌, ◌∙◌, inl, inr, sym, ap, ap₂, subst, refl, ℕ, List, [], ◌∷◌, map, codes, Option, Some, None}
+use Rattle.std.specs.Option.{unwrap_or}
+use Rattle.clap.specs.Faults.{fault_of}
+use Rattle.clap.specs.Kinds.{HasKind, IsAmong}
 use Rattle.clap.specs.Simple.{App, subcommand_of}
 use Rattle.clap.specs.Values.{kind_of}
 use Rattle.clap.specs.Walk.{Row as Found}
 use Rattle.clap.specs.declared.error.Error.{Error}
 use Rattle.clap.specs.declared.error.kind.ErrorKind.{ErrorKind}
-use Rattle.command_words.specs.Spelling.{Given, Row, Spells, value_of}
-use Rattle.command_words.specs.Meanings.{bidding, first_help_word, journal_name, number_of, port_name, posting, prices_name, roster_name, serving, workers_name}
+use Rattle.command_words.specs.Spelling.{Given, Row}
+use Rattle.command_words.specs.Meanings.{IsRowOf, journal_name, number_of, port_name, prices_name, roster_name, workers_name}
 use Rattle.command_words.specs.Network.{IsPlainNetwork, workers_of}
 use Rattle.command_words.specs.NetworkTaken.{IsNetworkReadingOf, bid_with, network_answer, network_found, post_with, serve_with}
 use Rattle.command_words.specs.Taken.{Comes, IsReadingOf, answer, application, command_found, turned_round}
 use Rattle.command_words.specs.declared.command.Command.{Command}
 use Rattle.command_words.specs.declared.network.NetworkCommand.{NetworkCommand}
 use Rattle.command_words.specs.declared.network.TheConstants.{MOST_PORT}
-use Rattle.command_words.proofs.Walks.{HasOption, row_for}
-use Rattle.command_words.proofs.Levels.{HasCommand, first_found, given_found}
-use Rattle.command_words.proofs.Programs.{IsBuilt, one_name, program, shape_by}
-use Rattle.command_words.proofs.Rows.{Takes, stays, takes}
-
--- ---- the rows
-
-abbrev IsGiven : List Given → List ℕ → Type 0
-IsGiven given name = is_some (value_of name given) ≡ true
-
-served_roster : HasOption (shape_by serving).rules roster_name
-served_roster = record { needed = true; is_long = refl; is_named = refl; by_long = refl; by_id = refl }
-
-served_journal : HasOption (shape_by serving).rules journal_name
-served_journal = record { needed = true; is_long = refl; is_named = refl; by_long = refl; by_id = refl }
-
-served_port : HasOption (shape_by serving).rules port_name
-served_port = record { needed = true; is_long = refl; is_named = refl; by_long = refl; by_id = refl }
-
-served_workers : HasOption (shape_by serving).rules workers_name
-served_workers = record { needed = true; is_long = refl; is_named = refl; by_long = refl; by_id = refl }
-
-serving_command : HasCommand program serving.word (shape_by serving)
-unfolding clap_on_literals
-serving_command = record { stops = refl; turns = refl; found = refl; checked = refl }
-
--- what a parse says of four options that have to stand, by whether they do
-abbrev lacking : Bool → Bool → Bool → Bool → Kinds
-lacking r j p w = check_kinds false false ((true && not r) || ((true && not j) || ((true && not p) || ((true && not w) || false))))
-
-none_lacking : (r j p w : Bool) → r ≡ true → j ≡ true → p ≡ true → w ≡ true → lacking r j p w ≡ []
-none_lacking r j p w er ej ep ew =
-    ap (λ x. lacking x j p w) er ∙ ap (λ x. lacking true x p w) ej ∙ ap (λ x. lacking true true x w) ep ∙ ap (λ x. lacking true true true x) ew
-
-serving_checked : (given : List Given) → All (IsGiven given) serving.needed → check_fault (shape_by serving) (map row_for given) false ≡ []
-serving_checked given complete =
-    let behind_roster = All-tail (IsGiven given) roster_name (journal_name ∷ port_name ∷ workers_name ∷ []) complete in
-    let behind_journal = All-tail (IsGiven given) journal_name (port_name ∷ workers_name ∷ []) behind_roster in
-    let behind_port = All-tail (IsGiven given) port_name (workers_name ∷ []) behind_journal in
-    none_lacking _ _ _ _ (given_found roster_name given ∙ All-head (IsGiven given) roster_name (journal_name ∷ port_name ∷ workers_name ∷ []) complete)
-    (given_found journal_name given ∙ All-head (IsGiven given) journal_name (port_name ∷ workers_name ∷ []) behind_roster)
-    (given_found port_name given ∙ All-head (IsGiven given) port_name (workers_name ∷ []) behind_journal)
-    (given_found workers_name given ∙ All-head (IsGiven given) workers_name [] behind_port)
-
-abbrev IsServed : List ℕ → Type 0
-IsServed name = HasOption (shape_by serving).rules name
-
-serving_built : IsBuilt serving
-serving_built = record {
-  command = serving_command;
-  options = λ name is. one_name IsServed name roster_name (bytes_eq journal_name name || (bytes_eq port_name name || (bytes_eq workers_name name || false))) is served_roster
-      (λ b. one_name IsServed name journal_name (bytes_eq port_name name || (bytes_eq workers_name name || false)) b served_journal
-      (λ d. one_name IsServed name port_name (bytes_eq workers_name name || false) d served_port
-      (λ e. one_name IsServed name workers_name false e served_workers (λ none. absurd (true≢false (sym none))))));
-  defaults = refl;
-  checked = serving_checked;
-  name = refl;
-}
+use Rattle.command_words.proofs.Walks.{row_for}
+use Rattle.command_words.proofs.Levels.{first_found}
+use Rattle.command_words.proofs.Programs.{row_word}
+use Rattle.command_words.proofs.Rows.{Takes, has_no_flag, other_word, stays, takes}
 
 -- the same texts and numbers ask for the same
 pub same_four : (r j roster journal : Option (List ℕ)) (p w port workers : Option ℕ) → r ≡ roster → j ≡ journal → p ≡ port → w ≡ workers
     → serve_with r j p w ≡ serve_with roster journal port workers
 same_four r j roster journal p w port workers er ej ep ew =
     ap (λ x. serve_with x j p w) er ∙ ap (λ x. serve_with roster x p w) ej ∙ ap (λ x. serve_with roster journal x w) ep ∙ ap (λ x. serve_with roster journal port x) ew
-
-posted_roster : HasOption (shape_by posting).rules roster_name
-posted_roster = record { needed = true; is_long = refl; is_named = refl; by_long = refl; by_id = refl }
-
-posted_journal : HasOption (shape_by posting).rules journal_name
-posted_journal = record { needed = true; is_long = refl; is_named = refl; by_long = refl; by_id = refl }
-
-posting_command : HasCommand program posting.word (shape_by posting)
-unfolding clap_on_literals
-posting_command = record { stops = refl; turns = refl; found = refl; checked = refl }
-
-posting_checked : (given : List Given) → All (IsGiven given) posting.needed → check_fault (shape_by posting) (map row_for given) false ≡ []
-posting_checked given complete =
-    let behind = All-tail (IsGiven given) roster_name (journal_name ∷ []) complete in
-    ap₂ (λ (a b : Bool). check_kinds false false ((true && not a) || ((true && not b) || false)))
-    (given_found roster_name given ∙ All-head (IsGiven given) roster_name (journal_name ∷ []) complete)
-    (given_found journal_name given ∙ All-head (IsGiven given) journal_name [] behind)
-
-posting_built : IsBuilt posting
-posting_built = record {
-  command = posting_command;
-  options = λ name is. one_name (HasOption (shape_by posting).rules) name roster_name (bytes_eq journal_name name || false) is posted_roster
-      (λ b. one_name (HasOption (shape_by posting).rules) name journal_name false b posted_journal (λ none. absurd (true≢false (sym none))));
-  defaults = refl;
-  checked = posting_checked;
-  name = refl;
-}
-
-bidding_prices : HasOption (shape_by bidding).rules prices_name
-bidding_prices = record { needed = true; is_long = refl; is_named = refl; by_long = refl; by_id = refl }
-
-bidding_port : HasOption (shape_by bidding).rules port_name
-bidding_port = record { needed = true; is_long = refl; is_named = refl; by_long = refl; by_id = refl }
-
-bidding_command : HasCommand program bidding.word (shape_by bidding)
-unfolding clap_on_literals
-bidding_command = record { stops = refl; turns = refl; found = refl; checked = refl }
-
-bidding_checked : (given : List Given) → All (IsGiven given) bidding.needed → check_fault (shape_by bidding) (map row_for given) false ≡ []
-bidding_checked given complete =
-    let behind = All-tail (IsGiven given) prices_name (port_name ∷ []) complete in
-    ap₂ (λ (a b : Bool). check_kinds false false ((true && not a) || ((true && not b) || false)))
-    (given_found prices_name given ∙ All-head (IsGiven given) prices_name (port_name ∷ []) complete)
-    (given_found port_name given ∙ All-head (IsGiven given) port_name [] behind)
-
-bidding_built : IsBuilt bidding
-bidding_built = record {
-  command = bidding_command;
-  options = λ name is. one_name (HasOption (shape_by bidding).rules) name prices_name (bytes_eq port_name name || false) is bidding_prices
-      (λ b. one_name (HasOption (shape_by bidding).rules) name port_name false b bidding_port (λ none. absurd (true≢false (sym none))));
-  defaults = refl;
-  checked = bidding_checked;
-  name = refl;
-}
 
 -- ---- words in plain spelling
 
@@ -148,38 +37,42 @@ network_taken command words none is (Some kind) comes = absurd (subst (Comes (So
 
 -- a command in plain spelling stands as `clap` takes it
 network_turned : (command : NetworkCommand) (words : List (List ℕ)) → IsPlainNetwork command words → turned_round words ≡ words
-network_turned (NetworkCommand.Serve roster journal port workers) words (row, given, spells, is) = stays row given words (ap (λ (r : Row). bytes_eq r.word first_help_word) is.0) spells
-network_turned (NetworkCommand.Post roster journal) words (row, given, spells, is) = stays row given words (ap (λ (r : Row). bytes_eq r.word first_help_word) is.0) spells
-network_turned (NetworkCommand.Bid prices port) words (row, given, spells, is) = stays row given words (ap (λ (r : Row). bytes_eq r.word first_help_word) is.0) spells
+network_turned (NetworkCommand.Serve roster journal port workers) words (row, given, spells, is) = stays row given words (other_word (codes "serve") row is.0) spells
+network_turned (NetworkCommand.Post roster journal) words (row, given, spells, is) = stays row given words (other_word (codes "post") row is.0) spells
+network_turned (NetworkCommand.Bid prices port) words (row, given, spells, is) = stays row given words (other_word (codes "bid") row is.0) spells
+
+-- what is found of a row is found by its word
+found_by : (word : List ℕ) (row : Row) → IsRowOf word row → (given : List Given) → network_found (Some (row.word, map row_for given)) ≡ network_found (Some (word, map row_for given))
+found_by word row is given = ap (λ (w : List ℕ). network_found (Some (w, map row_for given))) (row_word word row is)
+
+none_by : (word : List ℕ) (row : Row) → IsRowOf word row → (given : List Given) → command_found (Some (row.word, map row_for given)) ≡ command_found (Some (word, map row_for given))
+none_by word row is given = ap (λ (w : List ℕ). command_found (Some (w, map row_for given))) (row_word word row is)
 
 -- and is taken
 network_takes : (command : NetworkCommand) (words : List (List ℕ)) → IsPlainNetwork command words
     → (word : List ℕ) × (rows : List Found) × Takes word rows words × (network_found (Some (word, rows)) ≡ Some command) × (command_found (Some (word, rows)) ≡ None)
-network_takes (NetworkCommand.Serve roster journal port workers) words (row, given, spells, is) =
-    let its : Spells serving given words = subst (λ (r : Row). Spells r given words) is.0 spells in (
-      serving.word,
-      map row_for given,
-      takes serving given words serving_built its,
-      same_four _ _ (Some roster) (Some journal) _ _ (Some port) (Some workers) (first_found roster_name given ∙ is.1) (first_found journal_name given ∙ is.2)
-          (ap (number_of MOST_PORT) (first_found port_name given) ∙ is.3) (ap workers_of (first_found workers_name given) ∙ is.4),
-      refl,
-    )
-network_takes (NetworkCommand.Post roster journal) words (row, given, spells, is) =
-    let its : Spells posting given words = subst (λ (r : Row). Spells r given words) is.0 spells in (
-      posting.word,
-      map row_for given,
-      takes posting given words posting_built its,
-      ap₂ post_with (first_found roster_name given ∙ is.1) (first_found journal_name given ∙ is.2),
-      refl,
-    )
-network_takes (NetworkCommand.Bid prices port) words (row, given, spells, is) =
-    let its : Spells bidding given words = subst (λ (r : Row). Spells r given words) is.0 spells in (
-      bidding.word,
-      map row_for given,
-      takes bidding given words bidding_built its,
-      ap₂ bid_with (first_found prices_name given ∙ is.1) (ap (number_of MOST_PORT) (first_found port_name given) ∙ is.2),
-      refl,
-    )
+network_takes (NetworkCommand.Serve roster journal port workers) words (row, given, spells, is) = (
+  row.word,
+  map row_for given,
+  takes (codes "serve") row given words is.0 (sym (ap (λ (o : Option Row). has_no_flag (unwrap_or o row)) is.0)) spells,
+  found_by (codes "serve") row is.0 given ∙ same_four _ _ (Some roster) (Some journal) _ _ (Some port) (Some workers) (first_found roster_name given ∙ is.1) (first_found journal_name given ∙ is.2)
+      (ap (number_of MOST_PORT) (first_found port_name given) ∙ is.3) (ap workers_of (first_found workers_name given) ∙ is.4),
+  none_by (codes "serve") row is.0 given,
+)
+network_takes (NetworkCommand.Post roster journal) words (row, given, spells, is) = (
+  row.word,
+  map row_for given,
+  takes (codes "post") row given words is.0 (sym (ap (λ (o : Option Row). has_no_flag (unwrap_or o row)) is.0)) spells,
+  found_by (codes "post") row is.0 given ∙ ap₂ post_with (first_found roster_name given ∙ is.1) (first_found journal_name given ∙ is.2),
+  none_by (codes "post") row is.0 given,
+)
+network_takes (NetworkCommand.Bid prices port) words (row, given, spells, is) = (
+  row.word,
+  map row_for given,
+  takes (codes "bid") row given words is.0 (sym (ap (λ (o : Option Row). has_no_flag (unwrap_or o row)) is.0)) spells,
+  found_by (codes "bid") row is.0 given ∙ ap₂ bid_with (first_found prices_name given ∙ is.1) (ap (number_of MOST_PORT) (first_found port_name given) ∙ is.2),
+  none_by (codes "bid") row is.0 given,
+)
 
 network_read : (command : NetworkCommand) (words : List (List ℕ)) → IsPlainNetwork command words → (outcome : Option ErrorKind) → Comes outcome (fault_of application words)
     → network_answer outcome words ≡ Some command

@@ -1,15 +1,16 @@
 -- Words in plain spelling are read as the command that they ask for.
-use Rattle.std.proofs.Common.{◌≡◌, ◌≢◌, ◌∙◌, inl, inr, sym, ap, ap₂, subst, refl, ℕ, ◌-◌, ◌^◌, ◌&&◌, ◌||◌, cond, Bool, true, false, not, List, [], ◌∷◌, ◌++◌, map, codes, Option, Some, None, is_some, true≢false, Result, Ok, Err, IfOk, box_value}
+use Rattle.std.proofs.Common.{◌≡◌, ◌≢◌, ◌∙◌, inl, inr, sym, ap, ap₂, subst, refl, arith, ℕ, ◌+◌, ◌-◌, ◌^◌, ◌||◌, cond, Bool, true, false, List, [], ◌∷◌, ◌++◌, map, codes, Option, Some, None, is_some, true≢false, Result, Ok, Err, IfOk, box_value}
+use Rattle.std.specs.Prelude.{slice_get}
 use Rattle.std.specs.List.{All, fold, slice_index_or}
 use Rattle.std.specs.Option.{option_map, option_map_or, unwrap_or}
 use Rattle.std.specs.Str.{bytes_eq}
-use Rattle.std.proofs.lemmas.List.Elements.{All-head, All-tail}
+use Rattle.std.proofs.lemmas.List.Elements.{All-cons, All-head, All-nil, All-tail}
 use Rattle.clap.proofs.OnLiterals.{clap_on_literals}
 use Rattle.clap.specs.Faults.{check_fault, defaults_fault, fault_of, is_simple_and_free, settle_fault}
-use Rattle.clap.specs.Kinds.{HasKind, IsAmong, Kinds, check_kinds}
+use Rattle.clap.specs.Kinds.{HasKind, IsAmong, Kinds}
 use Rattle.clap.specs.Values.{kind_of}
 use Rattle.clap.specs.declared.error.Error.{Error}
-use Rattle.clap.specs.Simple.{App, built, filled, help_rule, is_simple, subcommand_of, subcommand_rows_of}
+use Rattle.clap.specs.Simple.{App, filled, help_rule, is_simple, subcommand_of, subcommand_rows_of}
 use Rattle.clap.specs.Matches.{found_of, subcommand_name_of}
 use Rattle.clap.specs.Takes.{is_given}
 use Rattle.clap.specs.Walk.{Held, Rule, default_rows, has_row, nothing_held, rows_of, settled, with_default}
@@ -18,127 +19,34 @@ use Rattle.clap.specs.declared.parser.matches.ArgMatches.TheViews.{out-ArgMatche
 use Rattle.clap.specs.Walk.{Row as Found}
 use Rattle.clap.specs.declared.builder.value_parser.Reading.TheVariants.{AsWritten}
 use Rattle.clap.specs.declared.error.kind.ErrorKind.{ErrorKind}
-use Rattle.command_words.specs.Spelling.{Given, Row, Spells, SpellsWith, dashed, has_option, value_of, words_of}
-use Rattle.command_words.specs.Meanings.{IsPlain, archive_name, asks_name, bidder, bidder_name, check, cid_name, closing, connection, day, first_help_word, from_name, generator, help_word, journal_name, notices, number_of, ratio_name, seat_name, seed_name, to_name, version_word, words_before_help}
-use Rattle.command_words.specs.Taken.{Comes, IsReadingOf, answer, answer_by, application, close_by, command_found, generate, print_notices, put_archive, reconcile_with, turned_by, turned_round}
+use Rattle.command_words.specs.Spelling.{Given, Row, Spells, SpellsWith, dashed, has_option, needed_of, value_of, words_of}
+use Rattle.command_words.specs.Meanings.{IsPlain, IsRowOf, archive_name, asks_name, bidder_name, cid_name, commands, first_help_word, from_name, help_word, journal_name, number_of, ratio_name, row_of, seat_name, seed_name, to_name, version_word}
+use Rattle.command_words.specs.Taken.{Comes, IsReadingOf, answer, answer_by, application, close_by, command_found, generate, list_archive, print_notices, put_archive, reconcile_with, topic_by, turned_by, turned_round}
 use Rattle.command_words.specs.declared.command.Command.{Command}
 use Rattle.command_words.specs.declared.command.Topic.{Topic}
 use Rattle.command_words.specs.declared.command.TheConstants.{MOST_ASKS}
+use Rattle.command_words.proofs.Tables.{each_same, found_one, numbered, numbered_at, one_at}
 use Rattle.command_words.proofs.Walks.{Ends, HasFlag, HasOption, both, done_with, ends, flag_first, flag_last, row_for, rule_of_flag, rule_of_option, set_row, unset_added, unset_row}
-use Rattle.command_words.proofs.Levels.{HasCommand, IsRead, command_entered, command_passes, first_behind, first_beside, first_found, given_beside, given_found, level_passes, no_default, no_more, options_read, or_true, rows_found, same_both}
-use Rattle.command_words.proofs.Programs.{IsBuilt, one_name, program, shape_by}
-use Rattle.command_words.proofs.ArchiveRows.{archive_list_built, archive_put_built, same_five}
-use Rattle.command_words.proofs.ReconcileRow.{reconcile_built}
-
--- ---- the rows
-
-journal_option : HasOption (shape_by day).rules journal_name
-journal_option = record { needed = false; is_long = refl; is_named = refl; by_long = refl; by_id = refl }
-
-day_command : HasCommand program day.word (shape_by day)
-unfolding clap_on_literals
-day_command = record { stops = refl; turns = refl; found = refl; checked = refl }
-
-day_built : IsBuilt day
-day_built = record {
-  command = day_command;
-  options = λ name is. one_name (HasOption (shape_by day).rules) name journal_name false is journal_option (λ none. absurd (true≢false (sym none)));
-  defaults = refl;
-  checked = λ given complete. refl;
-  name = refl;
-}
-
-connection_option : HasOption (shape_by connection).rules journal_name
-connection_option = record { needed = false; is_long = refl; is_named = refl; by_long = refl; by_id = refl }
-
-connection_command : HasCommand program connection.word (shape_by connection)
-unfolding clap_on_literals
-connection_command = record { stops = refl; turns = refl; found = refl; checked = refl }
-
-connection_built : IsBuilt connection
-connection_built = record {
-  command = connection_command;
-  options = λ name is. one_name (HasOption (shape_by connection).rules) name journal_name false is connection_option (λ none. absurd (true≢false (sym none)));
-  defaults = refl;
-  checked = λ given complete. refl;
-  name = refl;
-}
-
-notices_option : HasOption (shape_by notices).rules journal_name
-notices_option = record { needed = true; is_long = refl; is_named = refl; by_long = refl; by_id = refl }
-
-notices_command : HasCommand program notices.word (shape_by notices)
-unfolding clap_on_literals
-notices_command = record { stops = refl; turns = refl; found = refl; checked = refl }
-
-notices_checked : (given : List Given) → All (λ name. is_some (value_of name given) ≡ true) notices.needed → check_fault (shape_by notices) (map row_for given) false ≡ []
-notices_checked given complete =
-    let journal : is_some (value_of journal_name given) ≡ true = All-head (λ name. is_some (value_of name given) ≡ true) journal_name [] complete in
-    ap (λ (a : Bool). check_kinds false false ((true && not a) || false)) (given_found journal_name given ∙ journal)
-
-notices_built : IsBuilt notices
-notices_built = record {
-  command = notices_command;
-  options = λ name is. one_name (HasOption (shape_by notices).rules) name journal_name false is notices_option (λ none. absurd (true≢false (sym none)));
-  defaults = refl;
-  checked = notices_checked;
-  name = refl;
-}
-
-bidder_command : HasCommand program bidder.word (shape_by bidder)
-unfolding clap_on_literals
-bidder_command = record { stops = refl; turns = refl; found = refl; checked = refl }
-
-bidder_built : IsBuilt bidder
-bidder_built = record {
-  command = bidder_command;
-  options = λ name none. absurd (true≢false (sym none));
-  defaults = refl;
-  checked = λ given complete. refl;
-  name = refl;
-}
-
-check_command : HasCommand program check.word (shape_by check)
-unfolding clap_on_literals
-check_command = record { stops = refl; turns = refl; found = refl; checked = refl }
-
-check_built : IsBuilt check
-check_built = record {
-  command = check_command;
-  options = λ name none. absurd (true≢false (sym none));
-  defaults = refl;
-  checked = λ given complete. refl;
-  name = refl;
-}
-
-seed_option : HasOption (shape_by generator).rules seed_name
-seed_option = record { needed = true; is_long = refl; is_named = refl; by_long = refl; by_id = refl }
-
-asks_option : HasOption (shape_by generator).rules asks_name
-asks_option = record { needed = true; is_long = refl; is_named = refl; by_long = refl; by_id = refl }
-
-generator_command : HasCommand program generator.word (shape_by generator)
-unfolding clap_on_literals
-generator_command = record { stops = refl; turns = refl; found = refl; checked = refl }
-
-generator_checked : (given : List Given) → All (λ name. is_some (value_of name given) ≡ true) generator.needed → check_fault (shape_by generator) (map row_for given) false ≡ []
-generator_checked given complete =
-    let seed : is_some (value_of seed_name given) ≡ true = All-head (λ name. is_some (value_of name given) ≡ true) seed_name (asks_name ∷ []) complete in
-    let asks : is_some (value_of asks_name given) ≡ true =
-    All-head (λ name. is_some (value_of name given) ≡ true) asks_name [] (All-tail (λ name. is_some (value_of name given) ≡ true) seed_name (asks_name ∷ []) complete) in
-    ap₂ (λ (a b : Bool). check_kinds false false ((true && not a) || ((true && not b) || false))) (given_found seed_name given ∙ seed) (given_found asks_name given ∙ asks)
-
-generator_built : IsBuilt generator
-generator_built = record {
-  command = generator_command;
-  options = λ name is. one_name (HasOption (shape_by generator).rules) name seed_name (bytes_eq asks_name name || false) is seed_option
-      (λ rest. one_name (HasOption (shape_by generator).rules) name asks_name false rest asks_option (λ none. absurd (true≢false (sym none))));
-  defaults = refl;
-  checked = generator_checked;
-  name = refl;
-}
+use Rattle.command_words.proofs.Levels.{HasCommand, IsRead, command_entered, command_passes, first_behind, first_beside, first_found, given_beside, given_found, have_no_defaults, level_passes, no_default, no_more, options_read, or_true, rows_found, same_both}
+use Rattle.command_words.proofs.Programs.{complete, named_so, program, row_asked, row_built, row_command, row_word, shape_by}
 
 -- ---- the row with a flag
+
+-- the row of `close`
+abbrev pub close_word : List ℕ
+close_word = codes "close"
+
+abbrev no_row : Row
+no_row = record { word = []; options = []; purpose = [] }
+
+abbrev closing : Row
+closing = unwrap_or (row_of close_word) no_row
+
+is_closing : IsRowOf close_word closing
+is_closing = refl
+
+closing_of : (row : Row) → IsRowOf close_word row → row ≡ closing
+closing_of row is = sym (ap (λ (o : Option Row). unwrap_or o no_row) is)
 
 abbrev closing_rules : List Rule
 closing_rules = (shape_by closing).rules
@@ -150,12 +58,18 @@ closing_flag : HasFlag closing_rules ratio_name
 closing_flag = record { is_long = refl; is_named = refl; by_long = refl }
 
 closing_command : HasCommand program closing.word (shape_by closing)
-unfolding clap_on_literals
-closing_command = record { stops = refl; turns = refl; found = refl; checked = refl }
+closing_command = row_command close_word closing is_closing
 
 -- each of its options is the journal
+journal_alone : (P : List ℕ → Type 0) (name : List ℕ) → P journal_name → (bytes_eq journal_name name || false) ≡ true → P name
+journal_alone P name is same = go (bytes_eq journal_name name) refl same
+  where
+    go : (b : Bool) → bytes_eq journal_name name ≡ b → (b || false) ≡ true → P name
+    go true equal any = named_so P name journal_name equal is
+    go false differ any = absurd (true≢false (sym any))
+
 closing_each : (P : List ℕ → Type 0) (given : List Given) → P journal_name → All (λ one. has_option closing one.0 ≡ true) given → All (λ one. P one.0) given
-closing_each P given is known = λ k d lt. one_name P (slice_index_or given k d).0 journal_name false (known k d lt) is (λ none. absurd (true≢false (sym none)))
+closing_each P given is known = λ k d lt. journal_alone P (slice_index_or given k d).0 is (known k d lt)
 
 -- so none has the flag's name
 apart : (given : List Given) → All (λ one. bytes_eq one.0 ratio_name ≡ false) given → has_row ratio_name (map row_for given) ≡ false
@@ -196,10 +110,11 @@ completed_set rows some =
     set_stays rows some = ap (λ (b : Bool). cond b rows (default_rows ratio_name AsWritten (codes "false" ∷ []) rows)) some
 
 closing_checked : (rows : List Found) → is_given journal_name rows ≡ true → check_fault (shape_by closing) rows false ≡ []
-closing_checked rows some = ap (λ (a : Bool). check_kinds false false ((true && not a) || false)) some
+closing_checked rows some =
+    complete closing (row_asked close_word closing is_closing) rows (All-cons (λ name. is_given name rows ≡ true) journal_name [] some (All-nil (λ name. is_given name rows ≡ true)))
 
 -- what a closing finds, by the options and what more
-journal_given : (given : List Given) → All (λ name. is_some (value_of name given) ≡ true) closing.needed → is_some (value_of journal_name given) ≡ true
+journal_given : (given : List Given) → All (λ name. is_some (value_of name given) ≡ true) (needed_of closing) → is_some (value_of journal_name given) ≡ true
 journal_given given complete = All-head (λ name. is_some (value_of name given) ≡ true) journal_name [] complete
 
 has_last : (name : List ℕ) (rows : List Found) (row : Found) → bytes_eq row.id name ≡ true → has_row name (rows ++ row ∷ []) ≡ true
@@ -257,12 +172,17 @@ takes_words row words rows command name read =
           ∙ ap₂ (λ (word : List ℕ) (found : List Found). Some (word, found)) name (rows_found s words rows read),
     )
 
+-- what is asked of a row that has no flag
+abbrev pub has_no_flag : Row → Bool
+has_no_flag row = have_no_defaults (shape_by row).rules
+
 -- a command in plain spelling is taken, with its options
-pub takes : (row : Row) (given : List Given) (words : List (List ℕ)) → IsBuilt row → Spells row given words → Takes row.word (map row_for given) words
-takes row given words built spells =
+pub takes : (word : List ℕ) (row : Row) (given : List Given) (words : List (List ℕ)) → IsRowOf word row → has_no_flag row ≡ true → Spells row given words → Takes row.word (map row_for given) words
+takes word row given words is plain spells =
+    let built = row_built word row is in
     let s = shape_by row in
     let read : IsRead s (words_of given) (map row_for given) =
-    options_read s given built.defaults (λ k d lt. built.options (slice_index_or given k d).0 (spells.known k d lt)) spells.once spells.plain (built.checked given spells.complete) in
+    options_read s given plain (λ k d lt. built.options (slice_index_or given k d).0 (spells.known k d lt)) spells.once spells.plain (built.checked given spells.complete) in
     subst (Takes row.word (map row_for given)) (sym spells.are) (takes_words row (words_of given) (map row_for given) built.command built.name read)
 
 -- what an answer by no fault is
@@ -280,46 +200,54 @@ asked command words kind one is (Some other) comes = elim (subst (Comes (Some ot
   | inr none ↦ absurd none
 ]
 
-help_asked : (topic : Topic) → fault_of application (words_before_help topic ++ help_word ∷ []) ≡ ErrorKind.DisplayHelp ∷ []
+-- the help on the program, and on each command
+program_help_asked : fault_of application (help_word ∷ []) ≡ ErrorKind.DisplayHelp ∷ []
 unfolding clap_on_literals
-help_asked Topic.Program = refl
-help_asked Topic.Day = refl
-help_asked Topic.Connection = refl
-help_asked Topic.Notices = refl
-help_asked Topic.Bidder = refl
-help_asked Topic.Close = refl
-help_asked Topic.Check = refl
-help_asked Topic.ArchivePut = refl
-help_asked Topic.ArchiveList = refl
-help_asked Topic.Reconcile = refl
-help_asked Topic.Generate = refl
-help_asked Topic.Serve = refl
-help_asked Topic.Post = refl
-help_asked Topic.Bid = refl
+program_help_asked = refl
 
-help_answered : (topic : Topic) → answer (Some ErrorKind.DisplayHelp) (words_before_help topic ++ help_word ∷ []) ≡ Some (Command.Help topic)
-help_answered Topic.Program = refl
-help_answered Topic.Day = refl
-help_answered Topic.Connection = refl
-help_answered Topic.Notices = refl
-help_answered Topic.Bidder = refl
-help_answered Topic.Close = refl
-help_answered Topic.Check = refl
-help_answered Topic.ArchivePut = refl
-help_answered Topic.ArchiveList = refl
-help_answered Topic.Reconcile = refl
-help_answered Topic.Generate = refl
-help_answered Topic.Serve = refl
-help_answered Topic.Post = refl
-help_answered Topic.Bid = refl
+all_helps : map (λ (row : Row). fault_of application (row.word ∷ help_word ∷ [])) commands ≡ map (λ (row : Row). ErrorKind.DisplayHelp ∷ []) commands
+unfolding clap_on_literals
+all_helps = refl
+
+command_help_asked : (place : ℕ) (row : Row) → slice_get commands place ≡ Some row → fault_of application (row.word ∷ help_word ∷ []) ≡ ErrorKind.DisplayHelp ∷ []
+command_help_asked place row is =
+    one_at (λ (r : Row). fault_of application (r.word ∷ help_word ∷ []) ≡ ErrorKind.DisplayHelp ∷ []) commands place row
+    (each_same (λ (r : Row). fault_of application (r.word ∷ help_word ∷ [])) (λ (r : Row). ErrorKind.DisplayHelp ∷ []) commands all_helps) is
+
+-- each command's word names its place
+all_topics : map (λ (row : Row). topic_by row.word) commands ≡ numbered 0 commands
+all_topics = refl
+
+topic_at : (place : ℕ) (row : Row) → slice_get commands place ≡ Some row → topic_by row.word ≡ Topic.Command place
+topic_at place row is = numbered_at (λ (r : Row). topic_by r.word) 0 commands place row all_topics is ∙ ap (λ n. Topic.Command n) (from_none place)
+  where
+    from_none : (n : ℕ) → 0 + n ≡ n
+    from_none n = omega arith
+
+-- none of them is `help`
+all_other : map (λ (row : Row). bytes_eq row.word first_help_word) commands ≡ map (λ (row : Row). false) commands
+all_other = refl
+
+other_at : (place : ℕ) (row : Row) → slice_get commands place ≡ Some row → bytes_eq row.word first_help_word ≡ false
+other_at place row is =
+    one_at (λ (r : Row). bytes_eq r.word first_help_word ≡ false) commands place row (each_same (λ (r : Row). bytes_eq r.word first_help_word) (λ (r : Row). false) commands all_other) is
+
+pub other_word : (word : List ℕ) (row : Row) → IsRowOf word row → bytes_eq row.word first_help_word ≡ false
+other_word word row is =
+    found_one (λ (r : Row). bytes_eq r.word first_help_word ≡ false) (λ (r : Row). bytes_eq r.word word) commands row
+    (each_same (λ (r : Row). bytes_eq r.word first_help_word) (λ (r : Row). false) commands all_other) is
 
 version_asked : fault_of application (version_word ∷ []) ≡ ErrorKind.DisplayVersion ∷ []
 unfolding clap_on_literals
 version_asked = refl
 
 -- what words ask for that stand as `clap` takes them
+abbrev IsHelpTaken : Topic → List (List ℕ) → Type 0
+IsHelpTaken Topic.Program words = words ≡ help_word ∷ []
+IsHelpTaken (Topic.Command place) words = (row : Row) × (slice_get commands place ≡ Some row) × (words ≡ row.word ∷ help_word ∷ [])
+
 abbrev IsTaken : Command → List (List ℕ) → Type 0
-IsTaken (Command.Help topic) words = words ≡ words_before_help topic ++ help_word ∷ []
+IsTaken (Command.Help topic) words = IsHelpTaken topic words
 IsTaken command words = IsPlain command words
 
 -- the flag before the journal, or after it
@@ -343,30 +271,41 @@ closed_with journal words given spells is = elim spells.are [
       (ap (λ (text : Option (List ℕ)). option_map_or (λ t. bytes_eq t (codes "true")) text false) (first_behind ratio_name (map row_for given) (set_row ratio_name ∷ []) (no_flag given its.known))))
 ]
 
+-- what is found of a row is found by its word
+word_is : (word : List ℕ) (row : Row) → IsRowOf word row → (given : List Given) → ◌≡◌ {A = Option (List ℕ × List Found)} (Some (row.word, map row_for given)) (Some (word, map row_for given))
+word_is word row is given = ap (λ (w : List ℕ). Some (w, map row_for given)) (row_word word row is)
+
+-- the same texts ask for the same days
+pub same_five : (a s c f t archive seat cid first last : Option (List ℕ)) → a ≡ archive → s ≡ seat → c ≡ cid → f ≡ first → t ≡ last
+    → list_archive a s c f t ≡ list_archive archive seat cid first last
+same_five a s c f t archive seat cid first last ea es ec ef et =
+    ap (λ x. list_archive x s c f t) ea ∙ ap (λ x. list_archive archive x c f t) es ∙ ap (λ x. list_archive archive seat x f t) ec
+    ∙ ap (λ x. list_archive archive seat cid x t) ef ∙ ap (λ x. list_archive archive seat cid first x) et
+
 -- words in plain spelling are read as what they ask for
 pub plain_read : (command : Command) (words : List (List ℕ)) → IsTaken command words → (outcome : Option ErrorKind) → Comes outcome (fault_of application words) → answer outcome words ≡ Some command
 plain_read (Command.Day journal) words (row, given, spells, is) =
-    let its = takes row given words (subst IsBuilt (sym is.0) day_built) spells in
+    let its = takes (codes "day") row given words is.0 (sym (ap (λ (o : Option Row). has_no_flag (unwrap_or o row)) is.0)) spells in
     taken (Command.Day journal) words its.0
-    (ap command_found (its.1 ∙ ap (λ (r : Row). Some (r.word, map row_for given)) is.0) ∙ ap (λ j. Some (Command.Day j)) (first_found journal_name given ∙ is.1))
+    (ap command_found (its.1 ∙ word_is (codes "day") row is.0 given) ∙ ap (λ j. Some (Command.Day j)) (first_found journal_name given ∙ is.1))
 plain_read (Command.Connection journal) words (row, given, spells, is) =
-    let its = takes row given words (subst IsBuilt (sym is.0) connection_built) spells in
+    let its = takes (codes "conn") row given words is.0 (sym (ap (λ (o : Option Row). has_no_flag (unwrap_or o row)) is.0)) spells in
     taken (Command.Connection journal) words its.0
-    (ap command_found (its.1 ∙ ap (λ (r : Row). Some (r.word, map row_for given)) is.0) ∙ ap (λ j. Some (Command.Connection j)) (first_found journal_name given ∙ is.1))
+    (ap command_found (its.1 ∙ word_is (codes "conn") row is.0 given) ∙ ap (λ j. Some (Command.Connection j)) (first_found journal_name given ∙ is.1))
 plain_read (Command.Notices journal) words (row, given, spells, is) =
-    let its = takes row given words (subst IsBuilt (sym is.0) notices_built) spells in
+    let its = takes (codes "notices") row given words is.0 (sym (ap (λ (o : Option Row). has_no_flag (unwrap_or o row)) is.0)) spells in
     taken (Command.Notices journal) words its.0
-    (ap command_found (its.1 ∙ ap (λ (r : Row). Some (r.word, map row_for given)) is.0) ∙ ap print_notices (first_found journal_name given ∙ is.1))
+    (ap command_found (its.1 ∙ word_is (codes "notices") row is.0 given) ∙ ap print_notices (first_found journal_name given ∙ is.1))
 plain_read Command.Bidder words (row, given, spells, is) =
-    let its = takes row given words (subst IsBuilt (sym is) bidder_built) spells in
-    taken Command.Bidder words its.0 (ap command_found (its.1 ∙ ap (λ (r : Row). Some (r.word, map row_for given)) is))
+    let its = takes (codes "bidder") row given words is (sym (ap (λ (o : Option Row). has_no_flag (unwrap_or o row)) is)) spells in
+    taken Command.Bidder words its.0 (ap command_found (its.1 ∙ word_is (codes "bidder") row is given))
 plain_read (Command.Generate seed asks) words (row, given, spells, is) =
-    let its = takes row given words (subst IsBuilt (sym is.0) generator_built) spells in
+    let its = takes (codes "gen") row given words is.0 (sym (ap (λ (o : Option Row). has_no_flag (unwrap_or o row)) is.0)) spells in
     taken (Command.Generate seed asks) words its.0
-    (ap command_found (its.1 ∙ ap (λ (r : Row). Some (r.word, map row_for given)) is.0)
+    (ap command_found (its.1 ∙ word_is (codes "gen") row is.0 given)
     ∙ ap₂ generate (ap (number_of (2 ^ 64 - 1)) (first_found seed_name given) ∙ is.1) (ap (number_of MOST_ASKS) (first_found asks_name given) ∙ is.2))
 plain_read (Command.Close journal false) words (row, given, spells, is) =
-    let its : Spells closing given words = subst (λ (r : Row). Spells r given words) is.0 spells in
+    let its : Spells closing given words = subst (λ (r : Row). Spells r given words) (closing_of row is.0) spells in
     let rows = map row_for given ++ unset_row ratio_name ∷ [] in
     let taken_so : Takes closing.word rows words =
     subst (Takes closing.word rows) (sym its.are) (takes_words closing (words_of given) rows closing_command refl (unset_read given words its)) in
@@ -375,44 +314,31 @@ plain_read (Command.Close journal false) words (row, given, spells, is) =
     ∙ ap₂ close_by (first_beside journal_name given (unset_row ratio_name ∷ []) refl ∙ is.1)
     (ap (λ (text : Option (List ℕ)). option_map_or (λ t. bytes_eq t (codes "true")) text false) (first_behind ratio_name (map row_for given) (unset_row ratio_name ∷ []) (no_flag given its.known))))
 plain_read (Command.Close journal true) words (row, given, spells, is) =
-    closed_with journal words given (subst (λ (r : Row). SpellsWith r ratio_name given words) is.0 spells) is.1
+    closed_with journal words given (subst (λ (r : Row). SpellsWith r ratio_name given words) (closing_of row is.0) spells) is.1
 plain_read Command.Check words (row, given, spells, is) =
-    let its = takes row given words (subst IsBuilt (sym is) check_built) spells in
-    taken Command.Check words its.0 (ap command_found (its.1 ∙ ap (λ (r : Row). Some (r.word, map row_for given)) is))
+    let its = takes (codes "check") row given words is (sym (ap (λ (o : Option Row). has_no_flag (unwrap_or o row)) is)) spells in
+    taken Command.Check words its.0 (ap command_found (its.1 ∙ word_is (codes "check") row is given))
 plain_read (Command.ArchivePut archive) words (row, given, spells, is) =
-    let its = takes row given words (subst IsBuilt (sym is.0) archive_put_built) spells in
+    let its = takes (codes "archive-put") row given words is.0 (sym (ap (λ (o : Option Row). has_no_flag (unwrap_or o row)) is.0)) spells in
     taken (Command.ArchivePut archive) words its.0
-    (ap command_found (its.1 ∙ ap (λ (r : Row). Some (r.word, map row_for given)) is.0) ∙ ap put_archive (first_found archive_name given ∙ is.1))
+    (ap command_found (its.1 ∙ word_is (codes "archive-put") row is.0 given) ∙ ap put_archive (first_found archive_name given ∙ is.1))
 plain_read (Command.ArchiveList archive seat cid first last) words (row, given, spells, is) =
-    let its = takes row given words (subst IsBuilt (sym is.0) archive_list_built) spells in
+    let its = takes (codes "archive-list") row given words is.0 (sym (ap (λ (o : Option Row). has_no_flag (unwrap_or o row)) is.0)) spells in
     taken (Command.ArchiveList archive seat cid first last) words its.0
-    (ap command_found (its.1 ∙ ap (λ (r : Row). Some (r.word, map row_for given)) is.0)
+    (ap command_found (its.1 ∙ word_is (codes "archive-list") row is.0 given)
     ∙ same_five _ _ _ _ _ (Some archive) (Some seat) (Some cid) (Some first) (Some last) (first_found archive_name given ∙ is.1) (first_found seat_name given ∙ is.2) (first_found cid_name given ∙ is.3)
     (first_found from_name given ∙ is.4) (first_found to_name given ∙ is.5))
 plain_read (Command.Reconcile journal name) words (row, given, spells, is) =
-    let its = takes row given words (subst IsBuilt (sym is.0) reconcile_built) spells in
+    let its = takes (codes "reconcile") row given words is.0 (sym (ap (λ (o : Option Row). has_no_flag (unwrap_or o row)) is.0)) spells in
     taken (Command.Reconcile journal name) words its.0
-    (ap command_found (its.1 ∙ ap (λ (r : Row). Some (r.word, map row_for given)) is.0)
+    (ap command_found (its.1 ∙ word_is (codes "reconcile") row is.0 given)
     ∙ ap₂ reconcile_with (first_found journal_name given ∙ is.1) (first_found bidder_name given ∙ is.2))
-plain_read (Command.Help topic) words is =
-    asked (Command.Help topic) words ErrorKind.DisplayHelp (ap (fault_of application) is ∙ help_asked topic) (ap (answer (Some ErrorKind.DisplayHelp)) is ∙ help_answered topic)
+plain_read (Command.Help Topic.Program) words is =
+    asked (Command.Help Topic.Program) words ErrorKind.DisplayHelp (ap (fault_of application) is ∙ program_help_asked) (ap (answer (Some ErrorKind.DisplayHelp)) is)
+plain_read (Command.Help (Topic.Command place)) words (row, at, is) =
+    asked (Command.Help (Topic.Command place)) words ErrorKind.DisplayHelp (ap (fault_of application) is ∙ command_help_asked place row at)
+    (ap (answer (Some ErrorKind.DisplayHelp)) is ∙ ap (λ (topic : Topic). Some (Command.Help topic)) (topic_at place row at))
 plain_read Command.Version words is = asked Command.Version words ErrorKind.DisplayVersion (ap (fault_of application) is ∙ version_asked) (ap (answer (Some ErrorKind.DisplayVersion)) is)
-
-help_stays : (topic : Topic) → turned_round (words_before_help topic ++ help_word ∷ []) ≡ words_before_help topic ++ help_word ∷ []
-help_stays Topic.Program = refl
-help_stays Topic.Day = refl
-help_stays Topic.Connection = refl
-help_stays Topic.Notices = refl
-help_stays Topic.Bidder = refl
-help_stays Topic.Close = refl
-help_stays Topic.Check = refl
-help_stays Topic.ArchivePut = refl
-help_stays Topic.ArchiveList = refl
-help_stays Topic.Reconcile = refl
-help_stays Topic.Generate = refl
-help_stays Topic.Serve = refl
-help_stays Topic.Post = refl
-help_stays Topic.Bid = refl
 
 -- words that begin with another word than `help` stand as `clap` takes them
 pub stays : (row : Row) (given : List Given) (words : List (List ℕ)) → bytes_eq row.word first_help_word ≡ false → Spells row given words → turned_round words ≡ words
@@ -429,29 +355,34 @@ stays_with row given words other spells = elim spells.are [
 
 pub plain_turned : (command : Command) (words : List (List ℕ)) → IsPlain command words → IsTaken command (turned_round words)
 plain_turned (Command.Day journal) words (row, given, spells, is) =
-    subst (IsTaken (Command.Day journal)) (sym (stays row given words (ap (λ (r : Row). bytes_eq r.word first_help_word) is.0) spells)) (row, given, spells, is)
+    subst (IsTaken (Command.Day journal)) (sym (stays row given words (other_word (codes "day") row is.0) spells)) (row, given, spells, is)
 plain_turned (Command.Connection journal) words (row, given, spells, is) =
-    subst (IsTaken (Command.Connection journal)) (sym (stays row given words (ap (λ (r : Row). bytes_eq r.word first_help_word) is.0) spells)) (row, given, spells, is)
+    subst (IsTaken (Command.Connection journal)) (sym (stays row given words (other_word (codes "conn") row is.0) spells)) (row, given, spells, is)
 plain_turned (Command.Notices journal) words (row, given, spells, is) =
-    subst (IsTaken (Command.Notices journal)) (sym (stays row given words (ap (λ (r : Row). bytes_eq r.word first_help_word) is.0) spells)) (row, given, spells, is)
+    subst (IsTaken (Command.Notices journal)) (sym (stays row given words (other_word (codes "notices") row is.0) spells)) (row, given, spells, is)
 plain_turned Command.Bidder words (row, given, spells, is) =
-    subst (IsTaken Command.Bidder) (sym (stays row given words (ap (λ (r : Row). bytes_eq r.word first_help_word) is) spells)) (row, given, spells, is)
+    subst (IsTaken Command.Bidder) (sym (stays row given words (other_word (codes "bidder") row is) spells)) (row, given, spells, is)
 plain_turned (Command.Generate seed asks) words (row, given, spells, is) =
-    subst (IsTaken (Command.Generate seed asks)) (sym (stays row given words (ap (λ (r : Row). bytes_eq r.word first_help_word) is.0) spells)) (row, given, spells, is)
+    subst (IsTaken (Command.Generate seed asks)) (sym (stays row given words (other_word (codes "gen") row is.0) spells)) (row, given, spells, is)
 plain_turned (Command.Close journal false) words (row, given, spells, is) =
-    subst (IsTaken (Command.Close journal false)) (sym (stays row given words (ap (λ (r : Row). bytes_eq r.word first_help_word) is.0) spells)) (row, given, spells, is)
+    subst (IsTaken (Command.Close journal false)) (sym (stays row given words (other_word (codes "close") row is.0) spells)) (row, given, spells, is)
 plain_turned (Command.Close journal true) words (row, given, spells, is) =
-    subst (IsTaken (Command.Close journal true)) (sym (stays_with row given words (ap (λ (r : Row). bytes_eq r.word first_help_word) is.0) spells)) (row, given, spells, is)
+    subst (IsTaken (Command.Close journal true)) (sym (stays_with row given words (other_word (codes "close") row is.0) spells)) (row, given, spells, is)
 plain_turned Command.Check words (row, given, spells, is) =
-    subst (IsTaken Command.Check) (sym (stays row given words (ap (λ (r : Row). bytes_eq r.word first_help_word) is) spells)) (row, given, spells, is)
+    subst (IsTaken Command.Check) (sym (stays row given words (other_word (codes "check") row is) spells)) (row, given, spells, is)
 plain_turned (Command.ArchivePut archive) words (row, given, spells, is) =
-    subst (IsTaken (Command.ArchivePut archive)) (sym (stays row given words (ap (λ (r : Row). bytes_eq r.word first_help_word) is.0) spells)) (row, given, spells, is)
+    subst (IsTaken (Command.ArchivePut archive)) (sym (stays row given words (other_word (codes "archive-put") row is.0) spells)) (row, given, spells, is)
 plain_turned (Command.ArchiveList archive seat cid first last) words (row, given, spells, is) =
-    subst (IsTaken (Command.ArchiveList archive seat cid first last)) (sym (stays row given words (ap (λ (r : Row). bytes_eq r.word first_help_word) is.0) spells)) (row, given, spells, is)
+    subst (IsTaken (Command.ArchiveList archive seat cid first last)) (sym (stays row given words (other_word (codes "archive-list") row is.0) spells)) (row, given, spells, is)
 plain_turned (Command.Reconcile journal name) words (row, given, spells, is) =
-    subst (IsTaken (Command.Reconcile journal name)) (sym (stays row given words (ap (λ (r : Row). bytes_eq r.word first_help_word) is.0) spells)) (row, given, spells, is)
-plain_turned (Command.Help topic) words (inl behind) = ap turned_round behind ∙ help_stays topic
-plain_turned (Command.Help topic) words (inr first) = ap turned_round first
+    subst (IsTaken (Command.Reconcile journal name)) (sym (stays row given words (other_word (codes "reconcile") row is.0) spells)) (row, given, spells, is)
+plain_turned (Command.Help Topic.Program) words (inl behind) = ap turned_round behind
+plain_turned (Command.Help Topic.Program) words (inr (inl first)) = ap turned_round first
+plain_turned (Command.Help Topic.Program) words (inr (inr twice)) = ap turned_round twice
+plain_turned (Command.Help (Topic.Command place)) words (row, at, inl behind) =
+    (row, at, ap turned_round behind ∙ ap (λ (b : Bool). turned_by b row.word (help_word ∷ [])) (other_at place row at))
+plain_turned (Command.Help (Topic.Command place)) words (row, at, inr first) =
+    (row, at, ap turned_round first ∙ ap (λ (b : Bool). cond b [] (row.word ∷ []) ++ help_word ∷ []) (other_at place row at))
 plain_turned Command.Version words is = ap turned_round is
 
 -- clap's definitions say what a parse of the program comes to

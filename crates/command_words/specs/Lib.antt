@@ -1,4 +1,5 @@
 pub mod Spelling
+pub mod Rows
 pub mod Meanings
 pub mod Taken
 pub mod Helps

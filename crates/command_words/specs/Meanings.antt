@@ -1,10 +1,12 @@
 -- The commands that words may name in plain spelling, and what they ask for. This project's own.
-use Rattle.std.specs.Prelude.{◌≡◌, ◌⊎◌, ℕ, ◌-◌, ◌^◌, ◌≤◌, List, [], ◌∷◌, ◌++◌, codes, true, Option, Some, option_and_then}
+use Rattle.std.specs.Prelude.{◌≡◌, ◌⊎◌, ℕ, ◌-◌, ◌^◌, ◌≤◌, List, [], ◌∷◌, map, find, slice_get, codes, true, Option, Some, option_and_then}
+use Rattle.std.specs.Str.{bytes_eq}
 use Rattle.adx_units.specs.Number.{whole_up_to}
-use Rattle.command_words.specs.Spelling.{Given, Row, Spells, SpellsWith, dashed, value_of}
+use Rattle.command_words.specs.Spelling.{Given, Help, Row, Spells, SpellsWith, dashed, value_of}
 use Rattle.command_words.specs.declared.command.Command.{Command}
 use Rattle.command_words.specs.declared.command.Topic.{Topic}
 use Rattle.command_words.specs.declared.command.TheConstants.{MOST_ASKS}
+use Rattle.command_words.specs.declared.table.TheConstants.{COMMANDS, HELPS}
 
 -- the names of options
 abbrev pub journal_name : List ℕ
@@ -62,63 +64,24 @@ from_name = codes "from"
 abbrev pub to_name : List ℕ
 to_name = codes "to"
 
--- day [--journal FILE]
-abbrev pub day : Row
-day = record { word = codes "day"; needed = []; optional = journal_name ∷ []; flags = [] }
-
--- conn [--journal FILE]
-abbrev pub connection : Row
-connection = record { word = codes "conn"; needed = []; optional = journal_name ∷ []; flags = [] }
-
--- notices --journal FILE
-abbrev pub notices : Row
-notices = record { word = codes "notices"; needed = journal_name ∷ []; optional = []; flags = [] }
-
--- bidder
-abbrev pub bidder : Row
-bidder = record { word = codes "bidder"; needed = []; optional = []; flags = [] }
-
--- gen --seed N --asks M
-abbrev pub generator : Row
-generator = record { word = codes "gen"; needed = seed_name ∷ asks_name ∷ []; optional = []; flags = [] }
-
--- close --journal FILE [--ratio]
-abbrev pub closing : Row
-closing = record { word = codes "close"; needed = journal_name ∷ []; optional = []; flags = ratio_name ∷ [] }
-
--- check
-abbrev pub check : Row
-check = record { word = codes "check"; needed = []; optional = []; flags = [] }
-
--- archive-put --archive FILE
-abbrev pub archive_put : Row
-archive_put = record { word = codes "archive-put"; needed = archive_name ∷ []; optional = []; flags = [] }
-
--- archive-list --archive FILE --seat S --cid C --from DAY --to DAY
-abbrev pub archive_list : Row
-archive_list = record { word = codes "archive-list"; needed = archive_name ∷ seat_name ∷ cid_name ∷ from_name ∷ to_name ∷ []; optional = []; flags = [] }
-
--- reconcile --journal FILE --bidder NAME
-abbrev pub reconcile : Row
-reconcile = record { word = codes "reconcile"; needed = journal_name ∷ bidder_name ∷ []; optional = []; flags = [] }
-
--- serve --roster FILE --journal FILE --port P --workers W
-abbrev pub serving : Row
-serving = record { word = codes "serve"; needed = roster_name ∷ journal_name ∷ port_name ∷ workers_name ∷ []; optional = []; flags = [] }
-
--- post --roster FILE --journal FILE
-abbrev pub posting : Row
-posting = record { word = codes "post"; needed = roster_name ∷ journal_name ∷ []; optional = []; flags = [] }
-
--- bid --prices FILE --port P
-abbrev pub bidding : Row
-bidding = record { word = codes "bid"; needed = prices_name ∷ port_name ∷ []; optional = []; flags = [] }
-
--- the commands that the program has
+-- the commands that the program has, and the helps on them: the table of its source
 abbrev pub commands : List Row
-commands =
-    day ∷ connection ∷ notices ∷ bidder ∷ generator ∷ closing ∷ check ∷ archive_put ∷ archive_list ∷ reconcile
-    ∷ serving ∷ posting ∷ bidding ∷ []
+commands = map (λ raw. record {
+  word = raw.0.now;
+  options = map (λ choice. record { name = choice.0.now; value = choice.1.now; needed = choice.2 }) raw.1.now;
+  purpose = raw.2.now;
+}) COMMANDS
+
+abbrev pub helps : List Help
+helps = map (λ raw. record { about = raw.0.now; statuses = raw.1.now; example = raw.2.now }) HELPS
+
+-- the command of a word
+abbrev pub row_of : List ℕ → Option Row
+row_of word = find (λ row. bytes_eq row.word word) commands
+
+-- the row is that of this command
+abbrev pub IsRowOf : List ℕ → Row → Type 0
+IsRowOf word row = row_of word ≡ Some row
 
 -- the number that an option's value tells: decimal, without a sign or a leading zero, and at most so much
 abbrev pub number_of : ℕ → Option (List ℕ) → Option ℕ
@@ -126,20 +89,20 @@ number_of most = option_and_then (whole_up_to most)
 
 -- what these options of a command ask for
 abbrev pub AsksFor : Command → Row → List Given → Type 0
-AsksFor (Command.Day journal) row given = (row ≡ day) × (value_of journal_name given ≡ journal)
-AsksFor (Command.Connection journal) row given = (row ≡ connection) × (value_of journal_name given ≡ journal)
-AsksFor (Command.Notices journal) row given = (row ≡ notices) × (value_of journal_name given ≡ Some journal)
-AsksFor Command.Bidder row given = row ≡ bidder
-AsksFor (Command.Close journal ratio) row given = (row ≡ closing) × (value_of journal_name given ≡ Some journal)
-AsksFor Command.Check row given = row ≡ check
-AsksFor (Command.ArchivePut archive) row given = (row ≡ archive_put) × (value_of archive_name given ≡ Some archive)
+AsksFor (Command.Day journal) row given = IsRowOf (codes "day") row × (value_of journal_name given ≡ journal)
+AsksFor (Command.Connection journal) row given = IsRowOf (codes "conn") row × (value_of journal_name given ≡ journal)
+AsksFor (Command.Notices journal) row given = IsRowOf (codes "notices") row × (value_of journal_name given ≡ Some journal)
+AsksFor Command.Bidder row given = IsRowOf (codes "bidder") row
+AsksFor (Command.Close journal ratio) row given = IsRowOf (codes "close") row × (value_of journal_name given ≡ Some journal)
+AsksFor Command.Check row given = IsRowOf (codes "check") row
+AsksFor (Command.ArchivePut archive) row given = IsRowOf (codes "archive-put") row × (value_of archive_name given ≡ Some archive)
 AsksFor (Command.ArchiveList archive seat cid first last) row given =
-    (row ≡ archive_list) × (value_of archive_name given ≡ Some archive) × (value_of seat_name given ≡ Some seat) × (value_of cid_name given ≡ Some cid)
+    IsRowOf (codes "archive-list") row × (value_of archive_name given ≡ Some archive) × (value_of seat_name given ≡ Some seat) × (value_of cid_name given ≡ Some cid)
     × (value_of from_name given ≡ Some first) × (value_of to_name given ≡ Some last)
 AsksFor (Command.Reconcile journal name) row given =
-    (row ≡ reconcile) × (value_of journal_name given ≡ Some journal) × (value_of bidder_name given ≡ Some name)
+    IsRowOf (codes "reconcile") row × (value_of journal_name given ≡ Some journal) × (value_of bidder_name given ≡ Some name)
 AsksFor (Command.Generate seed asks) row given =
-    (row ≡ generator) × (number_of (2 ^ 64 - 1) (value_of seed_name given) ≡ Some seed) × (number_of MOST_ASKS (value_of asks_name given) ≡ Some asks)
+    IsRowOf (codes "gen") row × (number_of (2 ^ 64 - 1) (value_of seed_name given) ≡ Some seed) × (number_of MOST_ASKS (value_of asks_name given) ≡ Some asks)
 AsksFor (Command.Help topic) row given = ⊥
 AsksFor Command.Version row given = ⊥
 
@@ -155,26 +118,15 @@ version_word = dashed (codes "version")
 abbrev pub first_help_word : List ℕ
 first_help_word = codes "help"
 
--- the words that stand before `--help`: none, or the word of the command that is asked for
-abbrev pub words_before_help : Topic → List (List ℕ)
-words_before_help Topic.Program = []
-words_before_help Topic.Day = day.word ∷ []
-words_before_help Topic.Connection = connection.word ∷ []
-words_before_help Topic.Notices = notices.word ∷ []
-words_before_help Topic.Bidder = bidder.word ∷ []
-words_before_help Topic.Close = closing.word ∷ []
-words_before_help Topic.Check = check.word ∷ []
-words_before_help Topic.ArchivePut = archive_put.word ∷ []
-words_before_help Topic.ArchiveList = archive_list.word ∷ []
-words_before_help Topic.Reconcile = reconcile.word ∷ []
-words_before_help Topic.Generate = generator.word ∷ []
-words_before_help Topic.Serve = serving.word ∷ []
-words_before_help Topic.Post = posting.word ∷ []
-words_before_help Topic.Bid = bidding.word ∷ []
+-- the words ask for help: on the program alone, or on the command at this place of the table after its word or before it
+abbrev pub AsksHelp : Topic → List (List ℕ) → Type 0
+AsksHelp Topic.Program words = (words ≡ help_word ∷ []) ⊎ ((words ≡ first_help_word ∷ []) ⊎ (words ≡ first_help_word ∷ first_help_word ∷ []))
+AsksHelp (Topic.Command place) words =
+    (row : Row) × (slice_get commands place ≡ Some row) × ((words ≡ row.word ∷ help_word ∷ []) ⊎ (words ≡ first_help_word ∷ row.word ∷ []))
 
 -- the words ask for this in plain spelling
 abbrev pub IsPlain : Command → List (List ℕ) → Type 0
-IsPlain (Command.Help topic) words = (words ≡ words_before_help topic ++ help_word ∷ []) ⊎ (words ≡ first_help_word ∷ words_before_help topic)
+IsPlain (Command.Help topic) words = AsksHelp topic words
 IsPlain Command.Version words = words ≡ version_word ∷ []
 IsPlain (Command.Close journal true) words = (row : Row) × (given : List Given) × SpellsWith row ratio_name given words × AsksFor (Command.Close journal true) row given
 IsPlain command words = (row : Row) × (given : List Given) × Spells row given words × AsksFor command row given

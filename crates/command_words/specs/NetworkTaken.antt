@@ -1,13 +1,13 @@
 -- What words of any spelling ask for of the commands that talk over the network, by `clap`'s own definitions of a parse; a
 -- caller that writes words in plain spelling needs none of it. This project's own.
-use Rattle.std.specs.Prelude.{◌≡◌, ℕ, List, if◌then◌else◌, Option, Some, None, option_and_then, option_map}
+use Rattle.std.specs.Prelude.{◌≡◌, ℕ, List, codes, if◌then◌else◌, Option, Some, None, option_and_then, option_map}
 use Rattle.std.specs.Str.{bytes_eq}
 use Rattle.clap.specs.Faults.{fault_of}
 use Rattle.clap.specs.Simple.{subcommand_of}
 use Rattle.clap.specs.Walk.{first_of}
 use Rattle.clap.specs.Walk.{Row as Found}
 use Rattle.clap.specs.declared.error.kind.ErrorKind.{ErrorKind}
-use Rattle.command_words.specs.Meanings.{bidding, journal_name, number_of, port_name, posting, prices_name, roster_name, serving, workers_name}
+use Rattle.command_words.specs.Meanings.{journal_name, number_of, port_name, prices_name, roster_name, workers_name}
 use Rattle.command_words.specs.Network.{workers_of}
 use Rattle.command_words.specs.Taken.{Comes, application, turned_round}
 use Rattle.command_words.specs.declared.network.NetworkCommand.{NetworkCommand}
@@ -31,10 +31,10 @@ bid_with prices port = option_and_then (λ f. option_map (λ p. NetworkCommand.B
 -- the command of a word and the options that were found
 abbrev pub network_by : List ℕ → List Found → Option NetworkCommand
 network_by word found =
-    if bytes_eq word serving.word then
+    if bytes_eq word (codes "serve") then
     serve_with (first_of roster_name found) (first_of journal_name found) (number_of MOST_PORT (first_of port_name found)) (workers_of (first_of workers_name found))
-    else if bytes_eq word posting.word then post_with (first_of roster_name found) (first_of journal_name found)
-    else if bytes_eq word bidding.word then bid_with (first_of prices_name found) (number_of MOST_PORT (first_of port_name found))
+    else if bytes_eq word (codes "post") then post_with (first_of roster_name found) (first_of journal_name found)
+    else if bytes_eq word (codes "bid") then bid_with (first_of prices_name found) (number_of MOST_PORT (first_of port_name found))
     else None
 
 -- the same, if a command was found at all

@@ -1,44 +1,39 @@
 -- What words of any spelling come to, by `clap`'s own definitions of a parse; a caller that writes words in plain spelling
 -- needs none of it. This project's own.
-use Rattle.std.specs.Prelude.{◌≡◌, ℕ, ◌-◌, ◌^◌, List, [], ◌∷◌, ◌++◌, map, codes, Bool, true, false, if◌then◌else◌, Option, Some, None, option_and_then, option_map}
+use Rattle.std.specs.Prelude.{◌≡◌, ℕ, ◌-◌, ◌^◌, List, [], ◌∷◌, ◌++◌, map, codes, Bool, true, false, if◌then◌else◌, Option, Some, None, option_and_then, option_map, position}
 use Rattle.std.specs.List.{fold}
 use Rattle.std.specs.Option.{option_map_or}
 use Rattle.std.specs.Str.{bytes_eq}
 use Rattle.clap.specs.Kinds.{IsAmong, Kinds}
 use Rattle.clap.specs.Faults.{fault_of}
-use Rattle.clap.specs.Simple.{App, new_app, new_rule, new_shape, subcommand_of, with_rule, with_subcommand}
+use Rattle.clap.specs.Simple.{App, app_of, new_app, new_rule, new_shape, subcommand_of, with_rule, with_subcommand}
 use Rattle.clap.specs.Walk.{Rule, first_of}
 use Rattle.clap.specs.Walk.{Row as Found}
+use Rattle.clap.specs.declared.builder.command.Command.{Command as Built}
+use Rattle.clap.specs.declared.builder.command.Command.TheViews.{out-Command as fields_of}
 use Rattle.clap.specs.declared.builder.action.ArgAction.TheVariants.{SetTrue}
 use Rattle.clap.specs.declared.error.kind.ErrorKind.{ErrorKind}
-use Rattle.command_words.specs.Spelling.{Row}
-use Rattle.command_words.specs.Meanings.{archive_list, archive_name, archive_put, asks_name, bidder, bidder_name, bidding, check, cid_name, closing, commands, connection, day, first_help_word, from_name, generator, help_word, journal_name, notices, number_of, posting, ratio_name, reconcile, roster_name, seat_name, seed_name, serving, to_name}
+use Rattle.command_words.specs.Spelling.{Choice, Row, is_flag}
+use Rattle.command_words.specs.Meanings.{archive_name, asks_name, bidder_name, cid_name, commands, first_help_word, from_name, help_word, journal_name, number_of, ratio_name, seat_name, seed_name, to_name}
 use Rattle.command_words.specs.declared.command.Command.{Command}
 use Rattle.command_words.specs.declared.command.Topic.{Topic}
 use Rattle.command_words.specs.declared.command.TheConstants.{MOST_ASKS}
 
--- an option with one value, behind its name
-abbrev pub option_rule : Bool → List ℕ → Rule
-option_rule needed name = record (new_rule name) { long = Some name; required = needed }
-
--- a flag, behind its name
-abbrev pub flag_rule : List ℕ → Rule
-flag_rule name = record (new_rule name) { long = Some name; action = Some SetTrue }
-
-abbrev pub rules_of : Row → List Rule
-rules_of row = map (option_rule true) row.needed ++ (map (option_rule false) row.optional ++ map flag_rule row.flags)
+-- an option after its name: one with a value, which may be needed, or a flag
+abbrev pub rule_for : Choice → Rule
+rule_for choice =
+    let named = record (new_rule choice.name) { long = Some choice.name } in
+    if choice.needed then record named { required = true }
+    else if is_flag choice then record named { action = Some SetTrue }
+    else named
 
 -- a command as a subcommand of clap's
 abbrev pub subcommand_for : Row → App
-subcommand_for row = fold with_rule (new_app row.word) (rules_of row)
+subcommand_for row = fold with_rule (new_app row.word) (map rule_for row.options)
 
--- the command that lists, with its first options alone
-abbrev pub listed_of : App
-listed_of = with_rule (with_rule (new_app archive_list.word) (option_rule true archive_name)) (option_rule true seat_name)
-
--- the command that serves, with its first options alone
-abbrev pub served_of : App
-served_of = with_rule (with_rule (new_app serving.word) (option_rule true roster_name)) (option_rule true journal_name)
+-- the command has this form, and no argument that its subcommands see
+abbrev pub HasForm : App → Built → Type 0
+HasForm app command = (app_of command ≡ app) × ((fields_of command).has_globals ≡ false)
 
 -- the program without its commands
 abbrev pub no_commands : App
@@ -100,48 +95,40 @@ days_asked found =
 -- the command of a word and the options that were found
 abbrev pub command_by : List ℕ → List Found → Option Command
 command_by word found =
-    if bytes_eq word day.word then Some (Command.Day (first_of journal_name found))
-    else if bytes_eq word connection.word then Some (Command.Connection (first_of journal_name found))
-    else if bytes_eq word notices.word then print_notices (first_of journal_name found)
-    else if bytes_eq word bidder.word then Some Command.Bidder
-    else if bytes_eq word generator.word then generated_by found
-    else if bytes_eq word closing.word then close_by (first_of journal_name found) (is_set ratio_name found)
-    else if bytes_eq word check.word then Some Command.Check
-    else if bytes_eq word archive_put.word then put_archive (first_of archive_name found)
-    else if bytes_eq word archive_list.word then days_asked found
-    else if bytes_eq word reconcile.word then reconcile_with (first_of journal_name found) (first_of bidder_name found)
+    if bytes_eq word (codes "day") then Some (Command.Day (first_of journal_name found))
+    else if bytes_eq word (codes "conn") then Some (Command.Connection (first_of journal_name found))
+    else if bytes_eq word (codes "notices") then print_notices (first_of journal_name found)
+    else if bytes_eq word (codes "bidder") then Some Command.Bidder
+    else if bytes_eq word (codes "gen") then generated_by found
+    else if bytes_eq word (codes "close") then close_by (first_of journal_name found) (is_set ratio_name found)
+    else if bytes_eq word (codes "check") then Some Command.Check
+    else if bytes_eq word (codes "archive-put") then put_archive (first_of archive_name found)
+    else if bytes_eq word (codes "archive-list") then days_asked found
+    else if bytes_eq word (codes "reconcile") then reconcile_with (first_of journal_name found) (first_of bidder_name found)
     else None
 
 -- the same, if a command was found at all
 abbrev pub command_found : Option (List ℕ × List Found) → Option Command
 command_found = option_and_then (λ sub. command_by sub.0 sub.1)
 
--- the topic that words ask help for, by the first of them
+-- the topic that words ask help for, by the first of them: the command of that word, or else the program
 abbrev pub topic_by : List ℕ → Topic
-topic_by word =
-    if bytes_eq word day.word then Topic.Day
-    else if bytes_eq word connection.word then Topic.Connection
-    else if bytes_eq word notices.word then Topic.Notices
-    else if bytes_eq word bidder.word then Topic.Bidder
-    else if bytes_eq word generator.word then Topic.Generate
-    else if bytes_eq word closing.word then Topic.Close
-    else if bytes_eq word check.word then Topic.Check
-    else if bytes_eq word archive_put.word then Topic.ArchivePut
-    else if bytes_eq word archive_list.word then Topic.ArchiveList
-    else if bytes_eq word reconcile.word then Topic.Reconcile
-    else if bytes_eq word serving.word then Topic.Serve
-    else if bytes_eq word posting.word then Topic.Post
-    else if bytes_eq word bidding.word then Topic.Bid
-    else Topic.Program
+topic_by word = option_map_or (λ place. Topic.Command place) (position (λ row. bytes_eq row.word word) commands) Topic.Program
 
 -- what help is asked about, by the words after `help`
 abbrev pub topic_of : List (List ℕ) → Topic
 topic_of [] = Topic.Program
 topic_of (word ∷ rest) = topic_by word
 
--- the words that `clap` takes: those that were given, but that `help` in front goes to the end, as `--help`
+-- the words without a first `help`
+abbrev pub without_first_help : List (List ℕ) → List (List ℕ)
+without_first_help [] = []
+without_first_help (word ∷ rest) = if bytes_eq word first_help_word then rest else word ∷ rest
+
+-- the words that `clap` takes: those that were given, but that `help` in front goes to the end, as `--help`, and a second one
+-- with it
 abbrev pub turned_by : Bool → List ℕ → List (List ℕ) → List (List ℕ)
-turned_by true word rest = rest ++ help_word ∷ []
+turned_by true word rest = without_first_help rest ++ help_word ∷ []
 turned_by false word rest = word ∷ rest
 
 abbrev pub turned_round : List (List ℕ) → List (List ℕ)

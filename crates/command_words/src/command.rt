@@ -61,30 +61,9 @@ pub enum Command {
 pub enum Topic {
     /// The program and its commands.
     Program,
-    /// The command `day`.
-    Day,
-    /// The command `conn`.
-    Connection,
-    /// The command `notices`.
-    Notices,
-    /// The command `bidder`.
-    Bidder,
-    /// The command `close`.
-    Close,
-    /// The command `check`.
-    Check,
-    /// The command `archive-put`.
-    ArchivePut,
-    /// The command `archive-list`.
-    ArchiveList,
-    /// The command `reconcile`.
-    Reconcile,
-    /// The command `gen`.
-    Generate,
-    /// The command `serve`.
-    Serve,
-    /// The command `post`.
-    Post,
-    /// The command `bid`.
-    Bid,
+    /// The command at this place of the table `COMMANDS`.
+    Command {
+        /// The place, from 0.
+        place: usize,
+    },
 }

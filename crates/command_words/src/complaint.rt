@@ -1,28 +1,51 @@
 //! What is wrong with words that aren't a command, in a sentence.
 use crate::application::application;
-use crate::reading::turned;
+use crate::command::MOST_ASKS;
+use crate::network::{MOST_PORT, MOST_WORKERS};
+use crate::reading::{number_found, turned};
 use adx_units::{OutOfMemory, Text};
+use clap::ArgMatches;
 use std::alloc::Global;
 
 /// What is said of words that `clap` takes and that name no command.
 const NO_COMMAND: &str = "no command; 'adx --help' shows them";
 
-/// What is said of a number that isn't taken.
-const NO_NUMBER: &str =
-    "'--seed' is a decimal number below 2^64, '--asks' one of at most 1000000, '--port' one of at most 65535, and '--workers' one of 1 to 64, each without a sign or a leading zero";
+/// The options whose values are numbers: the least that is taken, and the greatest.
+const NUMBERS: [(&str, u64, u64); 4] = [
+    ("seed", 0, u64::MAX),
+    ("asks", 0, MOST_ASKS),
+    ("port", 0, MOST_PORT),
+    ("workers", 1, MOST_WORKERS),
+];
 
-/// The first paragraph of a text as one line, without the word that it begins with.
-fn sentence_of(alloc: Global, text: &str) -> Result<Text, OutOfMemory> {
-    let paragraph = match text.split_once("\n\n") {
-        Some((first, _)) => first,
-        None => text.trim_end(),
-    };
-    let mut sentence = String::new(alloc);
+/// A paragraph as one line, with its words one blank apart at its lines' ends.
+fn push_paragraph(out: &mut String, paragraph: &str) -> Result<(), OutOfMemory> {
     for line in paragraph.lines() {
-        if !sentence.is_empty() {
-            sentence.push_str(" ")?;
+        if !out.is_empty() {
+            out.push_str(" ")?;
         }
-        sentence.push_str(line.trim())?;
+        out.push_str(line.trim())?;
+    }
+    Ok(())
+}
+
+/// The first tip of a paragraph of tips: what is meant instead.
+fn tip_of(paragraph: Option<&str>) -> Option<&str> {
+    let tip = paragraph?.trim().lines().next()?.strip_prefix("tip:")?;
+    Some(tip.trim())
+}
+
+/// What `clap` says is wrong, as one line without the word that it begins with: its first paragraph, and the second where that
+/// names what is meant instead.
+fn sentence_of(alloc: Global, text: &str) -> Result<Text, OutOfMemory> {
+    let mut sentence = String::new(alloc);
+    let mut paragraphs = text.split("\n\n");
+    if let Some(first) = paragraphs.next() {
+        push_paragraph(&mut sentence, first)?;
+    }
+    if let Some(tip) = tip_of(paragraphs.next()) {
+        sentence.push_str(";")?;
+        push_paragraph(&mut sentence, tip)?;
     }
     match sentence.strip_prefix("error: ") {
         Some(rest) => Ok(Text::of(alloc, rest)?),
@@ -30,14 +53,39 @@ fn sentence_of(alloc: Global, text: &str) -> Result<Text, OutOfMemory> {
     }
 }
 
-/// What is wrong with words that ask for nothing that the program has: the sentence of `clap`, or that they name no
-/// command, or that a number isn't one. It ends without a newline.
+/// Whether the value that was found for an option isn't a number that it takes.
+fn is_no_number(found: &ArgMatches<'_>, name: &str, least: u64, most: u64) -> bool {
+    match number_found(found, name, most) {
+        Some(number) => number < least,
+        None => true,
+    }
+}
+
+/// What is wrong with the first number that isn't taken: its option, its value and the numbers that are taken.
+fn number_complaint(alloc: Global, found: &ArgMatches<'_>) -> Result<Text, OutOfMemory> {
+    for (name, least, most) in NUMBERS {
+        if let Some(value) = found.get_str(name) {
+            if is_no_number(found, name, least, most) {
+                let text = format!(in alloc;
+                    "'--{name}' is a decimal number from {least} to {most} without a sign or a leading zero, and not '{value}'"
+                )?;
+                return Ok(Text::from(text));
+            }
+        }
+    }
+    Ok(Text::of(alloc, NO_COMMAND)?)
+}
+
+/// What is wrong with words that ask for nothing that the program has, in a sentence without a newline: that of `clap`, with the
+/// nearest word where there is one; that they name no command; or which number isn't one, and which are taken.
 pub fn complaint_of(alloc: Global, words: &[Text]) -> Result<Text, OutOfMemory> {
     let texts = turned(alloc, words)?;
     let program = application(alloc)?;
     match program.try_get_matches_from(texts.as_slice()) {
-        Ok(matches) if matches.subcommand().is_some() => Ok(Text::of(alloc, NO_NUMBER)?),
-        Ok(_) => Ok(Text::of(alloc, NO_COMMAND)?),
+        Ok(matches) => match matches.subcommand() {
+            Some((_, found)) => number_complaint(alloc, found),
+            None => Ok(Text::of(alloc, NO_COMMAND)?),
+        },
         Err(error) => {
             let text = format!(in alloc; "{error}")?;
             sentence_of(alloc, text.as_str())

@@ -5,11 +5,13 @@ ghost use Rattle.clap.specs.Simple.{subcommand_rows_of};
 ghost use Rattle.clap.specs.Walk.{first_of, rows_of, texts, texts as texts_in};
 ghost use Rattle.clap.specs.declared.error.kind.ErrorKind.TheVariants.{OutOfMemory as no_memory};
 ghost use Rattle.command_words.specs.Meanings.{HasFewAsks, IsPlain, bidder_name, journal_name, number_of};
-ghost use Rattle.command_words.specs.Taken.{IsReadingOf, answer_by, close_by, command_by, command_found, days_asked, generated_by, is_set as is_set_in, list_archive, print_notices, put_archive, reconcile_with, topic_of as topic_in, topic_by, turned_round};
+ghost use Rattle.command_words.specs.Rows.{place_in};
+ghost use Rattle.command_words.specs.Taken.{IsReadingOf, answer_by, close_by, command_by, command_found, days_asked, generated_by, is_set as is_set_in, list_archive, print_notices, put_archive, reconcile_with, topic_of as topic_in, topic_by, turned_round, without_first_help};
 ghost use Rattle.command_words.specs.declared.command.Command.{Command as Meaning};
 
 use crate::application::application;
 use crate::command::{Command, MOST_ASKS, Topic};
+use crate::table::{Row, rows};
 use adx_units::{OutOfMemory, Text, whole_up_to};
 use clap::ArgMatches;
 use clap::error::ErrorKind;
@@ -26,13 +28,24 @@ fn texts_of(alloc: Global, words: &[Text]) -> Result<Vec<&str>, OutOfMemory>
     Ok(texts)
 }
 
-/// The words as `clap` takes them, where `help` in front asks for what `--help` at the end does.
+/// The words without a first `help`.
+fn without_help<'a>(words: &'a [Text]) -> &'a [Text]
+    ensures { result.now ≡ without_first_help words.now }
+{
+    match words {
+        [word, rest @ ..] if word.as_str() == "help" => rest,
+        _ => words,
+    }
+}
+
+/// The words as `clap` takes them, where `help` in front asks for what `--help` at the end does, and a second one with it for
+/// what one does.
 pub(crate) fn turned(alloc: Global, words: &[Text]) -> Result<Vec<&str>, OutOfMemory>
     ensures { IfOk result (λ v. texts v.items ≡ turned_round words.now) }
 {
     match words {
         [word, rest @ ..] if word.as_str() == "help" => {
-            let mut texts = texts_of(alloc, rest)?;
+            let mut texts = texts_of(alloc, without_help(rest))?;
             texts.push("--help")?;
             Ok(texts)
         }
@@ -40,25 +53,20 @@ pub(crate) fn turned(alloc: Global, words: &[Text]) -> Result<Vec<&str>, OutOfMe
     }
 }
 
+/// The place of the row of a word.
+fn place_of(rows: &[Row], word: &str) -> Option<usize>
+    ensures { result ≡ place_in word.now rows.now }
+{
+    rows.iter().position(|row| row.0 == word)
+}
+
 /// The topic that a command's word names: the whole program where it names none.
 fn topic_named(word: &str) -> Topic
     ensures { result ≡ topic_by word.now }
 {
-    match word {
-        "day" => Topic::Day,
-        "conn" => Topic::Connection,
-        "notices" => Topic::Notices,
-        "bidder" => Topic::Bidder,
-        "gen" => Topic::Generate,
-        "close" => Topic::Close,
-        "check" => Topic::Check,
-        "archive-put" => Topic::ArchivePut,
-        "archive-list" => Topic::ArchiveList,
-        "reconcile" => Topic::Reconcile,
-        "serve" => Topic::Serve,
-        "post" => Topic::Post,
-        "bid" => Topic::Bid,
-        _ => Topic::Program,
+    match place_of(rows(), word) {
+        Some(place) => Topic::Command { place },
+        None => Topic::Program,
     }
 }
 

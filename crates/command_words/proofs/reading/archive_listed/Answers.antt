@@ -1,6 +1,6 @@
 -- The days that the texts ask for.
 use Rattle.std.proofs.Common.{◌∙◌}
-use Rattle.command_words.proofs.ArchiveRows.{same_five}
+use Rattle.command_words.proofs.Rows.{same_five}
 use Rattle.command_words.proofs.reading.archive_listed.Goals as goal
 
 pub returns-clause-read : goal.returns-clause-read
