@@ -61,19 +61,61 @@ fn is_no_number(found: &ArgMatches<'_>, name: &str, least: u64, most: u64) -> bo
     }
 }
 
-/// What is wrong with the first number that isn't taken: its option, its value and the numbers that are taken.
+/// What is wrong with the number of an option: its value and the numbers that are taken.
+fn number_text(
+    alloc: Global,
+    (name, least, most): (&str, u64, u64),
+    value: &str,
+) -> Result<Text, OutOfMemory> {
+    let text = format!(in alloc;
+        "'--{name}' is a decimal number from {least} to {most} without a sign or a leading zero, and not '{value}'"
+    )?;
+    Ok(Text::from(text))
+}
+
+/// What is wrong with the first number that isn't taken.
 fn number_complaint(alloc: Global, found: &ArgMatches<'_>) -> Result<Text, OutOfMemory> {
     for (name, least, most) in NUMBERS {
         if let Some(value) = found.get_str(name) {
             if is_no_number(found, name, least, most) {
-                let text = format!(in alloc;
-                    "'--{name}' is a decimal number from {least} to {most} without a sign or a leading zero, and not '{value}'"
-                )?;
-                return Ok(Text::from(text));
+                return number_text(alloc, (name, least, most), value);
             }
         }
     }
     Ok(Text::of(alloc, NO_COMMAND)?)
+}
+
+/// The option that this word is, where its values are numbers.
+fn number_option(word: &str) -> Option<(&'static str, u64, u64)> {
+    let name = word.strip_prefix("--")?;
+    for number in NUMBERS {
+        if number.0 == name {
+            return Some(number);
+        }
+    }
+    None
+}
+
+/// What is wrong with the first number below 0, which `clap` would take as another option.
+fn below_zero(alloc: Global, words: &[&str]) -> Result<Option<Text>, OutOfMemory> {
+    let mut option = None;
+    for word in words {
+        if let [b'-', b'0'..=b'9', ..] = word.as_bytes() {
+            if let Some(number) = option {
+                return Ok(Some(number_text(alloc, number, word)?));
+            }
+        }
+        option = number_option(word);
+    }
+    Ok(None)
+}
+
+/// What is wrong with words that `clap` refuses with this error.
+fn refused(alloc: Global, words: &[&str], error: &str) -> Result<Text, OutOfMemory> {
+    match below_zero(alloc, words)? {
+        Some(text) => Ok(text),
+        None => sentence_of(alloc, error),
+    }
 }
 
 /// What is wrong with words that ask for nothing that the program has, in a sentence without a newline: that of `clap`, with the
@@ -88,7 +130,7 @@ pub fn complaint_of(alloc: Global, words: &[Text]) -> Result<Text, OutOfMemory> 
         },
         Err(error) => {
             let text = format!(in alloc; "{error}")?;
-            sentence_of(alloc, text.as_str())
+            refused(alloc, texts.as_slice(), text.as_str())
         }
     }
 }
