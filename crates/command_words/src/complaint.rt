@@ -3,9 +3,12 @@ use crate::application::application;
 use crate::command::MOST_ASKS;
 use crate::network::{MOST_PORT, MOST_WORKERS};
 use crate::reading::{number_found, turned};
+use crate::table::rows;
 use adx_units::{OutOfMemory, Text};
 use clap::ArgMatches;
+use clap::error::ErrorKind;
 use std::alloc::Global;
+use strsim::osa_distance;
 
 /// What is said of words that `clap` takes and that name no command.
 const NO_COMMAND: &str = "no command; 'adx --help' shows them";
@@ -110,11 +113,50 @@ fn below_zero(alloc: Global, words: &[&str]) -> Result<Option<Text>, OutOfMemory
     Ok(None)
 }
 
-/// What is wrong with words that `clap` refuses with this error.
-fn refused(alloc: Global, words: &[&str], error: &str) -> Result<Text, OutOfMemory> {
-    match below_zero(alloc, words)? {
-        Some(text) => Ok(text),
-        None => sentence_of(alloc, error),
+/// The command whose word is one step from this one: a letter too many, one that is missing, a wrong one, or two in the wrong
+/// order.
+fn one_step_off(alloc: Global, word: &str) -> Result<Option<&'static str>, OutOfMemory> {
+    for row in rows() {
+        if osa_distance(alloc, word, row.0)? == 1 {
+            return Ok(Some(row.0));
+        }
+    }
+    Ok(None)
+}
+
+/// The command that is meant by a first word that is none, where what is said of it names none yet.
+fn meant(
+    alloc: Global,
+    words: &[&str],
+    kind: ErrorKind,
+    said: &str,
+) -> Result<Option<&'static str>, OutOfMemory> {
+    match words {
+        [word, ..] if matches!(kind, ErrorKind::InvalidSubcommand) && !said.contains(';') => {
+            one_step_off(alloc, word)
+        }
+        _ => Ok(None),
+    }
+}
+
+/// What is wrong with words that `clap` refuses with an error of this kind and text.
+fn refused(
+    alloc: Global,
+    words: &[&str],
+    kind: ErrorKind,
+    text: &str,
+) -> Result<Text, OutOfMemory> {
+    if let Some(text) = below_zero(alloc, words)? {
+        return Ok(text);
+    }
+    let sentence = sentence_of(alloc, text)?;
+    match meant(alloc, words, kind, sentence.as_str())? {
+        Some(word) => {
+            let said = sentence.as_str();
+            let text = format!(in alloc; "{said}; a similar subcommand exists: '{word}'")?;
+            Ok(Text::from(text))
+        }
+        None => Ok(sentence),
     }
 }
 
@@ -130,7 +172,7 @@ pub fn complaint_of(alloc: Global, words: &[Text]) -> Result<Text, OutOfMemory> 
         },
         Err(error) => {
             let text = format!(in alloc; "{error}")?;
-            refused(alloc, texts.as_slice(), text.as_str())
+            refused(alloc, texts.as_slice(), error.kind(), text.as_str())
         }
     }
 }
