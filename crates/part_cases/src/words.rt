@@ -1,7 +1,9 @@
 //! Words between bars, what they ask for, and the files, the port and the workers in them.
 use crate::readers::done;
 use adx_units::{OutOfMemory, Text};
-use command_words::{Command, NetworkCommand, command_of, network_command_of, paths_of};
+use command_words::{
+    COMMANDS, Command, NetworkCommand, Topic, command_of, network_command_of, paths_of,
+};
 use std::alloc::Global;
 use std::fmt::Write;
 
@@ -19,6 +21,17 @@ fn file_of(file: &Option<Text>) -> &str {
     match file {
         Some(text) => text.as_str(),
         None => "-",
+    }
+}
+
+/// A command's word, or a dash for the whole program.
+fn word_of(topic: Topic) -> &'static str {
+    match topic {
+        Topic::Program => "-",
+        Topic::Command { place } => match COMMANDS.get(place) {
+            Some(row) => row.0,
+            None => "no command",
+        },
     }
 }
 
@@ -56,7 +69,7 @@ fn push_command(out: &mut String, command: &Command) -> Result<(), OutOfMemory> 
         Command::Reconcile { journal, bidder } => {
             write!(out, "reconcile {} {}", journal.as_str(), bidder.as_str())
         }
-        Command::Help(topic) => write!(out, "help {topic:?}"),
+        Command::Help(topic) => write!(out, "help {}", word_of(*topic)),
         Command::Version => write!(out, "version"),
     })
 }
