@@ -31,7 +31,7 @@ use command_day::run_day;
 use command_gen::{Generator, run_generated};
 use command_notices::print_notices;
 use command_reconcile::reconcile_ledger;
-use command_words::{Command, VERSION, command_of, help_of};
+use command_words::{Command, Topic, VERSION, command_of, help_of};
 use day_archive::Keeper;
 use day_journal::Disk;
 use std::alloc::Global;
@@ -52,6 +52,21 @@ fn tell<K: Sink>(sink: &mut K, text: &str, done: u8) -> u8
     match put_all(sink, text.as_bytes()) {
         Ok(()) => done,
         Err(_) => WRITE_FAULT,
+    }
+}
+
+/// Writes the help on a topic, and gives the exit status.
+fn show_help<K: Sink>(alloc: Global, topic: Topic, sink: &mut K) -> u8
+    ensures tells { Tells (help_text topic) 0 (K.held sink.old) (K.held sink.new) result }
+    ensures fault { result ≡ 5 → Rises (K.faults sink.old) (K.faults sink.new) }
+    ensures passed { result ≢ 5 → K.faults sink.new ≡ K.faults sink.old }
+    ensures later { K.faults sink.old ≤ K.faults sink.new }
+    ensures other { (result ≢ 4) × (result ≢ 6) }
+    ensures same { K.place sink.new ≡ K.place sink.old }
+{
+    match help_of(alloc, topic) {
+        Ok(text) => tell(sink, text.as_str(), DONE),
+        Err(_) => OUT_OF_MEMORY,
     }
 }
 
@@ -133,7 +148,7 @@ fn run<S: Source, K: Sink, D: Disk, P: Keeper>(
             let ended = reconcile_ledger(alloc, bidder.as_str(), source, sink, disk);
             status_of_outcome(ended)
         }
-        Some(Command::Help(topic)) => tell(sink, help_of(topic), DONE),
+        Some(Command::Help(topic)) => show_help(alloc, topic, sink),
         Some(Command::Version) => tell(sink, VERSION, DONE),
         None => tell(sink, USAGE, NO_COMMAND),
     }
