@@ -1,4 +1,4 @@
-# Completes the words behind adx, for bash: . docs/adx.bash. Made by tools/man of what the program says of itself.
+# Completes the words after adx, for bash: . docs/adx.bash. Made by tools/man of what the program says of itself.
 _adx() {
     local word=${COMP_WORDS[COMP_CWORD]} words
     case ${COMP_WORDS[COMP_CWORD - 1]} in

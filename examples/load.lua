@@ -20,7 +20,7 @@ function request()
    return wrk.format("POST", "/openrtb", nil, string.format('{"id":"%d-%d","imp":[{"id":"1"}]}', number, asked))
 end
 
--- A sale is told with a body, a bill and a request without a sale without one.
+-- A sale is answered with a body, a bill and a request without a sale without one.
 function response(status, headers, body)
    if status == 200 then
       sold = sold + 1

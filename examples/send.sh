@@ -4,7 +4,7 @@
 #     examples/send.sh        needs curl
 #
 # It stops all that it starts, and ends by itself within seconds. It takes the first port from SEND_PORT on (28081) at which nobody
-# listens; in what it shows `bidder` stands for 127.0.0.1 and that port. ADX names another program than the one that ./adx runs.
+# listens; in what it shows `bidder` means 127.0.0.1 and that port. ADX names another program than the one that ./adx runs.
 set -eu
 script=$(readlink -f "$0")
 longest=60

@@ -5,7 +5,7 @@
 #     examples/talk.sh        needs curl
 #
 # It stops all that it starts, and ends by itself within a minute. It takes the first three ports from TALK_PORT on (28081) at which
-# nobody listens. In what it shows `north`, `south` and `exchange` stand for 127.0.0.1 and their ports. ADX names another program than the one that ./adx runs.
+# nobody listens. In what it shows `north`, `south` and `exchange` mean 127.0.0.1 and their ports. ADX names another program than the one that ./adx runs.
 set -eu
 script=$(readlink -f "$0")
 longest=60
@@ -16,7 +16,7 @@ north=$(free_port "${TALK_PORT:-28081}")
 south=$(free_port $((north + 1)))
 exchange=$(free_port $((south + 1)))
 
-# Shows each line of standard input behind a word, with names for addresses.
+# Shows each line of standard input after a word, with names for addresses.
 show() {
     sed -e "s/\"host\":\"127\.0\.0\.1\",\"port\":$north/\"host\":\"north\"/; s/\"host\":\"127\.0\.0\.1\",\"port\":$south/\"host\":\"south\"/" \
         -e "s/127\.0\.0\.1:$north/north/g; s/127\.0\.0\.1:$south/south/g; s/127\.0\.0\.1:$exchange/exchange/g" \
@@ -38,7 +38,7 @@ notice() {
     echo "$url $(call -o "$folder/reply" -w '%{http_code}' "$url")" | show "$1"
 }
 
-# Waits until a bidder's ledger has so many lines: the exchange sends what it owes behind each connection.
+# Waits until a bidder's ledger has so many lines: the exchange sends what it owes after each connection.
 wait_for() {
     for _ in $(seq 100); do
         [ "$(call "http://127.0.0.1:$1/ledger" | wc -l)" -lt "$2" ] || return 0

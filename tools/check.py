@@ -3,7 +3,7 @@
 writes the line of `adx check` and ends with the same status, 0 or 8; other bytes end it with status 3."""
 import json, re, sys
 WHOLE, NUMBER, OFFERS = 10**9, '(0|[1-9][0-9]{0,38})', '((?: (?:0|[1-9][0-9]{0,3}):[1-9][0-9]{0,12})*)'
-TEXT = r'("(?:[^\0-\x1f"\\]|\\["\\bfnrt]|\\u00(?:0[0-7bef]|1[0-9a-f])){1,128}")'  # each part of it stands for one byte
+TEXT = r'("(?:[^\0-\x1f"\\]|\\["\\bfnrt]|\\u00(?:0[0-7bef]|1[0-9a-f])){1,128}")'  # each part of it means one byte
 data, at = sys.stdin.buffer.read(2**31 + 1), 0
 def end(status, **line):
     print(json.dumps(line, separators=(',', ':')))

@@ -187,7 +187,7 @@ class Journal:
         return os.pread(self.file.fileno(), size, at)
 
     def begun(self):
-        """Whether the file has a journal's head. Where it has only a part of one it stands for an empty journal, which a program is making or was."""
+        """Whether the file has a journal's head. Where it has only a part of one it is an empty journal, which a program is making or was."""
         if self.format:
             return True
         head = self.pread(10, 0)

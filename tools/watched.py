@@ -2,7 +2,7 @@
 crash may leave of its journal, for `refuse-memory` and `kill-at-random`. The journal's form is that of docs/FORMATS.md, read here by
 a plain program of its own.
 
-The library stands between the program and the C library (LD_PRELOAD), so the program is the one that was built, not another
+The library is between the program and the C library (LD_PRELOAD), so the program is the one that was built, not another
 build of it. It is compiled by the kit's clang, or by $CC.
 """
 import os

@@ -291,7 +291,7 @@ class Tests(unittest.TestCase):
             controller.round()
             self.covers(world)
         self.assertGreater(controller.alarms, 0)
-        self.assertEqual([row[:1] + row[2:4] for row in controller.ledger.under_way()], [('x1', 'n', 'a')])      # it stands still
+        self.assertEqual([row[:1] + row[2:4] for row in controller.ledger.under_way()], [('x1', 'n', 'a')])      # it stays as it is
         controller = self.controller(world, adopt=True)
         for _ in range(4):
             controller.round()
@@ -362,7 +362,7 @@ class Tests(unittest.TestCase):
             cursor.execute('UPDATE exchange SET state = %s WHERE name = %s', (state, name))
 
     def test_an_old_ledger_never_costs_money(self) -> None:
-        """A ledger that was restored from an old backup, and a controller that nobody told of it. Nothing is on its way."""
+        """A ledger that was restored from an old backup, and a controller that doesn't know of it. Nothing is on its way."""
         alarms = 0
         for seed in range(12):
             world = self.fresh(seed, 0)

@@ -43,7 +43,7 @@ def ensure(holds: bool, *what: object) -> None:
 
 def greatest_sums(roster: dict[str, dict[Key, int]], passed: list[Passed]) -> dict[Key, int]:
     """The greatest sum of a campaign's budgets that any order allows which the proxies' clock doesn't exclude: a change may have been taken
-    as it was first sent, also where no answer was seen, and what was before may have stood until it was answered."""
+    as it was first sent, also where no answer was seen, and what was before may have been there until it was answered."""
     found = {}
     for key in next(iter(roster.values())):
         events: list[tuple[float, int, str, str, int]] = []
