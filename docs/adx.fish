@@ -1,4 +1,4 @@
-# Completes the words behind adx, for fish: ~/.config/fish/completions/adx.fish. Made by tools/man of what the program says of itself.
+# Completes the words after adx, for fish: ~/.config/fish/completions/adx.fish. Made by tools/man of what the program says of itself.
 complete -c adx -f
 complete -c adx -n __fish_use_subcommand -a 'day conn notices bidder gen close check archive-put archive-list reconcile serve post bid help'
 complete -c adx -l help

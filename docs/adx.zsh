@@ -1,5 +1,5 @@
 #compdef adx
-# Completes the words behind adx, for zsh: a file _adx of a folder of $fpath. Made by tools/man of what the program says of itself.
+# Completes the words after adx, for zsh: a file _adx of a folder of $fpath. Made by tools/man of what the program says of itself.
 if (( CURRENT == 2 )); then
     compadd -- day conn notices bidder gen close check archive-put archive-list reconcile serve post bid help --help --version
     return
