@@ -1,10 +1,17 @@
-//! Tests of what no program over files shows: what `adx_io` makes of a real file and of sockets, and what the disk of a day
-//! that nobody keeps leaves in memory.
+//! Tests of what no program over files shows: what `adx_io` makes of a real file and of sockets, what the disk of a day that
+//! nobody keeps leaves in memory, and what `bounded_network` makes of hosts: those that fail, one that is silent, and which
+//! addresses are called.
 //!
-//! It is tests alone, over the public calls of `adx_io`.
+//! It is tests alone, over the public calls of `adx_io`, `adx_links` and `bounded_network`.
 #![tactic(auto)]
 
 #[cfg(test)]
 mod adapters;
 #[cfg(test)]
+mod cold_hosts;
+#[cfg(test)]
 mod disks;
+#[cfg(test)]
+mod reached;
+#[cfg(test)]
+mod silent;
