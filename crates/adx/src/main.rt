@@ -3,28 +3,42 @@
 //! The call `adx` of the crate `adx_commands` does what the program does between its standard streams, from the words of its
 //! command line and the bytes of a source to those of a sink, and `adx_serve` of `adx_commands` what it does over the
 //! network; their contracts are the program's. This crate opens what the words name: the file of a journal, of a roster or of
-//! a price line, a port, or by `sql_archive` the file of an archive of closed days. Stands on `command_words`,
-//! `adx_commands`, `adx_commands`, `adx_links`, `adx_links`, `command_runs`, `day_archive`, `sql_archive`,
-//! `noted_streams`, `adx_io` and `adx_units`.
+//! a price line, a port, or by `sql_archive` the file of an archive of closed days; over `bounded_network`, so that no peer keeps
+//! it waiting. It says on standard error what failed. Stands on these, `command_words`, `command_runs`, `command_bidder`,
+//! `command_notices`, `adx_desk`, `fan_out`, `adx_http`, `rtb_response`, `adx_json`, `deal_floor`, `script_lines`, `adx_links`,
+//! `day_archive`, `noted_streams`, `adx_io` and `adx_units`.
 #![tactic(auto)]
 
 mod archive;
+mod bidder_watch;
+mod bidding;
+mod calls;
 mod clock;
+mod documents;
 mod journal_file;
+mod journal_watch;
+mod judging;
+mod limits;
 mod messages;
-mod network;
+mod posting;
+mod reports;
 mod run;
-mod watching;
+mod serving;
+mod streams;
+mod unopened;
+mod watched_acceptor;
+mod watched_link;
 
 use crate::messages::say_memory;
 use crate::run::{run, run_no_text};
+use crate::streams::fill_the_streams;
 use adx_commands::OUT_OF_MEMORY;
 use adx_units::Text;
 use std::io;
 use std::io::ErrorKind;
 use std::process::ExitCode;
 
-/// The words behind the program's name.
+/// The words after the program's name.
 fn words_of(rt: &HostRuntime) -> io::Result<Vec<Text>> {
     let mut words = Vec::new(rt.alloc());
     for word in std::env::args(rt)?.skip(1) {
@@ -34,6 +48,7 @@ fn words_of(rt: &HostRuntime) -> io::Result<Vec<Text>> {
 }
 
 fn main(rt: HostRuntime) -> ExitCode {
+    fill_the_streams(&rt);
     let status = match words_of(&rt) {
         Ok(words) => run(&rt, &rt, words.as_slice()),
         Err(error) if error.kind() == ErrorKind::OutOfMemory => {

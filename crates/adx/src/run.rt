@@ -1,8 +1,10 @@
 //! Runs the words of a command line: between the standard streams, on the disk that they ask for, or over the network.
 use crate::archive::run_with_archive;
+use crate::bidding::run_bid;
 use crate::journal_file::{FileFault, open_journal};
 use crate::messages::{Heard, say, say_memory, say_no_text, say_not_opened};
-use crate::network::{Serving, run_bid, run_post, run_serve};
+use crate::posting::run_post;
+use crate::serving::{Serving, run_serve};
 use adx_commands::{
     DISK_FAULT, Kept, NO_COMMAND, OUT_OF_MEMORY, adx, adx_in_memory, kept_by_words,
 };
@@ -132,7 +134,7 @@ fn run_by<W: Threads + Wait + Sync>(
     run_between(rt, words)
 }
 
-/// Runs the words that stand behind the program's name, and gives the exit status. At every status but 0 a line on
+/// Runs the words after the program's name, and gives the exit status. At every status but 0 a line on
 /// standard error says why.
 pub(crate) fn run<W: Threads + Wait + Sync>(rt: &HostRuntime, waits: &W, words: &[Text]) -> u8 {
     match paths_of(rt.alloc(), words) {

@@ -1,0 +1,85 @@
+//! Serves a bidder, over the network.
+
+use crate::calls::Calls;
+use crate::clock::SystemClock;
+use crate::documents::{prices_in, status_of_error};
+use crate::messages::{Heard, say_network, say_not_bound};
+use crate::reports::Reports;
+use crate::watched_acceptor::{WatchedAcceptor, listener_at};
+use crate::watched_link::{Purpose, WatchedLink};
+use adx_commands::adx_serve;
+use adx_units::Text;
+use bounded_network::Listening;
+use day_journal::ByteDisk;
+use std::marker::Sync;
+use std::sync::Wait;
+use std::thread::Threads;
+
+/// The name of a journal where there is none.
+const NO_JOURNAL: &str = "no journal";
+
+/// Serves the bidder of a price line's document over an acceptor that tells no pairs.
+fn bid_over<'a, 'b, W: Threads + Wait + Sync>(
+    rt: &'a HostRuntime,
+    waits: &W,
+    words: &[Text],
+    document: &[u8],
+    acceptor: WatchedAcceptor<'a, 'b>,
+    post: WatchedLink<'b>,
+) -> u8 {
+    let links: Vec<Vec<WatchedLink<'b>>> = Vec::new(rt.alloc());
+    let served = adx_serve(
+        waits,
+        rt.alloc(),
+        words,
+        document,
+        acceptor,
+        ByteDisk::new(rt.alloc()),
+        links,
+        post,
+        &SystemClock::new(rt),
+    );
+    served.status
+}
+
+/// Serves the bidder of a price line's document at a port.
+fn bid_at<'a, W: Threads + Wait + Sync>(
+    reports: &'a Reports<'a>,
+    waits: &W,
+    words: &[Text],
+    document: &[u8],
+    port: u16,
+) -> u8 {
+    let rt = reports.rt();
+    let listening = Listening::new(rt.alloc(), None, 1);
+    let calls = Calls::new(reports);
+    let acceptor = WatchedAcceptor::new(port, &listening, reports, None);
+    let post = WatchedLink::new(&calls, Purpose::Tells);
+    let status = bid_over(rt, waits, words, document, acceptor, post);
+    say_network(reports, rt, words, NO_JOURNAL, &Heard::new(), status);
+    status
+}
+
+/// Serves the bidder of the price line in a file at a port.
+pub(crate) fn run_bid<W: Threads + Wait + Sync>(
+    rt: &HostRuntime,
+    waits: &W,
+    words: &[Text],
+    prices: &str,
+    port: u16,
+) -> u8 {
+    let document = match prices_in(rt, prices) {
+        Ok(document) => document,
+        Err(status) => return status,
+    };
+    // The port is had for a moment; it listens once the bidder is there.
+    match listener_at(rt, port) {
+        Ok(_listener) => {}
+        Err(error) => {
+            say_not_bound(rt, port, error);
+            return status_of_error(&error);
+        }
+    }
+    let reports = Reports::without_waiting(rt);
+    bid_at(&reports, waits, words, document.as_slice(), port)
+}
