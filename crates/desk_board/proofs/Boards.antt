@@ -1,11 +1,12 @@
 -- What a board that was published shows, and what a reader that was told of it has read.
-use Rattle.std.proofs.Common.{◌≡◌, ℕ, List, length, Bool, true, refl, sym, ap, ◌∙◌, subst, arith}
+use Rattle.std.proofs.Common.{◌≡◌, ℕ, List, length, Bool, true, if◌then◌else◌, refl, sym, ap, ◌∙◌, arith}
+use Rattle.std.proofs.lemmas.Bool.{le-leb}
 use mathlib.Core.List.{IsPrefix}
 use Rattle.logbook.specs.Pages.{Book}
 use Rattle.adx_desk.specs.declared.shared.OpenedWith.{OpenedWith}
 use Rattle.day_rules.specs.DayMeters.{steps_of}
 use Rattle.day_rules.specs.declared.entry.Entry.{Entry}
-use Rattle.desk_board.proofs.Meeting.{met_seen, prefix_on}
+use Rattle.desk_board.proofs.Meeting.{met_seen, prefix_on, prefix_short}
 use Rattle.meter_board.proofs.Beginnings.{entries_of, prefix_whole}
 use Rattle.day_rules.specs.Steps.{meters_of}
 use Rattle.day_rules.specs.declared.meters.Meters.{Meters}
@@ -13,18 +14,21 @@ use Rattle.day_rules.specs.declared.step.MeterStep.{MeterStep}
 use Rattle.shared_desk.specs.Callers.{DeskPass}
 use Rattle.shared_desk.specs.Idle.{IsIdle}
 use Rattle.turnstile.specs.Passes.{IsOf, IsSamePass, TurnstileState, told}
-use Rattle.turnstile.specs.Places.{AreOneList}
-use Rattle.desk_board.specs.Boards.{AreStepsBetween, IsBoard}
+use Rattle.turnstile.specs.Places.{AreOneList, longer}
+use Rattle.desk_board.specs.Boards.{IsBoard}
+
+-- of a list and one that begins with it the longer is that one
+longer_is : (xs ys : List Entry) → IsPrefix xs ys → longer xs ys ≡ ys
+longer_is xs ys p = ap (λ (b : Bool). if b then ys else xs) (le-leb (length xs) (length ys) (prefix_short xs ys p))
 
 -- what is published, once its pass and the other have met again
-pub met_again : (seen : List Entry) (own p own_now p_now : DeskPass) (shown : List MeterStep) → shown ≡ steps_of own.seen → IsPrefix seen p.seen → IsPrefix p.seen own.seen →
-    p_now ≡ told p own → AreOneList own.seen p.seen → own_now ≡ told own p → own_now.seen ≡ p_now.seen → AreStepsBetween seen p_now.seen shown
-met_again seen own p own_now p_now shown is later met p_is one own_is same = record {
-  history = own.seen;
-  begins = prefix_on seen p.seen own.seen later met;
-  front = subst (λ (l : List Entry). IsPrefix own.seen l) same (met_seen own p own_now own_is one).0;
-  steps_are = is;
-}
+pub met_again : (own p p_now : DeskPass) (shown : List MeterStep) → shown ≡ steps_of own.seen → IsPrefix p.seen own.seen → p_now ≡ told p own → shown ≡ steps_of p_now.seen
+met_again own p p_now shown is met p_is =
+    is ∙ ap steps_of (sym (ap (λ (v : DeskPass). v.seen) p_is ∙ longer_is p.seen own.seen met))
+
+-- what its own pass has seen then
+pub own_later : (before own p own_now : DeskPass) → IsPrefix before.seen own.seen → AreOneList own.seen p.seen → own_now ≡ told own p → IsPrefix before.seen own_now.seen
+own_later before own p own_now later one is = prefix_on before.seen own.seen own_now.seen later (met_seen own p own_now is one).0
 
 -- a read with as many entries as were told
 pub read_whole : (shown before now : List MeterStep) (m : Meters) (count : ℕ) → count ≡ length shown → IsPrefix shown before → IsPrefix before now → m ≡ meters_of now → m.entries ≡ count → now ≡ shown
@@ -44,17 +48,18 @@ pub of_desk : (first p : DeskPass) (desk : TurnstileState OpenedWith) → IsOf f
 of_desk first p desk of idle = (idle.turnstile ∙ of.0, idle.fixed ∙ of.1)
 
 -- what stays of a board whose pass gained no turn
-pub board_on : (first : DeskPass) (book list list_now : Book) (p q : DeskPass) → list_now ≡ list → IsSamePass p q → q.turns ≡ p.turns → IsBoard first book list p → IsBoard first book list_now q
-board_on first book list list_now p q is same turns board = record {
+pub board_on : (first : DeskPass) (book list list_now : Book) (p q : DeskPass) → list_now ≡ list → IsSamePass p q → q.turns ≡ p.turns → IsPrefix p.seen q.seen → IsBoard first book list p → IsBoard first book list_now q
+board_on first book list list_now p q is same turns later board = record {
   named = is ∙ board.named;
   idle = record {
     turnstile = same.0 ∙ board.idle.turnstile;
     fixed = same.3 ∙ board.idle.fixed;
     split = same.1 ∙ board.idle.split;
     none = turns ∙ board.idle.none;
+    begins = prefix_on first.seen p.seen q.seen board.idle.begins later;
   };
 }
 
 -- what was read, where that is what was published
-pub shown_read : (seen seen_now : List Entry) (shown now : List MeterStep) (whole : Bool) → (whole ≡ true → now ≡ shown) → AreStepsBetween seen seen_now shown → whole ≡ true → AreStepsBetween seen seen_now now
-shown_read seen seen_now shown now whole is between e = subst (AreStepsBetween seen seen_now) (sym (is e)) between
+pub shown_read : (seen_now : List Entry) (shown now : List MeterStep) (whole : Bool) → (whole ≡ true → now ≡ shown) → shown ≡ steps_of seen_now → whole ≡ true → now ≡ steps_of seen_now
+shown_read seen_now shown now whole is all e = is e ∙ all

@@ -1,5 +1,5 @@
 -- What passes have seen behind a meeting and behind a look.
-use Rattle.std.proofs.Common.{◌≡◌, ℕ, ◌≤◌, List, [], ◌++◌, length, take, sym, ap, ◌∙◌, subst, arith, append_assoc, append-nil}
+use Rattle.std.proofs.Common.{◌≡◌, ℕ, ◌≤◌, List, [], ◌++◌, length, take, sym, ap, ◌∙◌, subst, arith, append_assoc, append-nil, length-append}
 use Rattle.std.specs.Prelude.{Result, Ok, Err, IfOk, OnErr, ⊤}
 use Rattle.std.proofs.Math.Seq.{take-length}
 use Rattle.std.proofs.lemmas.List.{length-take}
@@ -27,6 +27,9 @@ met_seen p q p' is one =
 pub looked_seen : (opened : OpenedWith) (before : List Entry) (n : ℕ) (p q : PassView Entry OpenedWith Turn) → Passed opened before [] n p q → IsPrefix p.seen q.seen
 looked_seen opened before n p q passed =
     let b = passed.answered.begins in (b.0, b.1 ∙ (sym (append-nil before) ∙ sym passed.answered.seen))
+
+pub prefix_short : {A : Type 0} (xs ys : List A) → IsPrefix xs ys → length xs ≤ length ys
+prefix_short {A} xs ys p = omega (arith, length-append xs p.0, ap (λ (l : List A). length l) p.1)
 
 pub prefix_on : {A : Type 0} (xs ys zs : List A) → IsPrefix xs ys → IsPrefix ys zs → IsPrefix xs zs
 prefix_on {A} xs ys zs p q = (p.0 ++ q.0, sym (append_assoc xs p.0 q.0) ∙ (ap (λ (l : List A). l ++ q.0) p.1 ∙ q.1))

@@ -108,6 +108,7 @@ module _ {L : Type 0} (l : links.Ghosts L) where
           fixed = same.3 ∙ room.idle.fixed;
           split = same.1 ∙ room.idle.split;
           none = at.turns_are ∙ (append-nil p.turns ∙ room.idle.none);
+          begins = on_prefix first.seen p.seen q.seen room.idle.begins later;
         };
         tended = record { before = t.before; before_is = t.before_is; history = t.history; begins = on_prefix t.history p.seen q.seen t.begins later; has = t.has };
       }

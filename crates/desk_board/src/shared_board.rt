@@ -1,10 +1,10 @@
 //! A board of a shared desk's meters, for a lock.
 ghost use Rattle.std.specs.Prelude.{◌≡◌, true, IfOk};
 ghost use mathlib.Core.List.{IsPrefix};
+ghost use Rattle.day_rules.specs.DayMeters.{steps_of};
 ghost use Rattle.turnstile.specs.Passes.{IsOf, IsSamePass};
 ghost use Rattle.meter_board.specs.Words.{list_of, list_read, published, seen};
 ghost use Rattle.shared_desk.specs.Idle.{IsIdle};
-ghost use Rattle.desk_board.specs.Boards.{AreStepsBetween};
 
 use crate::board::Board;
 use crate::board_names::BoardNames;
@@ -51,11 +51,12 @@ fn publish<R: Wait + Drop, D: Disk + Drop, W: Wait>(
     requires pass { IsOf pass.old desk.now }
     ensures own { IsSamePass board.old.pass board.new.pass }
     ensures own_turns { board.new.pass.turns ≡ board.old.pass.turns }
+    ensures own_later { IsPrefix board.old.pass.seen board.new.pass.seen }
     ensures same { list_of board.new.board ≡ list_of board.old.board }
     ensures pass { IsSamePass pass.old pass.new }
     ensures turns { pass.new.turns ≡ pass.old.turns }
     ensures later { IsPrefix pass.old.seen pass.new.seen }
-    ensures published { IfOk result (λ _. AreStepsBetween pass.old.seen pass.new.seen (published board.new.board)) }
+    ensures published { IfOk result (λ _. published board.new.board ≡ steps_of pass.new.seen) }
 {
     board.publish(rt, alloc, desk, pass)?;
     desk.meet(&mut board.pass, pass)
@@ -86,8 +87,8 @@ impl<R: Wait + Drop, D: Disk + Drop, J: BoardNames> SharedBoard<R, D, J> {
         }
     }
 
-    /// Publishes with a pass, tells a reader, and lets it read once. True says that what it read are the meters of the
-    /// history that was published; false that memory was refused, or that the read had another number of entries than were
+    /// Publishes with a pass, tells a reader, and lets it read once. True says that what it read are the meters of all that
+    /// the pass has seen then; false that memory was refused, or that the read had another number of entries than were
     /// told, which no run reaches.
     pub fn show<W: Wait>(
         &mut self,
@@ -105,7 +106,7 @@ impl<R: Wait + Drop, D: Disk + Drop, J: BoardNames> SharedBoard<R, D, J> {
         ensures later { IsPrefix pass.old.seen pass.new.seen }
         ensures reader { list_read reader.new ≡ J.book }
         ensures read { IsPrefix (seen reader.old) (seen reader.new) }
-        ensures shown { result ≡ true → AreStepsBetween pass.old.seen pass.new.seen (seen reader.new) }
+        ensures shown { result ≡ true → seen reader.new ≡ steps_of pass.new.seen }
     {
         match publish(&mut self.board, rt, alloc, desk, pass) {
             Ok(()) => read(&self.board, reader),

@@ -1,5 +1,5 @@
 -- How a day of serving begins: the first pass once two others were split from it, and an outbox that has followed nothing.
-use Rattle.std.proofs.Common.{◌≡◌, ℕ, ◌+◌, List, [], length, true, sym, ap, ◌∙◌, subst}
+use Rattle.std.proofs.Common.{◌≡◌, ℕ, ◌+◌, List, [], length, true, sym, ap, ◌∙◌, subst, append-nil}
 use Rattle.adx_desk.specs.declared.shared.OpenedWith.{OpenedWith}
 use Rattle.adx_links.specs.declared.link.Link as links
 use Rattle.day_rules.specs.declared.entry.Entry.{Entry}
@@ -39,6 +39,7 @@ module _ (desk : TurnstileState OpenedWith) (history : List Entry) (faults : ℕ
         fixed = ap (λ (v : DeskPass). v.fixed) y ∙ sym (ap (λ (v : DeskPass). v.fixed) x);
         split = ap (λ (v : DeskPass). v.is_first) y;
         none = ap (λ (v : DeskPass). v.turns) y;
+        begins = ([], append-nil a.seen ∙ (ap (λ (v : DeskPass). v.seen) x ∙ sym (ap (λ (v : DeskPass). v.seen) y)));
       }
 
 -- what has followed nothing did so over its link as it is

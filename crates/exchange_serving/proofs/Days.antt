@@ -20,7 +20,7 @@ use Rattle.day_rules.specs.DayState.{IsDay}
 use Rattle.day_rules.specs.Legal.{IsLegal}
 use Rattle.day_rules.proofs.RunBooks.{books_along}
 use Rattle.deal_floor.specs.declared.roster.Roster.{Roster}
-use Rattle.desk_board.proofs.Meeting.{prefix_on}
+use Rattle.desk_board.proofs.Meeting.{prefix_on, prefix_short}
 use Rattle.exchange_messages.specs.Floors.{IsMomentOf}
 use Rattle.fan_out.specs.declared.lane.Lane.{Lane}
 use Rattle.adx_links.specs.Lobbies.{AllServed, IsIntake, WasServed}
@@ -31,6 +31,7 @@ use Rattle.desk_board.specs.Rooms.{HasTended, IsTendedTo}
 use Rattle.desk_board.specs.Tending.{AreTended}
 use Rattle.desk_board.specs.declared.mail.Mail.{Mail}
 use Rattle.shared_desk.specs.Callers.{DeskPass, IsRightPass, entry_of}
+use Rattle.shared_desk.specs.Idle.{IsIdle}
 use Rattle.shared_desk.proofs.Taken.{all_taken}
 use Rattle.turnstile.specs.Passes.{joined}
 use Rattle.turnstile.specs.Places.{AreAllOnce, AreOneList}
@@ -42,7 +43,6 @@ use Rattle.exchange_serving.specs.Rounds.{IsServedIn}
 use Rattle.exchange_serving.specs.Served.{ArePosted, HasBack, IsServed, ServesDay, faults_in, turns_in}
 use Rattle.exchange_serving.specs.declared.ending.Ending.{Ending}
 use Rattle.exchange_serving.specs.Unserved.{LeavesPost}
-use Rattle.exchange_serving.proofs.Meters.{day_front, prefix_short}
 use Rattle.exchange_serving.proofs.Rounds.{served_longer}
 
 -- the turns that met a fault, by the desk's number of faults
@@ -163,13 +163,16 @@ module _ {L : Type 0} (l : links.Ghosts L) where
       }
 
 -- the posts of what a pass has seen
-pub leaves_post : {L : Type 0} (l : links.Ghosts L) (fixed : OpenedWith) (r : Roster) (link : Option L) (post : L) (p : DeskPass) (mail : Mail L) → terms_in fixed ≡ desk_terms r → link ≡ Some post →
-    IsRightPass fixed p → IsTendedTo l link p.seen mail → LeavesPost l r post mail.link
-leaves_post {L} l fixed r link post p mail terms is right t =
+pub leaves_post : {L : Type 0} (l : links.Ghosts L) (fixed : OpenedWith) (r : Roster) (link : Option L) (post : L) (first p : DeskPass) (mail : Mail L) → terms_in fixed ≡ desk_terms r → link ≡ Some post →
+    IsIdle first p → IsRightPass fixed p → IsTendedTo l link p.seen mail → LeavesPost l r first.seen post mail.link
+leaves_post {L} l fixed r link post first p mail terms is idle right t =
     let day : IsDay (desk_terms r).day p.seen = subst (λ (d : DeskTerms). IsDay d.day p.seen) terms right.legal in
     let same : t.before ≡ post = ap (λ (o : Option L). unwrap_or o post) (sym t.before_is ∙ is) in record {
-      history = t.history;
-      legal = (day_front (desk_terms r).day t.history p.seen t.begins day).legal;
+      history = p.seen;
+      begins = idle.begins;
+      legal = day.legal;
+      followed = t.history;
+      front = t.begins;
       pending = mail.outbox.pending;
       tended = subst (λ (k : L). AreTended l t.history mail.outbox.pending k mail.link) same t.has.tended;
     }

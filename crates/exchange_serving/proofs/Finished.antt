@@ -85,6 +85,11 @@ not_missed true missed intake faults none some = absurd (some refl)
 not_missed false true intake faults none some = absurd (some refl)
 not_missed false false intake faults none some = refl
 
+-- nor where it wasn't before
+pub not_short : (short : Bool) (ending : Ending) → (short ≡ true → ending ≡ Ending.OutOfMemory) → ending ≢ Ending.OutOfMemory → short ≡ false
+not_short true ending is some = absurd (some (is refl))
+not_short false ending is some = refl
+
 -- whether posts are pending, by the ending
 done_none : (short : Bool) (intake : Intake) (faults : ℕ) (none : Bool) → ending_by short intake faults none ≡ Ending.Done → none ≡ true
 done_none true intake faults none e = absurd (cc e)

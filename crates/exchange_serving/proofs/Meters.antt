@@ -1,5 +1,5 @@
 -- The meters that a connection was told, as those of fronts of the history.
-use Rattle.std.proofs.Common.{◌≡◌, ℕ, ◌≤◌, List, [], ◌∷◌, length, take, drop, sym, ap, ◌∙◌, subst, arith, length-append}
+use Rattle.std.proofs.Common.{◌≡◌, ℕ, ◌≤◌, List, [], ◌∷◌, length, take, drop, sym, ap, ◌∙◌, subst, arith}
 use Rattle.std.proofs.Math.Seq.{take-append_seam}
 use Rattle.std.proofs.lemmas.List.{take-append-drop, take-append-le}
 use mathlib.Core.List.{IsPrefix}
@@ -9,7 +9,7 @@ use Rattle.day_rules.specs.DayState.{IsDay}
 use Rattle.day_rules.specs.Terms.{Terms}
 use Rattle.day_rules.specs.declared.entry.Entry.{Entry}
 use Rattle.day_rules.proofs.Histories.{legal_front}
-use Rattle.desk_board.proofs.Meeting.{prefix_on}
+use Rattle.desk_board.proofs.Meeting.{prefix_on, prefix_short}
 use Rattle.day_rules.specs.Steps.{meters_of}
 use Rattle.day_rules.specs.declared.meters.Meters.{Meters}
 use Rattle.day_rules.specs.declared.step.MeterStep.{MeterStep}
@@ -18,9 +18,6 @@ use Rattle.shared_desk.proofs.Steps.{as_many, steps_front}
 use Rattle.exchange_serving.specs.Served.{AreMetersIn}
 
 module _ {A : Type 0} where
-  pub prefix_short : (xs ys : List A) → IsPrefix xs ys → length xs ≤ length ys
-  prefix_short xs ys p = omega (arith, length-append xs p.0, ap (λ (l : List A). length l) p.1)
-
   -- a front of a front
   pub take_longer : (n : ℕ) (xs ys : List A) → IsPrefix xs ys → n ≤ length xs → take n xs ≡ take n ys
   take_longer n xs ys p within = sym (take-append-le n xs p.0 within) ∙ ap (λ (l : List A). take n l) p.1

@@ -1,5 +1,5 @@
 -- What a round of a worker gives, and what is so of the pair that was served.
-use Rattle.std.proofs.Common.{◌≡◌, inl, inr, ℕ, ◌≤◌, List, [], ◌∷◌, ◌++◌, length, take, Bool, true, false, not, ◌||◌, Option, Some, None, IfSome, option_map, refl, sym, ap, ◌∙◌, subst, arith, append_assoc, append-nil, Ok, Err}
+use Rattle.std.proofs.Common.{◌≡◌, inl, inr, ℕ, ◌≤◌, List, [], ◌∷◌, ◌++◌, length, take, Bool, true, false, not, ◌||◌, if◌then◌else◌, Option, Some, None, IfSome, option_map, refl, sym, ap, ◌∙◌, subst, arith, append_assoc, append-nil, Ok, Err}
 use Rattle.std.specs.Prelude.{Result, unwrap_or}
 use Rattle.std.specs.List.{AllZip}
 use Rattle.std.specs.Io.KnownBytes.{append_known}
@@ -19,9 +19,9 @@ use Rattle.day_rules.specs.DayState.{IsDay}
 use Rattle.day_rules.specs.Legal.{IsLegal}
 use Rattle.day_rules.specs.declared.entry.Entry.{Entry}
 use Rattle.deal_floor.specs.declared.roster.Roster.{Roster}
-use Rattle.desk_board.proofs.Meeting.{prefix_on}
+use Rattle.desk_board.proofs.Meeting.{prefix_on, prefix_short}
 use Rattle.desk_calls.specs.Steps.{AreSteps, Step, calls_of, meters_read, shared}
-use Rattle.desk_calls.proofs.Chains.{from_earlier, shared_on, steps_join}
+use Rattle.desk_calls.proofs.Chains.{shared_on, steps_join}
 use Rattle.exchange_messages.specs.Floors.{AreLanes}
 use Rattle.exchange_http.specs.Serving.{EndsSo, Talked}
 use Rattle.exchange_messages.specs.Courses.{Course, begun}
@@ -33,15 +33,14 @@ use Rattle.http_service.specs.Connections.{HasCauses}
 use Rattle.adx_links.specs.Serving.{ServedPair}
 use Rattle.day_rules.specs.declared.step.MeterStep.{MeterStep}
 use Rattle.shared_desk.specs.Passes.{IsNotedAs}
-use Rattle.desk_board.specs.Boards.{AreStepsBetween}
 use Rattle.shared_desk.specs.Callers.{DeskPass, IsRightPass}
 use Rattle.shared_desk.proofs.Steps.{as_many}
 use Rattle.exchange_serving.specs.Sharing.{ServesShared}
 use Rattle.turnstile.specs.Passes.{IsSamePass}
 use Rattle.turnstile.specs.declared.noted.Noted.{Noted}
-use Rattle.exchange_serving.specs.Served.{AreServedOver, Connection, IsServed, IsServedOver, as_new, talk_of, untaken}
+use Rattle.exchange_serving.specs.Served.{AreServedOver, Connection, IsServed, IsServedOver, as_new, shown_after, shown_by, talk_of, untaken}
 use Rattle.exchange_serving.specs.Rounds.{AreOwn, IsRound, IsWhole, bytes_of, is_out_of_memory}
-use Rattle.exchange_serving.proofs.Meters.{day_front, meters_longer, meters_read_in, prefix_short}
+use Rattle.exchange_serving.proofs.Meters.{meters_longer, meters_read_in, read_on}
 
 -- a longer history behind some steps
 pub steps_longer : (terms : DeskTerms) (seen now more : List Entry) (steps : List Step) → AreSteps shared terms seen steps now → IsPrefix now more → AreSteps shared terms seen steps more
@@ -105,9 +104,9 @@ module _ {L : Type 0} (l : links.Ghosts L) (IsMoment : ℕ → Type 0) (r : Rost
   day_by : (opened : OpenedWith) (q : DeskPass) → terms_in opened ≡ desk_terms r → IsRightPass opened q → IsDay (desk_terms r).day q.seen
   day_by opened q terms right = subst (λ (t : DeskTerms). IsDay t.day q.seen) terms right.legal
 
-  pub unserved : (opened : OpenedWith) (p q : DeskPass) (told : PairTold) (lanes : List (Lane L)) → terms_in opened ≡ desk_terms r → IsRightPass opened q →
-      IsSamePass p q → q.turns ≡ p.turns → IsPrefix p.seen q.seen → IsRound l IsMoment r p q told told lanes lanes true
-  unserved opened p q told lanes terms right same turns later = record {
+  pub unserved : (opened : OpenedWith) (p q : DeskPass) (told : PairTold) (lanes : List (Lane L)) (b1 b2 : List MeterStep) → terms_in opened ≡ desk_terms r → IsRightPass opened q →
+      IsSamePass p q → q.turns ≡ p.turns → IsPrefix p.seen q.seen → IsPrefix b1 b2 → IsRound l IsMoment r p q told told lanes lanes (length b1) (length b2) true
+  unserved opened p q told lanes b1 b2 terms right same turns later read = record {
     course = begun lanes;
     end = ConnEnd.OutOfMemory;
     lanes_are = refl;
@@ -119,23 +118,30 @@ module _ {L : Type 0} (l : links.Ghosts L) (IsMoment : ℕ → Type 0) (r : Rost
     noted = [];
     turns = turns ∙ sym (append-nil p.turns);
     are = tt;
+    from = p.seen;
+    start = ([], append-nil p.seen);
+    since = λ e. absurd (cc e);
     along = later;
     meters = λ e. absurd (cc e);
+    shown = λ e. absurd (cc e);
+    no_fewer = prefix_short b1 b2 read;
     wanting = λ e. refl;
   }
 
   -- a connection between two looks at the board
-  pub served_between : (opened : OpenedWith) (p p1 p2 q : DeskPass) (before now : PairTold) (lanes lanes_now : List (Lane L)) (b1 b2 b3 : List MeterStep) (end : ConnEnd) (shown : Bool) →
+  pub served_between : (opened : OpenedWith) (p p1 p2 q : DeskPass) (before now : PairTold) (lanes lanes_now : List (Lane L)) (b0 b1 b2 b3 : List MeterStep) (end : ConnEnd) (shown : Bool) →
       terms_in opened ≡ desk_terms r → IsRightPass opened q →
-      IsSamePass p p1 → p1.turns ≡ p.turns → AreStepsBetween p.seen p1.seen b1 →
+      IsSamePass p p1 → p1.turns ≡ p.turns → IsPrefix p.seen p1.seen → IsPrefix b0 b1 → b1 ≡ steps_of p1.seen →
       ServesShared l IsMoment r (talk_of before) (talk_of now) lanes lanes_now p1 p2 b1 b2 end → IsWhole before.tape now.tape →
       HasCauses before.read_faults now.read_faults before.write_faults now.write_faults end →
-      IsSamePass p2 q → q.turns ≡ p2.turns → IsPrefix p2.seen q.seen → IsPrefix b2 b3 → (shown ≡ true → AreStepsBetween p2.seen q.seen b3) →
-      IsRound l IsMoment r p q before now lanes lanes_now (not shown || is_out_of_memory end)
-  served_between opened p p1 p2 q before now lanes lanes_now b1 b2 b3 end shown terms right same1 turns1 first serves whole causes same2 turns2 later read last =
+      IsSamePass p2 q → q.turns ≡ p2.turns → IsPrefix p2.seen q.seen → IsPrefix b2 b3 → (shown ≡ true → b3 ≡ steps_of q.seen) →
+      IsRound l IsMoment r p q before now lanes lanes_now (length b0) (length b3) (not shown || is_out_of_memory end)
+  served_between opened p p1 p2 q before now lanes lanes_now b0 b1 b2 b3 end shown terms right same1 turns1 start read1 first serves whole causes same2 turns2 later read last =
       let g = serves.gains in
-      let start : IsPrefix p.seen p1.seen = prefix_on p.seen first.history p1.seen first.begins first.front in
       let day = day_by opened q terms right in
+      let long : length b1 ≡ length p1.seen = ap (λ (x : List MeterStep). length x) first ∙ as_many p1.seen in
+      let all : shown ≡ true → IsPrefix b2 (steps_of q.seen) = λ e. subst (IsPrefix b2) (last e) read in
+      let low : length p1.seen ≤ length b1 = omega (arith, long) in
       record {
         course = serves.course;
         end = end;
@@ -148,13 +154,13 @@ module _ {L : Type 0} (l : links.Ghosts L) (IsMoment : ℕ → Type 0) (r : Rost
         noted = g.noted;
         turns = turns2 ∙ (g.turns ∙ ap (λ (ts : List (Noted Turn)). ts ++ g.noted) turns1);
         are = g.are;
-        along = steps_longer (desk_terms r) p.seen p2.seen q.seen serves.course.steps (from_earlier shared shared_on (desk_terms r) p.seen p1.seen p2.seen serves.course.steps start g.along) later;
-        meters = λ e.
-            let s = last (shown_is shown (is_out_of_memory end) e) in
-            let b2_is : IsPrefix b2 (steps_of s.history) = subst (IsPrefix b2) s.steps_are read in
-            let low : length p.seen ≤ length b1 = omega (arith, prefix_short p.seen first.history first.begins, as_many first.history, ap (λ (x : List MeterStep). length x) first.steps_are) in
-            meters_longer s.history q.seen (meters_read serves.course.steps) (length p.seen) s.front
-            (meters_read_in (desk_terms r).day s.history (day_front (desk_terms r).day s.history q.seen s.front day) b1 b2 (meters_read serves.course.steps) (length p.seen) low b2_is serves.read);
+        from = p1.seen;
+        start = start;
+        since = λ e. omega (arith, prefix_short b0 b1 read1, long);
+        along = steps_longer (desk_terms r) p1.seen p2.seen q.seen serves.course.steps g.along later;
+        meters = λ e. meters_read_in (desk_terms r).day q.seen day b1 b2 (meters_read serves.course.steps) (length p1.seen) low (all (shown_is shown (is_out_of_memory end) e)) serves.read;
+        shown = λ e. ap (λ (x : List MeterStep). length x) (last (shown_is shown (is_out_of_memory end) e)) ∙ as_many q.seen;
+        no_fewer = prefix_short b0 b3 (prefix_on b0 b1 b3 read1 (prefix_on b1 b2 b3 (read_on b1 b2 (meters_read serves.course.steps) serves.read) read));
         wanting = λ e. short_is shown (is_out_of_memory end) (ap is_out_of_memory e);
       }
 
@@ -183,22 +189,36 @@ module _ {L : Type 0} (l : links.Ghosts L) (IsMoment : ℕ → Type 0) (r : Rost
   held_new None now bytes new took = sym (ap (λ (o : Option (List ℕ)). option_map (λ h. []) o) took)
   held_new (Some b) now bytes new took = ap (λ (h : List ℕ). Some h) new ∙ sym (ap (λ (o : Option (List ℕ)). option_map (λ h. []) o) took)
 
+  -- what a worker was shown by connections and one more
+  shown_more : (known : ℕ) (cs : List (Connection L)) (c : Connection L) → shown_by known (cs ++ c ∷ []) ≡ shown_after (shown_by known cs) c
+  shown_more known [] c = refl
+  shown_more known (d ∷ cs) c = shown_more (shown_after known d) cs c
+
+  -- it is no more than its reader was shown
+  shown_few : (known read read_now : ℕ) (c : Connection L) → known ≤ read → read ≤ read_now → (c.pair.wanting ≡ false → read_now ≡ length c.seen) → shown_after known c ≤ read_now
+  shown_few known read read_now c few more all = go c.pair.wanting all
+    where
+      go : (b : Bool) → (b ≡ false → read_now ≡ length c.seen) → (if b then known else length c.seen) ≤ read_now
+      go true is = omega (arith, few, more)
+      go false is = let e = is refl in omega (arith, e)
+
   module _ (opened : List Entry) where
-    abbrev pub OverLanes : List Entry → ServedPair Turn → List (Lane L) → Course L → ConnEnd → Type 0
+    abbrev pub OverLanes : ℕ → List Entry → ServedPair Turn → List (Lane L) → Course L → ConnEnd → Type 0
     OverLanes = IsServedOver l IsMoment r opened
 
     -- the pair that was served, over the lanes that a round began with
-    pub served_over : (p q : DeskPass) (before now : PairTold) (lanes lanes_now : List (Lane L)) (short : Bool) →
-        IsNew before → p.turns ≡ [] → IsPrefix opened p.seen → (round : IsRound l IsMoment r p q before now lanes lanes_now short) →
-        OverLanes q.seen (record { told = now; turns = q.turns; wanting = short }) lanes round.course round.end
-    served_over p q before now lanes lanes_now short new none begins round =
+    pub served_over : (p q : DeskPass) (before now : PairTold) (lanes lanes_now : List (Lane L)) (known read read_now : ℕ) (short : Bool) → known ≤ read →
+        IsNew before → p.turns ≡ [] → IsPrefix opened p.seen → (round : IsRound l IsMoment r p q before now lanes lanes_now read read_now short) →
+        OverLanes known q.seen (record { told = now; turns = q.turns; wanting = short }) lanes round.course round.end
+    served_over p q before now lanes lanes_now known read read_now short few new none begins round =
         let took = took_some (talk_of before) (talk_of now) lanes round.course round.end round.ends in
         let was : talk_of before ≡ talk_of (as_new now) = λ i. record { tape = tape_new before.tape now.tape new.untaken round.whole i; held = held_new before.held now.held took.0 new.unput took.1 i } in record {
           ends = subst (λ (t : Talked). EndsSo l IsMoment r t (talk_of now) lanes round.course round.end) was round.ends;
           causes = subst (λ (n : ℕ). HasCauses n now.read_faults 0 now.write_faults round.end) new.unread
               (subst (λ (n : ℕ). HasCauses before.read_faults now.read_faults n now.write_faults round.end) new.unwritten round.causes);
-          from = p.seen;
-          begins = begins;
+          from = round.from;
+          begins = prefix_on opened p.seen round.from begins round.start;
+          since = λ e. let s = round.since e in omega (arith, few, s);
           along = round.along;
           turns = subst (λ (ts : List (Noted Turn)). AllZip IsNotedAs ts (calls_of round.course.steps)) (sym (round.turns ∙ ap (λ (ts : List (Noted Turn)). ts ++ round.noted) none)) round.are;
           meters = round.meters;
@@ -206,10 +226,10 @@ module _ {L : Type 0} (l : links.Ghosts L) (IsMoment : ℕ → Type 0) (r : Rost
         }
 
     -- over the lanes of its worker
-    pub served_of : (workers : List (List (Lane L))) (p q : DeskPass) (before now : PairTold) (lanes lanes_now : List (Lane L)) (short : Bool) →
-        IsNew before → p.turns ≡ [] → IsPrefix opened p.seen → AreOwn l IsMoment r opened workers lanes → IsRound l IsMoment r p q before now lanes lanes_now short →
+    pub served_of : (workers : List (List (Lane L))) (p q : DeskPass) (before now : PairTold) (lanes lanes_now : List (Lane L)) (read read_now : ℕ) (short : Bool) →
+        IsNew before → p.turns ≡ [] → IsPrefix opened p.seen → AreOwn l IsMoment r opened workers lanes read → IsRound l IsMoment r p q before now lanes lanes_now read read_now short →
         IsServed l IsMoment r opened workers q.seen (record { told = now; turns = q.turns; wanting = short })
-    served_of workers p q before now lanes lanes_now short new none begins own round = record {
+    served_of workers p q before now lanes lanes_now read read_now short new none begins own round = record {
       worker = own.worker;
       came_with = own.came_with;
       is_worker = own.is_worker;
@@ -218,26 +238,28 @@ module _ {L : Type 0} (l : links.Ghosts L) (IsMoment : ℕ → Type 0) (r : Rost
       are_left = own.are_left;
       course = round.course;
       end = round.end;
-      served = served_over p q before now lanes lanes_now short new none begins round;
+      served = served_over p q before now lanes lanes_now (shown_by 0 own.earlier) read read_now short own.shown new none begins round;
     }
 
-    over_more : (lanes mid now : List (Lane L)) (cs : List (Connection L)) (c : Connection L) → AreServedOver l IsMoment r opened lanes cs mid → IsLegal (desk_terms r).day c.seen →
-        OverLanes c.seen c.pair mid c.course c.end → now ≡ c.course.lanes → AreServedOver l IsMoment r opened lanes (cs ++ c ∷ []) now
-    over_more lanes mid now [] c are legal over is = (legal, subst (λ (ls : List (Lane L)). OverLanes c.seen c.pair ls c.course c.end) are over, is)
-    over_more lanes mid now (d ∷ cs) c are legal over is = (are.0, are.1, over_more d.course.lanes mid now cs c are.2 legal over is)
+    over_more : (known : ℕ) (lanes mid now : List (Lane L)) (cs : List (Connection L)) (c : Connection L) → AreServedOver l IsMoment r opened known lanes cs mid → IsLegal (desk_terms r).day c.seen →
+        OverLanes (shown_by known cs) c.seen c.pair mid c.course c.end → now ≡ c.course.lanes → AreServedOver l IsMoment r opened known lanes (cs ++ c ∷ []) now
+    over_more known lanes mid now [] c are legal over is = (legal, subst (λ (ls : List (Lane L)). OverLanes known c.seen c.pair ls c.course c.end) are over, is)
+    over_more known lanes mid now (d ∷ cs) c are legal over is = (are.0, are.1, over_more (shown_after known d) d.course.lanes mid now cs c are.2 legal over is)
 
     -- the lanes that a round leaves are still of that worker
-    pub own_on : (workers : List (List (Lane L))) (p q : DeskPass) (before now : PairTold) (lanes lanes_now : List (Lane L)) (short : Bool) → IsNew before → p.turns ≡ [] → IsPrefix opened p.seen →
-        AreLanes r lanes_now → AreOwn l IsMoment r opened workers lanes → IsRound l IsMoment r p q before now lanes lanes_now short → AreOwn l IsMoment r opened workers lanes_now
-    own_on workers p q before now lanes lanes_now short new none begins are own round =
+    pub own_on : (workers : List (List (Lane L))) (p q : DeskPass) (before now : PairTold) (lanes lanes_now : List (Lane L)) (read read_now : ℕ) (short : Bool) → IsNew before → p.turns ≡ [] → IsPrefix opened p.seen →
+        AreLanes r lanes_now → AreOwn l IsMoment r opened workers lanes read → IsRound l IsMoment r p q before now lanes lanes_now read read_now short → AreOwn l IsMoment r opened workers lanes_now read_now
+    own_on workers p q before now lanes lanes_now read read_now short new none begins are own round =
         let pair : ServedPair Turn = record { told = now; turns = q.turns; wanting = short } in
-        let c : Connection L = record { pair = pair; seen = q.seen; course = round.course; end = round.end } in record {
+        let c : Connection L = record { pair = pair; seen = q.seen; course = round.course; end = round.end } in
+        let over = served_over p q before now lanes lanes_now (shown_by 0 own.earlier) read read_now short own.shown new none begins round in record {
           are = are;
           worker = own.worker;
           came_with = own.came_with;
           is_worker = own.is_worker;
           earlier = own.earlier ++ c ∷ [];
-          are_left = over_more own.came_with lanes lanes_now own.earlier c own.are_left round.legal (served_over p q before now lanes lanes_now short new none begins round) round.lanes_are;
+          are_left = over_more 0 own.came_with lanes lanes_now own.earlier c own.are_left round.legal over round.lanes_are;
+          shown = subst (λ (n : ℕ). n ≤ read_now) (sym (shown_more 0 own.earlier c)) (shown_few (shown_by 0 own.earlier) read read_now c own.shown round.no_fewer round.shown);
         }
 
     -- a pair that was served stays so in a history that goes on
@@ -257,6 +279,7 @@ module _ {L : Type 0} (l : links.Ghosts L) (IsMoment : ℕ → Type 0) (r : Rost
             causes = over.causes;
             from = over.from;
             begins = over.begins;
+            since = over.since;
             along = steps_longer (desk_terms r) over.from history more served.course.steps over.along p;
             turns = over.turns;
             meters = λ e. meters_longer history more (meters_read served.course.steps) (length over.from) p (over.meters e);

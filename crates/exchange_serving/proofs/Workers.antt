@@ -1,5 +1,5 @@
 -- Which lanes are whose, and what a round leaves of a worker.
-use Rattle.std.proofs.Common.{◌≡◌, ℕ, List, [], ◌∷◌, ◌++◌, length, slice_get, All, Bool, false, Option, Some, Vec, refl, sym, ap, ◌∙◌, subst, append_assoc, option_to_list}
+use Rattle.std.proofs.Common.{◌≡◌, ℕ, List, [], ◌∷◌, ◌++◌, length, slice_get, All, Bool, false, Option, Some, Vec, refl, sym, ap, ◌∙◌, subst, append_assoc, option_to_list, arith}
 use Rattle.std.proofs.Common.{Global}
 use Rattle.std.proofs.lemmas.List.{map-append}
 use Rattle.std.proofs.lemmas.List.Elements.{All-pop}
@@ -41,47 +41,48 @@ module _ {L : Type 0} (l : links.Ghosts L) (IsMoment : ℕ → Type 0) (r : Rost
       All-pop (AreLanes r) (lists_of before) (lists_of left) (Some v.items) (ap lists_of is ∙ map-append (λ (v : Vec (Lane L) Global). v.items) left (v ∷ [])) all
 
   -- the last list is one worker's
-  pub popped_own : (opened : List Entry) (before left : List (Vec (Lane L) Global)) (v : Vec (Lane L) Global) → before ≡ left ++ v ∷ [] → IsPrefix (lists_of before) workers → All (AreLanes r) (lists_of before) →
-      AreOwn l IsMoment r opened workers v.items
-  popped_own opened before left v is p all = record {
+  pub popped_own : (opened : List Entry) (known : ℕ) (before left : List (Vec (Lane L) Global)) (v : Vec (Lane L) Global) → before ≡ left ++ v ∷ [] → IsPrefix (lists_of before) workers → All (AreLanes r) (lists_of before) →
+      AreOwn l IsMoment r opened workers v.items known
+  popped_own opened known before left v is p all = record {
     are = (popped_lanes before left v is all).1;
     worker = length (lists_of left);
     came_with = v.items;
     is_worker = at_end (lists_of left) workers v.items (subst (λ (ls : List (List (Lane L))). IsPrefix ls workers) (ap lists_of is ∙ map-append (λ (v : Vec (Lane L) Global). v.items) left (v ∷ [])) p);
     earlier = [];
     are_left = refl;
+    shown = omega arith;
   }
 
 module _ {L : Type 0} (l : links.Ghosts L) (told moment : Option ℕ) (roster : Option Roster) (workers : List (List (Lane L))) (first : DeskPass) (book : Book) (desk : TurnstileState OpenedWith) (r : Roster) where
-  abbrev pub Works : Book → List (Lane L) → Type 0
-  Works read lanes = IsWorker l told moment roster workers first book read desk r lanes
+  abbrev pub Works : Book → ℕ → List (Lane L) → Type 0
+  Works read known lanes = IsWorker l told moment roster workers first book read known desk r lanes
 
   -- the pass of a round is one of the desk
-  pub fresh_of : (read : Book) (lanes : List (Lane L)) (p : DeskPass) → Works read lanes → IsFresh first p → IsOf p desk
-  fresh_of read lanes p w fresh = (fresh.turnstile ∙ w.of.0, fresh.fixed ∙ w.of.1)
+  pub fresh_of : (read : Book) (known : ℕ) (lanes : List (Lane L)) (p : DeskPass) → Works read known lanes → IsFresh first p → IsOf p desk
+  fresh_of read known lanes p w fresh = (fresh.turnstile ∙ w.of.0, fresh.fixed ∙ w.of.1)
 
-  module _ (read read_now : Book) (lanes lanes_now : List (Lane L)) (p q : DeskPass) (before now : PairTold) (short : Bool) where
+  module _ (read read_now : Book) (known known_now : ℕ) (lanes lanes_now : List (Lane L)) (p q : DeskPass) (before now : PairTold) (short : Bool) where
     abbrev pub Round : Type 0
-    Round = IsRound l (IsMomentOf moment) r p q before now lanes lanes_now short
+    Round = IsRound l (IsMomentOf moment) r p q before now lanes lanes_now known known_now short
 
-    told_round : Works read lanes → Round → IsRound l (IsMomentOf told) r p q before now lanes lanes_now short
-    told_round w round = subst (λ (m : Option ℕ). IsRound l (IsMomentOf m) r p q before now lanes lanes_now short) w.moment_is round
+    told_round : Works read known lanes → Round → IsRound l (IsMomentOf told) r p q before now lanes lanes_now known known_now short
+    told_round w round = subst (λ (m : Option ℕ). IsRound l (IsMomentOf m) r p q before now lanes lanes_now known known_now short) w.moment_is round
 
     -- the pair was served in the day
-    pub served_in : Works read lanes → IsFresh first p → IsNew before → Round →
+    pub served_in : Works read known lanes → IsFresh first p → IsNew before → Round →
         IsServedIn l told roster workers first.seen q.seen (record { told = now; turns = q.turns; wanting = short })
     served_in w fresh new round =
-        (r, w.roster_is, served_of l (IsMomentOf told) r first.seen workers p q before now lanes lanes_now short new fresh.none fresh.begins w.own (told_round w round))
+        (r, w.roster_is, served_of l (IsMomentOf told) r first.seen workers p q before now lanes lanes_now known known_now short new fresh.none fresh.begins w.own (told_round w round))
 
     -- the worker is one still
-    pub works_on : Works read lanes → IsFresh first p → IsNew before → AreLanes r lanes_now → read_now ≡ book → Round → Works read_now lanes_now
+    pub works_on : Works read known lanes → IsFresh first p → IsNew before → AreLanes r lanes_now → read_now ≡ book → Round → Works read_now known_now lanes_now
     works_on w fresh new are named round = record {
       of = w.of;
       opened = w.opened;
       roster_is = w.roster_is;
       moment_is = w.moment_is;
       named = named;
-      own = own_on l (IsMomentOf told) r first.seen workers p q before now lanes lanes_now short new fresh.none fresh.begins are w.own (told_round w round);
+      own = own_on l (IsMomentOf told) r first.seen workers p q before now lanes lanes_now known known_now short new fresh.none fresh.begins are w.own (told_round w round);
     }
 
     -- and the pass is of the desk still

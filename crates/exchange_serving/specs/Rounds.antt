@@ -1,6 +1,7 @@
 -- Private, cited by a worker alone: its rounds.
-use Rattle.std.specs.Prelude.{◌≡◌, ℕ, List, ◌++◌, length, Bool, true, false, Option, Some, option_map, slice_get}
+use Rattle.std.specs.Prelude.{◌≡◌, ℕ, ◌≤◌, List, ◌++◌, length, Bool, true, false, Option, Some, option_map, slice_get}
 use Rattle.std.specs.List.{AllZip}
+use mathlib.Core.List.{IsPrefix}
 use Rattle.logbook.specs.Pages.{Book}
 use Rattle.adx_io.specs.Streams.{Tape}
 use Rattle.adx_links.specs.declared.link.Link as links
@@ -24,7 +25,7 @@ use Rattle.shared_desk.specs.Passes.{IsNotedAs}
 use Rattle.shared_desk.specs.Callers.{DeskPass}
 use Rattle.turnstile.specs.Passes.{IsOf, IsSamePass, TurnstileState}
 use Rattle.turnstile.specs.declared.noted.Noted.{Noted}
-use Rattle.exchange_serving.specs.Served.{AreMetersIn, AreServedOver, Connection, IsServed, talk_of}
+use Rattle.exchange_serving.specs.Served.{AreMetersIn, AreServedOver, Connection, IsServed, shown_by, talk_of}
 
 -- all bytes of a tape, where it is told
 abbrev pub bytes_of : Option Tape → Option (List ℕ)
@@ -50,9 +51,10 @@ abbrev pub IsServedIn : {L : Type 0} → links.Ghosts L → Option ℕ → Optio
 IsServedIn l moment roster workers opened history s =
     (r : Roster) × (roster ≡ Some r) × IsServed l (IsMomentOf moment) r opened workers history s
 
--- One round: a connection was served, by a pass that was p and became q, over a pair that told so before and now.
+-- One round: a connection was served, by a pass that was p and became q, over a pair that told so before and now, between
+-- two looks at the meters: a reader that had been shown so many entries has been shown so many now.
 pub record IsRound {L : Type 0} (l : links.Ghosts L) (IsMoment : ℕ → Type 0) (r : Roster) (p q : DeskPass) (before now : PairTold)
-    (lanes lanes_now : List (Lane L)) (short : Bool) : Type 0 where
+    (lanes lanes_now : List (Lane L)) (known known_now : ℕ) (short : Bool) : Type 0 where
   pub course : Course L
   pub end : ConnEnd
   pub lanes_are : lanes_now ≡ course.lanes
@@ -64,26 +66,32 @@ pub record IsRound {L : Type 0} (l : links.Ghosts L) (IsMoment : ℕ → Type 0)
   pub noted : List (Noted Turn)
   pub turns : q.turns ≡ p.turns ++ noted
   pub are : AllZip IsNotedAs noted (calls_of course.steps)
-  pub along : AreSteps shared (desk_terms r) p.seen course.steps q.seen
-  pub meters : short ≡ false → AreMetersIn q.seen (length p.seen) (meters_read course.steps)
+  pub from : List Entry
+  pub start : IsPrefix p.seen from
+  pub since : short ≡ false → known ≤ length from
+  pub along : AreSteps shared (desk_terms r) from course.steps q.seen
+  pub meters : short ≡ false → AreMetersIn q.seen (length from) (meters_read course.steps)
+  pub shown : short ≡ false → known_now ≡ length q.seen
+  pub no_fewer : known ≤ known_now
   pub wanting : end ≡ ConnEnd.OutOfMemory → short ≡ true
 
--- the lanes of one of these workers, once connections were served over them
+-- the lanes of one of these workers, once connections were served over them and it has been shown so many entries
 pub record AreOwn {L : Type 0} (l : links.Ghosts L) (IsMoment : ℕ → Type 0) (r : Roster) (opened : List Entry) (workers : List (List (Lane L)))
-    (lanes : List (Lane L)) : Type 0 where
+    (lanes : List (Lane L)) (known : ℕ) : Type 0 where
   pub are : AreLanes r lanes
   pub worker : ℕ
   pub came_with : List (Lane L)
   pub is_worker : slice_get workers worker ≡ Some came_with
   pub earlier : List (Connection L)
-  pub are_left : AreServedOver l IsMoment r opened came_with earlier lanes
+  pub are_left : AreServedOver l IsMoment r opened 0 came_with earlier lanes
+  pub shown : shown_by 0 earlier ≤ known
 
 -- what a worker keeps over its rounds
 pub record IsWorker {L : Type 0} (l : links.Ghosts L) (moment_told moment : Option ℕ) (roster : Option Roster) (workers : List (List (Lane L)))
-    (first : DeskPass) (book read : Book) (desk : TurnstileState OpenedWith) (r : Roster) (lanes : List (Lane L)) : Type 0 where
+    (first : DeskPass) (book read : Book) (known : ℕ) (desk : TurnstileState OpenedWith) (r : Roster) (lanes : List (Lane L)) : Type 0 where
   pub of : IsOf first desk
   pub opened : terms_in desk.fixed ≡ desk_terms r
   pub roster_is : roster ≡ Some r
   pub moment_is : moment ≡ moment_told
   pub named : read ≡ book
-  pub own : AreOwn l (IsMomentOf moment_told) r first.seen workers lanes
+  pub own : AreOwn l (IsMomentOf moment_told) r first.seen workers lanes known

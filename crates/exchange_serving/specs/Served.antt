@@ -2,7 +2,7 @@
 -- Example: two connections of one bill each, of different awards, opened at a history of one ask: there are two
 -- rows, each with one turn; the history has three entries, and which bill stands first is by the order of the
 -- turns.
-use Rattle.std.specs.Prelude.{◌≡◌, ◌≢◌, ◌⊎◌, ℕ, ◌<◌, ◌≤◌, List, [], ◌∷◌, ◌++◌, length, map, take, All, true, false, Some, IfSome, option_map, slice_get}
+use Rattle.std.specs.Prelude.{◌≡◌, ◌≢◌, ◌⊎◌, ℕ, ◌<◌, ◌≤◌, List, [], ◌∷◌, ◌++◌, length, map, take, All, true, false, Some, IfSome, if◌then◌else◌, option_map, slice_get}
 use Rattle.std.specs.List.{AllZip, flat_map}
 use mathlib.Core.List.{IsPrefix}
 use Rattle.adx_io.specs.Streams.{Rises, Tape}
@@ -68,15 +68,29 @@ pub record Connection (L : Type 0) : Type 0 where
   pub course : Course L
   pub end : ConnEnd
 
+-- How many entries a worker was shown the meters of once it has served a connection: all that were seen behind it, unless
+-- memory was wanting for it.
+-- Example: behind connections that ended at 5 entries, at 7, and at 9 with memory wanting, it was shown 7.
+abbrev pub shown_after : {L : Type 0} → ℕ → Connection L → ℕ
+shown_after known c = if c.pair.wanting then known else length c.seen
+
+-- the same of one connection behind another
+abbrev pub shown_by : {L : Type 0} → ℕ → List (Connection L) → ℕ
+shown_by known [] = known
+shown_by known (c ∷ cs) = shown_by (shown_after known c) cs
+
 module _ {L : Type 0} (l : links.Ghosts L) (IsMoment : ℕ → Type 0) (r : Roster) (opened : List Entry) where
-  -- A pair was served over these lanes, on a desk whose history began with `opened` and was `history` behind it.
-  pub record IsServedOver (history : List Entry) (s : ServedPair Turn) (lanes : List (Lane L)) (course : Course L) (end : ConnEnd) : Type 0 where
+  -- A pair was served over these lanes, on a desk whose history began with `opened` and was `history` behind it, by a worker
+  -- that had been shown the meters of so many entries.
+  pub record IsServedOver (known : ℕ) (history : List Entry) (s : ServedPair Turn) (lanes : List (Lane L)) (course : Course L) (end : ConnEnd) : Type 0 where
     -- which messages its source brought, what its sink took for them by its steps, and why no more were read
     pub ends : EndsSo l IsMoment r (talk_of (as_new s.told)) (talk_of s.told) lanes course end
     pub causes : HasCauses 0 s.told.read_faults 0 s.told.write_faults end
-    -- its steps were made on histories that go on, each from the one before
+    -- its steps were made on histories that go on, each from the one before; the first is no shorter than what its worker
+    -- had been shown
     pub from : List Entry
     pub begins : IsPrefix opened from
+    pub since : s.wanting ≡ false → known ≤ length from
     pub along : AreSteps shared (desk_terms r) from course.steps history
     -- its turns are the calls among them
     pub turns : AllZip IsNotedAs s.turns (calls_of course.steps)
@@ -85,12 +99,14 @@ module _ {L : Type 0} (l : links.Ghosts L) (IsMoment : ℕ → Type 0) (r : Rost
     -- it is told where memory was wanting for it
     pub wanting : end ≡ ConnEnd.OutOfMemory → s.wanting ≡ true
 
-  -- Connections were served over lanes, one behind another: each over those that the one before it left, and each on a legal
+  -- Connections were served over lanes by a worker that had been shown so many entries, one behind another: each over those
+  -- lanes that the one before it left, from a history no shorter than what the worker was shown then, and each on a legal
   -- history of the day.
-  abbrev pub AreServedOver : List (Lane L) → List (Connection L) → List (Lane L) → Type 0
-  AreServedOver lanes [] now = now ≡ lanes
-  AreServedOver lanes (c ∷ cs) now =
-      IsLegal (desk_terms r).day c.seen × IsServedOver c.seen c.pair lanes c.course c.end × AreServedOver c.course.lanes cs now
+  abbrev pub AreServedOver : ℕ → List (Lane L) → List (Connection L) → List (Lane L) → Type 0
+  AreServedOver known lanes [] now = now ≡ lanes
+  AreServedOver known lanes (c ∷ cs) now =
+      IsLegal (desk_terms r).day c.seen × IsServedOver known c.seen c.pair lanes c.course c.end
+      × AreServedOver (shown_after known c) c.course.lanes cs now
 
   -- A pair was served by one of the workers, each of whom came with lanes of its own: over those that its connections
   -- before it left.
@@ -100,10 +116,10 @@ module _ {L : Type 0} (l : links.Ghosts L) (IsMoment : ℕ → Type 0) (r : Rost
     pub is_worker : slice_get workers worker ≡ Some came_with
     pub earlier : List (Connection L)
     pub lanes : List (Lane L)
-    pub are_left : AreServedOver came_with earlier lanes
+    pub are_left : AreServedOver 0 came_with earlier lanes
     pub course : Course L
     pub end : ConnEnd
-    pub served : IsServedOver history s lanes course end
+    pub served : IsServedOver (shown_by 0 earlier) history s lanes course end
 
 -- all turns of these pairs, one pair's behind another's
 abbrev pub turns_in : List (ServedPair Turn) → List (Noted Turn)

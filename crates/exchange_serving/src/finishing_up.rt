@@ -81,18 +81,21 @@ fn bring_up<D: Disk + Drop, L: Link + Drop>(desk: &Desk<D>, mail: &mut Mail<L>) 
     }
 }
 
-/// Brings the posts up to the desk's history, and gives up the desk. `short` says that memory was refused before.
+/// Brings the posts up to the desk's history, and gives up the desk. So many workers served; `short` says that memory was
+/// refused before.
 pub(crate) fn finish<A, D: Disk + Drop, L: Link + Drop>(
     desk: Desk<D>,
     mut mail: Mail<L>,
     acceptor: A,
     intake: Intake,
+    workers: usize,
     short: bool,
 ) -> Served<A, D, L>
     requires few { mail.outbox.followed ≤ length desk.desk.history }
     ensures posts { (history : List EntryValue) (link : L) → IsPrefix history desk.desk.history → HasTended L.Link history link mail
         → ArePosted L.Link desk.desk.history link result.post result.ending }
     ensures tells { Tells short intake desk.desk.faults result.ending }
+    ensures workers { result.workers ≡ workers }
     ensures acceptor { result.acceptor ≡ acceptor }
     ensures stands { desk.since.tells ≡ true → StandsOnDisk (D.may_leave result.disk) desk.desk }
     ensures within { IsWithinRise desk.since.count desk.desk.faults (D.faults result.disk) }
@@ -105,6 +108,7 @@ pub(crate) fn finish<A, D: Disk + Drop, L: Link + Drop>(
     let Mail { outbox: _, link } = mail;
     Served {
         ending,
+        workers,
         acceptor,
         disk: desk.close(),
         post: link,

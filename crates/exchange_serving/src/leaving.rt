@@ -9,6 +9,8 @@ use fan_out::Lane;
 pub struct Served<A, D, L> {
     /// How it ended.
     pub ending: Ending,
+    /// How many workers shared the lobby: one for each list of lanes, or none where memory was refused for them.
+    pub workers: usize,
     /// The acceptor, which has every pair back that it gave out.
     pub acceptor: A,
     /// The desk's disk.

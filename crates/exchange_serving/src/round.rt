@@ -1,10 +1,10 @@
 //! One round of a worker: a connection between two looks at the board.
-ghost use Rattle.std.specs.Prelude.{◌≡◌};
+ghost use Rattle.std.specs.Prelude.{◌≡◌, length};
 ghost use Rattle.adx_links.specs.Told.{pair_by};
 ghost use Rattle.adx_desk.specs.Rosters.{desk_terms};
 ghost use Rattle.adx_desk.specs.Shared.{terms_in};
 ghost use Rattle.exchange_messages.specs.Floors.{AreLanes, IsMomentOf};
-ghost use Rattle.meter_board.specs.Words.{list_read};
+ghost use Rattle.meter_board.specs.Words.{list_read, seen};
 ghost use Rattle.turnstile.specs.Passes.{IsOf};
 ghost use Rattle.exchange_serving.specs.Rounds.{IsRound, is_out_of_memory};
 
@@ -76,7 +76,8 @@ pub(crate) fn serve_pair<
     requires reader { list_read reader.old ≡ J.book }
     requires ready { G.ready gather.now }
     ensures round { IsRound L.Link (IsMomentOf (C.moment clock.entry.now)) roster.entry.now pass.old pass.new
-        (pair_by S.Source K.Sink pair.old) (pair_by S.Source K.Sink pair.new) lanes.old.items lanes.new.items result }
+        (pair_by S.Source K.Sink pair.old) (pair_by S.Source K.Sink pair.new) lanes.old.items lanes.new.items
+        (length (seen reader.old)) (length (seen reader.new)) result }
     ensures lanes { AreLanes roster.entry.now lanes.new.items }
     ensures reader { list_read reader.new ≡ J.book }
 {

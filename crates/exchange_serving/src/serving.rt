@@ -1,5 +1,5 @@
 //! All connections of an acceptor on one desk, from the desk as it was opened to its disk.
-ghost use Rattle.std.specs.Prelude.{◌≡◌, ◌≤◌, [], true, All, IfErr, IfOk, IfSome, Some, length};
+ghost use Rattle.std.specs.Prelude.{◌≡◌, ◌≢◌, ◌≤◌, [], true, false, All, IfErr, IfOk, IfSome, Some, length};
 ghost use Rattle.adx_links.specs.Told.{told_by};
 ghost use Rattle.adx_desk.specs.Desks.{OnDisk};
 ghost use Rattle.adx_desk.specs.Rosters.{desk_terms};
@@ -14,6 +14,7 @@ ghost use Rattle.exchange_serving.specs.Lanes.{lists_of};
 ghost use Rattle.exchange_serving.specs.Rounds.{IsServedIn};
 ghost use Rattle.exchange_serving.specs.Served.{ServesDay};
 ghost use Rattle.exchange_serving.specs.Unserved.{IsGivenBack, LeavesPost};
+ghost use Rattle.exchange_serving.specs.declared.ending.Ending.TheVariants.{OutOfMemory as WantsMemory};
 
 use crate::beginning::{Begun, Prepared, board_over, prepare, share};
 use crate::finishing_up::{close_desk, finish};
@@ -38,8 +39,8 @@ use std::sync::{Mutex, Wait};
 use std::thread::Threads;
 use turnstile::Pass;
 
-/// Lets a worker for each of the lists of lanes serve connections, each in a thread of its own, until none comes. None where
-/// acceptor and first pass are lost.
+/// Lets a worker for each of the lists of lanes serve connections, each in a thread of its own, until none comes. What is left,
+/// and how many workers there were; None where acceptor and first pass are lost.
 fn serve_by<
     'a,
     'b,
@@ -64,7 +65,7 @@ fn serve_by<
     lists: Vec<Vec<Lane<L>>>,
     readers: Vec<MeterReader>,
     gather: &'a G,
-) -> Option<Left<A, Desk<D>>>
+) -> Option<(Left<A, Desk<D>>, usize)>
     requires of { IsOf J.first desk.now }
     requires opened { terms_in desk.now.fixed ≡ desk_terms roster.now }
     requires roster { J.roster ≡ Some roster.now }
@@ -80,26 +81,36 @@ fn serve_by<
     requires faults { A.faults acceptor ≡ J.faults }
     requires none { IfSome (A.pairs acceptor) (λ t. (t.out ≡ []) × (t.back ≡ [])) }
     ensures left { IfSome result (λ l. AllServed (IsServedIn L.Link J.moment J.roster J.workers J.first.seen) J.first 2 J.faults
-        (told_by A.Acceptor A.In.Source A.Out.Sink l.acceptor) l.pass l.intake l.wanting) }
+        (told_by A.Acceptor A.In.Source A.Out.Sink l.0.acceptor) l.0.pass l.0.intake l.0.wanting) }
+    ensures many { IfSome result (λ l. l.0.wanting ≡ false → l.1 ≡ length lists.items) }
 {
     let made = workers_of::<R, D, L, C, G, J>(
         alloc, roster, desk, clock, board, mail, due, lists, readers, gather,
     );
     match made {
-        Ok(workers) => serve_all::<R, A, Desk<D>, Day<L, J>, DayWorker<'a, 'b, R, D, L, C, G, J>>(
-            rt,
-            alloc,
-            desk.turnstile(),
-            acceptor,
-            first,
-            workers,
-        ),
-        Err(_) => Some(Left {
-            acceptor,
-            pass: first,
-            intake: Intake::Open,
-            wanting: true,
-        }),
+        Ok(workers) => {
+            let many = workers.as_slice().len();
+            match serve_all::<R, A, Desk<D>, Day<L, J>, DayWorker<'a, 'b, R, D, L, C, G, J>>(
+                rt,
+                alloc,
+                desk.turnstile(),
+                acceptor,
+                first,
+                workers,
+            ) {
+                Some(left) => Some((left, many)),
+                None => None,
+            }
+        }
+        Err(_) => {
+            let left = Left {
+                acceptor,
+                pass: first,
+                intake: Intake::Open,
+                wanting: true,
+            };
+            Some((left, 0))
+        }
     }
 }
 
@@ -148,7 +159,8 @@ fn serve_shared_desk<
         IfOk result (λ s. ServesDay D.Disk L.Link (IsMomentOf (C.moment clock.entry.now)) roster.entry.now
         (lists_of lists.items) opened s.disk (told_by A.Acceptor A.In.Source A.Out.Sink acceptor)
         (told_by A.Acceptor A.In.Source A.Out.Sink s.acceptor) mail.link s.post s.ending) }
-    ensures lost { IfErr result (LeavesPost L.Link roster.entry.now mail.link) }
+    ensures workers { IfOk result (λ s. s.ending ≢ WantsMemory → s.workers ≡ length lists.items) }
+    ensures lost { IfErr result (LeavesPost L.Link roster.entry.now first.seen mail.link) }
 {
     let boards = Mutex::new(SharedBoard::<&R, D, Day<L, J>>::open(board));
     let mails = Mutex::new(Mailroom::<D, L, Day<L, J>>::open(mail, mail_pass));
@@ -161,7 +173,8 @@ fn serve_shared_desk<
         rt, alloc, roster, &shared, clock, &boards, &mails, &due, acceptor, first, lists, readers,
         &gather,
     ) {
-        Some(left) => {
+        Some(ran) => {
+            let (left, workers) = ran;
             let Left {
                 acceptor,
                 pass,
@@ -171,7 +184,7 @@ fn serve_shared_desk<
             let (mail, mail_pass) = mails.into_inner().leave();
             let board_pass = boards.into_inner().into_pass();
             let desk = close_desk(shared, pass, board_pass, mail_pass);
-            Ok(finish(desk, mail, acceptor, intake, wanting))
+            Ok(finish(desk, mail, acceptor, intake, workers, wanting))
         }
         None => {
             let (rest, rest_pass) = mails.into_inner().leave();
@@ -218,6 +231,7 @@ pub fn serve_connections<
         roster.entry.now (lists_of lanes.items) desk s.disk
         (told_by A.Acceptor A.In.Source A.Out.Sink acceptor)
         (told_by A.Acceptor A.In.Source A.Out.Sink s.acceptor) post s.post s.ending) }
+    ensures workers { IfOk result (λ s. s.ending ≢ WantsMemory → s.workers ≡ length lanes.items) }
     ensures unserved { IfErr result (IsGivenBack L.Link roster.entry.now desk acceptor lanes post) }
 {
     let count = count_of(lanes.as_slice());

@@ -63,9 +63,9 @@ pub(crate) struct DayWorker<
 
 impl<'a, 'b, R: Wait, D: Disk + Drop, L: Link, C: Clock, G: Gathers<L>, J: DayNames<L>> Model
     for DayWorker<'a, 'b, R, D, L, C, G, J> {
-    ghost use Rattle.std.specs.Prelude.{List};
+    ghost use Rattle.std.specs.Prelude.{List, length};
     ghost use Rattle.fan_out.specs.declared.lane.Lane.{Lane};
-    ghost use Rattle.meter_board.specs.Words.{list_read};
+    ghost use Rattle.meter_board.specs.Words.{list_read, seen};
     ghost use Rattle.exchange_serving.specs.Rounds.{IsWorker};
 
     ghost Value = { List (Lane L) };
@@ -73,7 +73,7 @@ impl<'a, 'b, R: Wait, D: Disk + Drop, L: Link, C: Clock, G: Gathers<L>, J: DayNa
     ghost view = { λ w. w.lanes.items };
 
     ghost invariant = { λ w. IsWorker L.Link J.moment (C.moment w.clock.now) J.roster J.workers J.first J.book
-        (list_read w.reader) w.desk.now w.roster.now w.lanes.items
+        (list_read w.reader) (length (seen w.reader)) w.desk.now w.roster.now w.lanes.items
         × G.ready w.gather.now };
 }
 
@@ -167,6 +167,7 @@ pub(crate) fn workers_of<
     requires lanes { All (AreLanes roster.now) (lists_of lists.items) }
     requires readers { All (λ r. list_read r ≡ J.book) readers.items }
     requires ready { G.ready gather.now }
+    ensures many { IfOk result (λ workers. length workers.items ≡ length lists.items) }
 {
     let mut workers = Vec::new(alloc);
     'lists: while let Some(lanes) = lists.pop() {

@@ -1,5 +1,6 @@
-use Rattle.std.proofs.Common.{refl, sym, subst}
+use Rattle.std.proofs.Common.{List, refl, sym, subst}
 use Rattle.adx_links.specs.Told.{told_by}
+use Rattle.day_rules.specs.declared.entry.Entry.{Entry}
 use Rattle.exchange_messages.specs.Floors.{IsMomentOf}
 use Rattle.exchange_serving.specs.Lanes.{lists_of}
 use Rattle.exchange_serving.specs.Served.{ServesDay}
@@ -21,7 +22,9 @@ returns-in-Ok-serve_shared_desk-clause-serves g c =
 
 pub returns-in-Err-serve_shared_desk-clause-unserved : goal.returns-in-Err-serve_shared_desk-clause-unserved
 returns-in-Err-serve_shared_desk-clause-unserved g c =
-    subst (λ (k : g.row.L.Denot). LeavesPost g.L.Link c.args.roster.now k c.in-Err-serve_shared_desk.post) c.in-Ok.ensures.link c.in-Err-serve_shared_desk.ensures.lost
+    let post = c.in-Err-serve_shared_desk.post in
+    subst (λ (k : g.row.L.Denot). LeavesPost g.L.Link c.args.roster.now c.args.desk.desk.history k post) c.in-Ok.ensures.link
+    (subst (λ (h : List Entry). LeavesPost g.L.Link c.args.roster.now h c.in-Ok.prepared.mail.link post) (sym c.in-Ok-share.ensures.begun.seen) c.in-Err-serve_shared_desk.ensures.lost)
 
 pub returns-in-Err-share-clause-unserved : goal.returns-in-Err-share-clause-unserved
 returns-in-Err-share-clause-unserved g c = (refl, refl, c.in-Ok.ensures.link)

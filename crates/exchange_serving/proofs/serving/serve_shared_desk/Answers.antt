@@ -1,6 +1,9 @@
-use Rattle.std.proofs.Common.{sym, ap, ◌∙◌}
+use Rattle.std.proofs.Common.{sym, ap, ◌∙◌, subst}
 use Rattle.adx_links.specs.Told.{told_by}
+use Rattle.shared_desk.specs.Callers.{DeskPass}
+use Rattle.exchange_serving.specs.Unserved.{LeavesPost}
 use Rattle.exchange_serving.proofs.Days.{begins_history, day_served, few_followed, leaves_post, left_named, posted_by}
+use Rattle.exchange_serving.proofs.Finished.{not_short}
 use Rattle.exchange_serving.proofs.serving.serve_shared_desk.Goals as goal
 
 pub open-requires-clause-named : goal.open-requires-clause-named
@@ -28,13 +31,13 @@ pub finish-requires : goal.finish-requires
 finish-requires g c = record {
   few =
       few_followed g.L.Link g.J.DayNames.link c.leave-mail.result.1.seen c.close_desk-desk.result.desk.history c.leave-mail.result.0 c.leave-mail.ensures.tended
-      (begins_history c.args.shared.fixed c.in-Some.left.pass c.into_pass-board_pass.result c.leave-mail.result.1 c.close_desk-desk.result.desk.history c.close_desk-desk.result.desk.faults c.close_desk-desk.ensures.closes);
+      (begins_history c.args.shared.fixed c.in-Some.ran.0.pass c.into_pass-board_pass.result c.leave-mail.result.1 c.close_desk-desk.result.desk.history c.close_desk-desk.result.desk.faults c.close_desk-desk.ensures.closes);
 }
 
 pub returns-in-Some-clause-serves : goal.returns-in-Some-clause-serves
 returns-in-Some-clause-serves g c = λ opened history opened_is.
     let told = told_by g.A.Acceptor g.A.In.Source g.A.Out.Sink in
-    let left = c.in-Some.left in let desk = c.close_desk-desk.result in let closed = c.close_desk-desk.ensures in let f = c.finish.ensures in let mail = c.leave-mail in
+    let left = c.in-Some.ran.0 in let desk = c.close_desk-desk.result in let closed = c.close_desk-desk.ensures in let f = c.finish.ensures in let mail = c.leave-mail in
     let front = begins_history c.args.shared.fixed left.pass c.into_pass-board_pass.result mail.result.1 desk.desk.history desk.desk.faults closed.closes in
     day_served g.L.Link g.D.Disk (g.C.Clock.moment c.args.clock.now) g.J.DayNames.roster c.args.roster.now _ c.args.first left.pass c.into_pass-board_pass.result mail.result.1 c.args.shared.fixed
     opened desk c.finish.result.disk (told c.args.acceptor) (told c.finish.result.acceptor) c.args.mail.link c.finish.result.post left.intake left.wanting c.finish.result.ending
@@ -47,5 +50,9 @@ returns-in-Some-clause-serves g c = λ opened history opened_is.
 pub returns-in-None-clause-lost : goal.returns-in-None-clause-lost
 returns-in-None-clause-lost g c =
     let rest = c.leave-rest in
-    leaves_post g.L.Link c.args.shared.fixed c.args.roster.now g.J.DayNames.link c.args.mail.link rest.result.1 rest.result.0
-    c.requires.opened c.requires.link c.recall.ensures.right rest.ensures.tended
+    subst (λ (p : DeskPass). LeavesPost g.L.Link c.args.roster.now p.seen c.args.mail.link rest.result.0.link) (sym c.requires.first)
+    (leaves_post g.L.Link c.args.shared.fixed c.args.roster.now g.J.DayNames.link c.args.mail.link g.J.DayNames.first rest.result.1 rest.result.0
+    c.requires.opened c.requires.link rest.ensures.idle c.recall.ensures.right rest.ensures.tended)
+
+pub returns-in-Some-clause-workers : goal.returns-in-Some-clause-workers
+returns-in-Some-clause-workers g c = λ some. c.finish.ensures.workers ∙ c.in-Some.ensures.many (not_short c.in-Some.ran.0.wanting c.finish.result.ending c.finish.ensures.tells.short_is some)
