@@ -81,9 +81,9 @@ all_grow (p ∷ ps) fates b [] now tried = absurd tried
 all_grow (p ∷ ps) fates b (o ∷ os) now (mid, one, rest) =
     grows_on b mid now (tries_grows (message_of p) (first_fate fates) b o mid one) (all_grow ps (fates_behind (message_of p) fates) mid os now rest)
 
-pub cut_grows : (back : List Post) (b : BidderState) (more : List Call) (now : BidderState) → IsCutShort back b more now → Grows b now
-cut_grows back b more now (inl (none, same)) = same_growth b now same
-cut_grows back b more now (inr (p, ps, c, is, message, one, valid, (ms, begin, carried))) = carried_grows ms b now carried
+pub cut_grows : (fate : Fate) (back : List Post) (b : BidderState) (more : List Call) (now : BidderState) → IsCutShort fate back b more now → Grows b now
+cut_grows fate back b more now (inl (none, same)) = same_growth b now same
+cut_grows fate back b more now (inr (p, ps, c, is, message, one, valid, heard, (ms, begin, carried))) = carried_grows ms b now carried
 
 -- ---- what was counted stays so
 

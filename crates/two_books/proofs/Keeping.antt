@@ -24,6 +24,7 @@ use Rattle.two_books.specs.Holding.{AreOfHistory, Holds, IsAsked, IsBilled, IsCh
 use Rattle.two_books.specs.Names.{IsNamed}
 use Rattle.two_books.specs.Steps.{AtExchange, IsAgain, StepsTo, Stops, StopsAgain, StopsPumping, Takes, due_posts}
 use Rattle.two_books.specs.Worlds.{IsNew, WorldState}
+use Rattle.two_books.specs.declared.step.Fate.{Fate}
 use Rattle.two_books.specs.declared.step.Step.{Step}
 use Rattle.two_books.proofs.Answered.{own_answer}
 use Rattle.two_books.proofs.Charges.{all_charged}
@@ -173,21 +174,21 @@ kept old new at posts h =
     (subst (λ (terms : Terms). IsDay terms (history_of new)) (sym at.exchange.terms) (subst (λ (t : List Entry). IsDay old.exchange.day.terms t) (sym at.exchange.history) h.day))
     tt posts h
 
-stopped : (old new : WorldState) → Holds old → StopsPumping old new → AreOfHistory new → Holds new
-stopped old new h p posts =
+stopped : (fates : List Fate) (old new : WorldState) → Holds old → StopsPumping fates old new → AreOfHistory new → Holds new
+stopped fates old new h p posts =
     let history : List Entry = history_of old in
     let both : All (IsAsked history) (p.front ++ p.back) = subst (λ (t : List Post). All (IsAsked history) t) (sym p.due) (some_due p.entries old.exchange h.posts.pending) in
     let between : IsBidderOf (line_of old) history p.between =
     all_tried (line_of old) history h.own (charges_of old h) p.front p.fates old.bidder p.outcomes p.between (front_of_all (IsAsked history) p.front p.back both) p.valid p.tried (bidder_of old h) in
     same_day old new p.day posts
-    (cut_short (line_of old) history h.own (charges_of old h) p.back p.between p.more new.bidder (back_of_all (IsAsked history) p.front p.back both) p.cut between) h
+    (cut_short (line_of old) history h.own (charges_of old h) _ p.back p.between p.more new.bidder (back_of_all (IsAsked history) p.front p.back both) p.cut between) h
 
 pub stops_hold : (s : Step) (old new : WorldState) → Holds old → Stops s old new → Holds new
 stops_hold (Step.Ask request now) old new h at = kept old new at (stops_all (Step.Ask request now) old new h.posts at) h
 stops_hold (Step.Notice kind n) old new h at = kept old new at (stops_all (Step.Notice kind n) old new h.posts at) h
 stops_hold (Step.Tick now) old new h at = kept old new at (stops_all (Step.Tick now) old new h.posts at) h
 stops_hold (Step.Budget campaign change budget) old new h at = kept old new at (stops_all (Step.Budget campaign change budget) old new h.posts at) h
-stops_hold (Step.Pump fates) old new h p = stopped old new h p (stops_all (Step.Pump fates) old new h.posts p)
+stops_hold (Step.Pump fates) old new h p = stopped fates old new h p (stops_all (Step.Pump fates) old new h.posts p)
 stops_hold (Step.Again n) old new h at = stops_again n (slice_get old.messages n) old new refl at (stops_all (Step.Again n) old new h.posts at) h
 stops_hold Step.RestartExchange old new h same = subst Holds (sym same) h
 stops_hold Step.RestartBidder old new h same = subst Holds (sym same) h

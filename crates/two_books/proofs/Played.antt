@@ -1,30 +1,36 @@
 -- Messages that are sent one after the other.
-use Rattle.std.proofs.Common.{◌≡◌, ℕ, zero, suc, List, [], ◌∷◌, ◌++◌, length, drop, take, ◌+◌, ◌<◌, ◌≤◌, get_or, refl, sym, ap, ◌∙◌, subst, append_assoc, append-nil, arith, length-append, All, Option, Some, None, Result, Ok, Err, inl, inr, ◌⊎◌}
+use Rattle.std.proofs.Common.{◌≡◌, ◌≢◌, ℕ, zero, suc, List, [], ◌∷◌, ◌++◌, length, drop, take, ◌+◌, ◌<◌, ◌≤◌, get_or, refl, sym, ap, ◌∙◌, subst, append_assoc, append-nil, arith, length-append, All, Option, Some, None, Result, Ok, Err, inl, inr, ◌⊎◌}
 use Rattle.std.specs.List.{cons_option, filter_map}
 use Rattle.std.specs.Prelude.{IfOk, IfSome}
 use Rattle.std.proofs.lemmas.List.Elements.{All-append, All-cons, All-nil, filter_map-append}
-use Rattle.adx_links.specs.declared.planned.Planned.{Planned}
 use Rattle.adx_units.specs.declared.memory.OutOfMemory.{OutOfMemory}
 use Rattle.bidder_core.specs.Seen.{BidderState}
 use Rattle.outbox.specs.Calls.{IsValidAs, call_of}
 use Rattle.outbox.specs.declared.calling.Call.{Call}
 use Rattle.outbox.specs.declared.post.Post.{Post}
-use Rattle.two_books.specs.Playing.{ArePlayed, PlaysAll, Meets, PlaysPost, Prepares, SendsMessage, unanswered}
+use Rattle.two_books.specs.Playing.{ArePlayed, PlaysAll, Meets, PlaysPost, Prepares, SendsMessage}
 use Rattle.two_books.specs.Delivering.{IsDelivered, StopsDelivering}
-use Rattle.two_books.proofs.Delivered.{nothing_heard, whole_in_part}
 use Rattle.two_books.specs.Steps.{IsCutShort}
 use Rattle.std.proofs.lemmas.List.{drop_more, take-append-drop, take_all, take_more}
 use Rattle.two_books.specs.Worlds.{IsSendable, message_of}
+use Rattle.two_books.specs.declared.replay.Reply.{Reply}
 use Rattle.two_books.specs.declared.step.Fate.{Fate}
 
 -- the fate behind the first is the next
-next_fate : (fates : List Fate) (n : ℕ) → get_or fates (suc n) Fate.Through ≡ get_or (drop 1 fates) n Fate.Through
+pub next_fate : (fates : List Fate) (n : ℕ) → get_or fates (suc n) Fate.Through ≡ get_or (drop 1 fates) n Fate.Through
 next_fate [] zero = refl
 next_fate [] (suc n) = refl
 next_fate (f ∷ fates) n = refl
 
+-- as many came back as were played
+pub played_length : (cs : List Call) (fates : List Fate) (plan : List Reply) (b now : BidderState) → ArePlayed cs fates b plan now → length plan ≡ length cs
+played_length [] fates [] b now played = refl
+played_length [] fates (q ∷ plan) b now played = absurd played
+played_length (d ∷ cs) fates [] b now played = absurd played
+played_length (d ∷ cs) fates (q ∷ plan) b now (mid, prepares, rest) = ap suc (played_length cs (drop 1 fates) plan mid now rest)
+
 -- one message more
-pub played_more : (cs : List Call) (fates : List Fate) (plan : List Planned) (c : Call) (p : Planned) (b mid now : BidderState)
+pub played_more : (cs : List Call) (fates : List Fate) (plan : List Reply) (c : Call) (p : Reply) (b mid now : BidderState)
     → ArePlayed cs fates b plan mid → Prepares (get_or fates (length plan) Fate.Through) c.request mid p now → ArePlayed (cs ++ c ∷ []) fates b (plan ++ p ∷ []) now
 played_more [] fates [] c p b mid now before one = (now, subst (λ (s : BidderState). Prepares (get_or fates 0 Fate.Through) c.request s p now) before one, refl)
 played_more [] fates (q ∷ plan) c p b mid now before one = absurd before
@@ -36,14 +42,14 @@ played_more (d ∷ cs) fates (q ∷ plan) c p b mid now before one = (
 )
 
 -- the messages of a front of posts were sent
-pub record Stands (front : List Post) (fates : List Fate) (old_sent new_sent : List Call) (plan : List Planned) (b now : BidderState) : Type 0 where
+pub record Stands (front : List Post) (fates : List Fate) (old_sent new_sent : List Call) (plan : List Reply) (b now : BidderState) : Type 0 where
   pub played : ArePlayed (filter_map message_of front) fates b plan now
   pub sent : new_sent ≡ old_sent ++ filter_map message_of front
   pub valid : All IsSendable front
 
-pub stands_first : (fates : List Fate) (sent : List Call) (plan : List Planned) (b : BidderState) → plan ≡ [] → Stands [] fates sent sent plan b b
+pub stands_first : (fates : List Fate) (sent : List Call) (plan : List Reply) (b : BidderState) → plan ≡ [] → Stands [] fates sent sent plan b b
 stands_first fates sent plan b none = record {
-  played = subst (λ (l : List Planned). ArePlayed [] fates b l b) (sym none) refl;
+  played = subst (λ (l : List Reply). ArePlayed [] fates b l b) (sym none) refl;
   sent = sym (append-nil sent);
   valid = All-nil IsSendable;
 }
@@ -65,7 +71,7 @@ messages_more front p o is =
     filter_map-append message_of front (p ∷ []) ∙ ap (λ (m : Option Call). filter_map message_of front ++ cons_option m []) is
 
 -- one post more
-pub stands_more : (front : List Post) (p : Post) (fates : List Fate) (sent sent_mid sent_now : List Call) (plan plan_now : List Planned) (b mid now : BidderState) (done : Unit {0})
+pub stands_more : (front : List Post) (p : Post) (fates : List Fate) (sent sent_mid sent_now : List Call) (plan plan_now : List Reply) (b mid now : BidderState) (done : Unit {0})
     → Stands front fates sent sent_mid plan b mid
     → PlaysPost p.url (message_of p) (get_or fates (length plan) Fate.Through) (Ok done) sent_mid sent_now plan plan_now mid now
     → Stands (front ++ p ∷ []) fates sent sent_now plan_now b now
@@ -77,7 +83,7 @@ stands_more front p fates sent sent_mid sent_now plan plan_now b mid now done be
         record {
           played =
               subst (λ (cs : List Call). ArePlayed cs fates b plan_now now) (sym all)
-              (subst (λ (l : List Planned). ArePlayed (filter_map message_of front) fates b l now) (sym kept)
+              (subst (λ (l : List Reply). ArePlayed (filter_map message_of front) fates b l now) (sym kept)
               (subst (λ (s : BidderState). ArePlayed (filter_map message_of front) fates b plan s) (sym still) before.played));
           sent = same ∙ (before.sent ∙ ap (λ (cs : List Call). sent ++ cs) (sym all));
           valid = All-append IsSendable front (p ∷ []) before.valid (All-cons IsSendable p [] (sendable p None is tt) (All-nil IsSendable));
@@ -87,7 +93,7 @@ stands_more front p fates sent sent_mid sent_now plan plan_now b mid now done be
         record {
           played =
               subst (λ (cs : List Call). ArePlayed cs fates b plan_now now) (sym all)
-              (subst (λ (l : List Planned). ArePlayed (filter_map message_of front ++ c ∷ []) fates b l now) (sym plan_is)
+              (subst (λ (l : List Reply). ArePlayed (filter_map message_of front ++ c ∷ []) fates b l now) (sym plan_is)
               (played_more (filter_map message_of front) fates plan c planned b mid now before.played prepares));
           sent =
               more
@@ -99,13 +105,20 @@ stands_more front p fates sent sent_mid sent_now plan plan_now b mid now done be
         }
 
 -- memory was wanting at a post
-pub stands_cut : (front : List Post) (p : Post) (back : List Post) (fates : List Fate) (sent sent_mid sent_now : List Call) (plan plan_now : List Planned) (b mid now : BidderState) (wanting : OutOfMemory)
+pub stands_cut : (front : List Post) (p : Post) (back : List Post) (fates : List Fate) (sent sent_mid sent_now : List Call) (plan plan_now : List Reply) (b mid now : BidderState) (wanting : OutOfMemory)
     → Stands front fates sent sent_mid plan b mid
     → PlaysPost p.url (message_of p) (get_or fates (length plan) Fate.Through) (Err wanting) sent_mid sent_now plan plan_now mid now
     → PlaysAll (front ++ p ∷ back) fates (Err wanting) sent sent_now plan_now b now
 stands_cut front p back fates sent sent_mid sent_now plan plan_now b mid now wanting before one = by (message_of p) refl one
   where
-    whole : (more : List Call) → plan_now ≡ plan → IsCutShort (p ∷ back) mid more now → sent_now ≡ sent_mid ++ more → PlaysAll (front ++ p ∷ back) fates (Err wanting) sent sent_now plan_now b now
+    -- the fate of the next message
+    next : Fate
+    next = get_or fates (length (filter_map message_of front)) Fate.Through
+
+    not_held : get_or fates (length plan) Fate.Through ≢ Fate.Held → next ≢ Fate.Held
+    not_held heard = subst (λ n. get_or fates n Fate.Through ≢ Fate.Held) (played_length (filter_map message_of front) fates plan b mid before.played) heard
+
+    whole : (more : List Call) → plan_now ≡ plan → IsCutShort next (p ∷ back) mid more now → sent_now ≡ sent_mid ++ more → PlaysAll (front ++ p ∷ back) fates (Err wanting) sent sent_now plan_now b now
     whole more kept cut is = record {
       front = front;
       back = p ∷ back;
@@ -113,7 +126,7 @@ stands_cut front p back fates sent sent_mid sent_now plan plan_now b mid now wan
       more = more;
       split = refl;
       all = tt;
-      played = subst (λ (l : List Planned). ArePlayed (filter_map message_of front) fates b l mid) (sym kept) before.played;
+      played = subst (λ (l : List Reply). ArePlayed (filter_map message_of front) fates b l mid) (sym kept) before.played;
       valid = before.valid;
       cut = cut;
       sent = is ∙ (ap (λ (cs : List Call). cs ++ more) before.sent ∙ append_assoc sent (filter_map message_of front) more);
@@ -122,10 +135,12 @@ stands_cut front p back fates sent sent_mid sent_now plan plan_now b mid now wan
     by : (o : Option Call) → message_of p ≡ o → PlaysPost p.url o (get_or fates (length plan) Fate.Through) (Err wanting) sent_mid sent_now plan plan_now mid now → PlaysAll (front ++ p ∷ back) fates (Err wanting) sent sent_now plan_now b now
     by None is (same, kept, still) = whole [] kept (inl (refl, still)) (same ∙ sym (append-nil sent_mid))
     by (Some c) is ((kept, inl (same, still)), known) = whole [] kept (inl (refl, still)) (same ∙ sym (append-nil sent_mid))
-    by (Some c) is ((kept, inr (more, stops)), known) = whole (c ∷ []) kept (inr (p, back, c, refl, is, refl, sent_valid p c sent_mid sent_now more known, stops)) more
+    by (Some c) is ((kept, inr (more, heard, stops)), known) =
+        whole (c ∷ []) kept
+        (inr (p, back, c, refl, is, refl, sent_valid p c sent_mid sent_now more known, not_held heard, stops)) more
 
 -- all were sent
-pub stands_all : (posts : List Post) (fates : List Fate) (sent sent_now : List Call) (plan : List Planned) (b now : BidderState) (done : Unit {0})
+pub stands_all : (posts : List Post) (fates : List Fate) (sent sent_now : List Call) (plan : List Reply) (b now : BidderState) (done : Unit {0})
     → Stands posts fates sent sent_now plan b now → PlaysAll posts fates (Ok done) sent sent_now plan b now
 stands_all posts fates sent sent_now plan b now done before = record {
   front = posts;
@@ -143,37 +158,37 @@ stands_all posts fates sent sent_now plan b now done before = record {
 -- ---- one message
 
 -- it was sent, and what comes of it is planned
-pub sent_planned : (c : Call) (fate : Fate) (p : Planned) (sent mid sent_now : List Call) (plan plan_mid plan_now : List Planned) (b now : BidderState) (done : Unit {0})
+pub sent_planned : (c : Call) (fate : Fate) (p : Reply) (sent mid sent_now : List Call) (plan plan_mid plan_now : List Reply) (b now : BidderState) (done : Unit {0})
     → mid ≡ sent → sent_now ≡ mid ++ c ∷ [] → plan_mid ≡ plan → plan_now ≡ plan_mid ++ p ∷ [] → Prepares fate c.request b p now
     → SendsMessage c fate (Ok done) sent sent_now plan plan_now b now
 sent_planned c fate p sent mid sent_now plan plan_mid plan_now b now done same more kept planned prepares =
-    (more ∙ ap (λ (l : List Call). l ++ c ∷ []) same, (p, planned ∙ ap (λ (l : List Planned). l ++ p ∷ []) kept, prepares))
+    (more ∙ ap (λ (l : List Call). l ++ c ∷ []) same, (p, planned ∙ ap (λ (l : List Reply). l ++ p ∷ []) kept, prepares))
 
 -- it was sent, and memory was wanting
-pub sent_stopped : (c : Call) (fate : Fate) (sent mid sent_now : List Call) (plan plan_now : List Planned) (b now : BidderState) (wanting : OutOfMemory)
-    → mid ≡ sent → sent_now ≡ mid ++ c ∷ [] → plan_now ≡ plan → StopsDelivering c.request b now → SendsMessage c fate (Err wanting) sent sent_now plan plan_now b now
+pub sent_stopped : (c : Call) (fate : Fate) (sent mid sent_now : List Call) (plan plan_now : List Reply) (b now : BidderState) (wanting : OutOfMemory)
+    → mid ≡ sent → sent_now ≡ mid ++ c ∷ [] → plan_now ≡ plan → (fate ≢ Fate.Held) × StopsDelivering c.request b now → SendsMessage c fate (Err wanting) sent sent_now plan plan_now b now
 sent_stopped c fate sent mid sent_now plan plan_now b now wanting same more kept stops =
-    (kept, inr (more ∙ ap (λ (l : List Call). l ++ c ∷ []) same, stops))
+    (kept, inr (more ∙ ap (λ (l : List Call). l ++ c ∷ []) same, stops.0, stops.1))
 
 -- ---- one post
 
-pub plays_none : (url : List ℕ) (fate : Fate) (sent : List Call) (plan : List Planned) (b : BidderState) (done : Unit {0}) → None ≡ call_of url → PlaysPost url (call_of url) fate (Ok done) sent sent plan plan b b
+pub plays_none : (url : List ℕ) (fate : Fate) (sent : List Call) (plan : List Reply) (b : BidderState) (done : Unit {0}) → None ≡ call_of url → PlaysPost url (call_of url) fate (Ok done) sent sent plan plan b b
 plays_none url fate sent plan b done is =
     subst (λ (o : Option Call). PlaysPost url o fate (Ok done) sent sent plan plan b b) is (refl, refl, refl)
 
-pub plays_some : (url : List ℕ) (c : Call) (fate : Fate) (r : Result (Unit {0}) OutOfMemory) (sent sent_now : List Call) (plan plan_now : List Planned) (b now : BidderState)
+pub plays_some : (url : List ℕ) (c : Call) (fate : Fate) (r : Result (Unit {0}) OutOfMemory) (sent sent_now : List Call) (plan plan_now : List Reply) (b now : BidderState)
     → Some c ≡ call_of url → IsValidAs url → SendsMessage c fate r sent sent_now plan plan_now b now → PlaysPost url (call_of url) fate r sent sent_now plan plan_now b now
 plays_some url c fate r sent sent_now plan plan_now b now is valid sends =
     subst (λ (o : Option Call). PlaysPost url o fate r sent sent_now plan plan_now b now) is (sends, inr valid)
 
 -- nothing was sent for want of memory
-pub plays_nothing : (url : List ℕ) (o : Option Call) (fate : Fate) (sent : List Call) (plan : List Planned) (b : BidderState) (wanting : OutOfMemory) → PlaysPost url o fate (Err wanting) sent sent plan plan b b
+pub plays_nothing : (url : List ℕ) (o : Option Call) (fate : Fate) (sent : List Call) (plan : List Reply) (b : BidderState) (wanting : OutOfMemory) → PlaysPost url o fate (Err wanting) sent sent plan plan b b
 plays_nothing url None fate sent plan b wanting = (refl, refl, refl)
 plays_nothing url (Some c) fate sent plan b wanting = ((refl, inl (refl, refl)), inl refl)
 
 -- ---- the posts of a slice
 
-pub next_stands : (posts : List Post) (i : ℕ) (p : Post) (fates : List Fate) (sent sent_mid sent_now : List Call) (plan plan_now : List Planned) (b mid now : BidderState) (done : Unit {0})
+pub next_stands : (posts : List Post) (i : ℕ) (p : Post) (fates : List Fate) (sent sent_mid sent_now : List Call) (plan plan_now : List Reply) (b mid now : BidderState) (done : Unit {0})
     → i < length posts → p ≡ get_or posts i p → Stands (take i posts) fates sent sent_mid plan b mid
     → PlaysPost p.url (message_of p) (get_or fates (length plan) Fate.Through) (Ok done) sent_mid sent_now plan plan_now mid now
     → Stands (take (i + 1) posts) fates sent sent_now plan_now b now
@@ -182,7 +197,7 @@ next_stands posts i p fates sent sent_mid sent_now plan plan_now b mid now done 
     (sym (take_more posts i p within ∙ ap (λ (x : Post). take i posts ++ x ∷ []) (sym is)))
     (stands_more (take i posts) p fates sent sent_mid sent_now plan plan_now b mid now done before one)
 
-pub next_stops : (posts : List Post) (i : ℕ) (p : Post) (fates : List Fate) (sent sent_mid sent_now : List Call) (plan plan_now : List Planned) (b mid now : BidderState) (wanting : OutOfMemory)
+pub next_stops : (posts : List Post) (i : ℕ) (p : Post) (fates : List Fate) (sent sent_mid sent_now : List Call) (plan plan_now : List Reply) (b mid now : BidderState) (wanting : OutOfMemory)
     → i < length posts → p ≡ get_or posts i p → Stands (take i posts) fates sent sent_mid plan b mid
     → PlaysPost p.url (message_of p) (get_or fates (length plan) Fate.Through) (Err wanting) sent_mid sent_now plan plan_now mid now
     → PlaysAll posts fates (Err wanting) sent sent_now plan_now b now
@@ -191,17 +206,15 @@ next_stops posts i p fates sent sent_mid sent_now plan plan_now b mid now wantin
     (ap (λ (t : List Post). take i posts ++ t) (sym (drop_more posts i p within ∙ ap (λ (x : Post). x ∷ drop (i + 1) posts) (sym is))) ∙ take-append-drop i posts)
     (stands_cut (take i posts) p (drop (i + 1) posts) fates sent sent_mid sent_now plan plan_now b mid now wanting before one)
 
-pub end_stands : (posts : List Post) (i : ℕ) (fates : List Fate) (sent sent_now : List Call) (plan : List Planned) (b now : BidderState) (done : Unit {0})
+pub end_stands : (posts : List Post) (i : ℕ) (fates : List Fate) (sent sent_now : List Call) (plan : List Reply) (b now : BidderState) (done : Unit {0})
     → length posts ≤ i → Stands (take i posts) fates sent sent_now plan b now → PlaysAll posts fates (Ok done) sent sent_now plan b now
 end_stands posts i fates sent sent_now plan b now done all stands =
     stands_all posts fates sent sent_now plan b now done (subst (λ (ps : List Post). Stands ps fates sent sent_now plan b now) (take_all i posts all) stands)
 
 -- ---- what comes of a message
 
-pub meets_held : (bytes : List ℕ) (b : BidderState) (r : Result Planned OutOfMemory) → IfOk r (λ p. p ≡ unanswered) → Meets Fate.Held bytes r b b
-meets_held bytes b (Ok p) is = (is, refl)
-meets_held bytes b (Err wanting) is = nothing_heard bytes b
+pub meets_mute : (bytes : List ℕ) (b now : BidderState) (wanting : OutOfMemory) → StopsDelivering bytes b now → Meets Fate.Mute bytes (Err wanting) b now
+meets_mute bytes b now wanting stops = (λ (e : Fate.Mute ≡ Fate.Held). cc, stops)
 
-pub meets_mute : (bytes : List ℕ) (b now : BidderState) (r : Result Planned OutOfMemory) → IsDelivered bytes b now → IfOk r (λ p. p ≡ unanswered) → Meets Fate.Mute bytes r b now
-meets_mute bytes b now (Ok p) did is = (is, did)
-meets_mute bytes b now (Err wanting) did is = whole_in_part bytes b now did
+pub meets_through : (bytes : List ℕ) (b now : BidderState) (wanting : OutOfMemory) → StopsDelivering bytes b now → Meets Fate.Through bytes (Err wanting) b now
+meets_through bytes b now wanting stops = (λ (e : Fate.Through ≡ Fate.Held). cc, stops)

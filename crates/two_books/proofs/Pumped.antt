@@ -1,29 +1,27 @@
 -- A pump, from what its parts did.
-use Rattle.std.proofs.Common.{◌≡◌, ℕ, ◌+◌, ◌-◌, ◌<◌, ◌≤◌, ◌^◌, min, List, [], ◌∷◌, ◌++◌, length, take, drop, true, refl, sym, ap, ◌∙◌, subst, arith, append-nil, All, Result, Ok, Err, inl, inr, ◌⊎◌, length-drop}
-use Rattle.std.specs.Prelude.{nat_lt, ◌==◌}
-use Rattle.std.specs.List.{count_by, filter_map}
-use Rattle.std.proofs.lemmas.Bool.{and_parts}
-use Rattle.std.proofs.lemmas.Bool.Decides.{nat_tests}
+use Rattle.std.proofs.Common.{◌≡◌, ℕ, ◌+◌, ◌-◌, ◌<◌, ◌≤◌, ◌^◌, min, List, [], ◌∷◌, ◌++◌, length, take, drop, map, refl, sym, ap, ◌∙◌, subst, arith, append-nil, All, Result, Ok, Err, inl, inr, length-drop}
+use Rattle.std.specs.List.{filter_map}
 use Rattle.std.proofs.lemmas.List.{take_all}
 use Rattle.std.proofs.lemmas.List.Elements.{All-nil}
-use Rattle.adx_links.specs.declared.planned.Planned.{Planned}
 use Rattle.adx_units.specs.declared.memory.OutOfMemory.{OutOfMemory}
 use Rattle.bidder_core.specs.Seen.{BidderState}
 use Rattle.day_rules.specs.declared.entry.Entry.{Entry}
 use Rattle.outbox.specs.Following.{AreRowsOf, HasFollowed, OutboxState, RowsState}
-use Rattle.outbox.specs.Pumping.{given_up_with, is_failed, left_of}
+use Rattle.outbox.specs.Pumping.{given_up_with, left_of}
 use Rattle.outbox.specs.declared.calling.Call.{Call}
 use Rattle.outbox.specs.declared.post.Post.{Post}
 use Rattle.outbox.specs.declared.report.Outcome.{Outcome}
 use Rattle.outbox.specs.declared.report.Report.{Report}
 use Rattle.two_books.specs.Exchanges.{ExchangeState, FollowsOn, next_posts}
-use Rattle.two_books.specs.Playing.{ArePlayed, PlaysAll, failing}
-use Rattle.two_books.specs.Pumps.{PumpsOver, PumpsPlan, PumpsTo, fails_as, link_of}
+use Rattle.two_books.specs.Playing.{ArePlayed, PlaysAll}
+use Rattle.two_books.specs.Pumps.{PumpsOver, PumpsPlan, PumpsTo}
+use Rattle.two_books.specs.Replaying.{failing, link_of, most_faults, planned_of}
 use Rattle.two_books.specs.Steps.{AreTried, IsCutShort, due_posts}
 use Rattle.two_books.specs.Worlds.{IsSendable, message_of}
+use Rattle.two_books.specs.declared.replay.Reply.{Reply}
 use Rattle.two_books.specs.declared.step.Fate.{Fate}
 use Rattle.two_books.proofs.Requests.{have_requests}
-use Rattle.two_books.proofs.Tried.{TriesOver, TriesSome, tried_all, tried_some, untried}
+use Rattle.two_books.proofs.Tried.{GoesOn, TriesOver, TriesSome, all_given, tried_all, tried_some, untried}
 
 -- all entries were followed
 all_due : (e mid : ExchangeState) (done : Unit {0}) → FollowsOn (Ok done) e mid → mid.outbox.pending ≡ due_posts e
@@ -44,18 +42,18 @@ still_followed history old new count kept h = record {
 }
 
 -- all posts were played
-pub record AllPlayed (posts : List Post) (fates : List Fate) (old_sent new_sent : List Call) (plan : List Planned) (b now : BidderState) : Type 0 where
+pub record AllPlayed (posts : List Post) (fates : List Fate) (old_sent new_sent : List Call) (plan : List Reply) (b now : BidderState) : Type 0 where
   pub played : ArePlayed (filter_map message_of posts) fates b plan now
   pub sent : new_sent ≡ old_sent ++ filter_map message_of posts
   pub valid : All IsSendable posts
 
-nothing_more : (back : List Post) (between : BidderState) (more : List Call) (now : BidderState) → back ≡ [] → IsCutShort back between more now → (more ≡ []) × (now ≡ between)
-nothing_more back between more now none (inl cut) = cut
-nothing_more back between more now none (inr (p, ps, c, is, message, one, valid, stops)) = absurd (cc)
+nothing_more : (fate : Fate) (back : List Post) (between : BidderState) (more : List Call) (now : BidderState) → back ≡ [] → IsCutShort fate back between more now → (more ≡ []) × (now ≡ between)
+nothing_more fate back between more now none (inl cut) = cut
+nothing_more fate back between more now none (inr (p, ps, c, is, message, one, valid, heard, stops)) = absurd (cc)
 
-all_played : (posts : List Post) (fates : List Fate) (sent sent_now : List Call) (plan : List Planned) (b now : BidderState) (done : Unit {0}) → PlaysAll posts fates (Ok done) sent sent_now plan b now → AllPlayed posts fates sent sent_now plan b now
+all_played : (posts : List Post) (fates : List Fate) (sent sent_now : List Call) (plan : List Reply) (b now : BidderState) (done : Unit {0}) → PlaysAll posts fates (Ok done) sent sent_now plan b now → AllPlayed posts fates sent sent_now plan b now
 all_played posts fates sent sent_now plan b now done p =
-    let none = nothing_more p.back p.between p.more now p.all p.cut in
+    let none = nothing_more _ p.back p.between p.more now p.all p.cut in
     let whole : p.front ≡ posts = sym (p.split ∙ (ap (λ (t : List Post). p.front ++ t) p.all ∙ append-nil p.front)) in
     record {
       played =
@@ -69,37 +67,29 @@ all_played posts fates sent sent_now plan b now done p =
       valid = subst (All IsSendable) whole p.valid;
     }
 
--- as many failed as the plan lets fail
-capped : (count failed most planned : ℕ) → failed ≡ min count most → failed < most → failed ≡ planned → count ≤ planned
-capped count failed most planned is below same = omega (arith, is, below, same)
-
-as_planned : (r : Report) (plan : List Planned) (os : List Outcome) → fails_as r plan ≡ true → r.failed ≡ min (count_by is_failed os) (2 ^ 32 - 1) → count_by is_failed os ≤ failing plan
-as_planned r plan os fails is =
-    let parts = and_parts _ _ fails in
-    capped (count_by is_failed os) r.failed (2 ^ 32 - 1) (failing plan) is (below r.failed (2 ^ 32 - 1) parts.0) (same r.failed (failing plan) parts.1)
+-- the link before its first start goes on with its whole plan
+begins : (plan : List Reply) → failing (map planned_of plan) < most_faults → GoesOn (map planned_of plan) (link_of (map planned_of plan))
+begins plan few = record { starts = refl; unmet_is = none (failing (map planned_of plan)); few = few }
   where
-    below : (a b : ℕ) → nat_lt a b ≡ true → a < b
-    below a b h = grind (arith, nat_tests)
-
-    same : (a b : ℕ) → (a == b) ≡ true → a ≡ b
-    same a b h = grind (arith, nat_tests)
+    none : (f : ℕ) → 0 + (f + 0) ≡ f
+    none f = omega arith
 
 whole_take : (posts : List Post) (n : ℕ) → n ≡ length posts → take n posts ≡ posts
 whole_take posts n is = take_all n posts (omega (arith, is))
 
 -- a pump that was done
-pub pumped : (fates : List Fate) (e mid now : ExchangeState) (messages messages_now : List Call) (plan : List Planned) (b bidder : BidderState) (done : Unit {0})
+pub pumped : (fates : List Fate) (e mid now : ExchangeState) (messages messages_now : List Call) (plan : List Reply) (b bidder : BidderState) (done : Unit {0})
     → FollowsOn (Ok done) e mid → PlaysAll mid.outbox.pending fates (Ok done) messages messages_now plan b bidder → PumpsPlan plan (Ok done) mid now
     → PumpsTo fates (Ok done) e now messages messages_now b bidder
 pumped fates e mid now messages messages_now plan b bidder done follows plays pumps =
-    let (r, fails, (link, p)) = pumps.all in
+    let (r, (link, p)) = pumps.tried in
     let due : mid.outbox.pending ≡ due_posts e = all_due e mid done follows in
     let all : AllPlayed mid.outbox.pending fates messages messages_now plan b bidder = all_played mid.outbox.pending fates messages messages_now plan b bidder done plays in
     let os : List Outcome = p.outcomes in
-    let over : TriesOver mid.outbox.pending os (link_of plan) link =
-    subst (λ (ps : List Post). TriesOver ps os (link_of plan) link) (whole_take mid.outbox.pending (length os) p.all) p.tried in
+    let over : TriesOver mid.outbox.pending os (link_of (map planned_of plan)) link =
+    subst (λ (ps : List Post). TriesOver ps os (link_of (map planned_of plan)) link) (whole_take mid.outbox.pending (length os) p.all) p.tried in
     let tried : AreTried mid.outbox.pending fates b os bidder =
-    tried_all have_requests mid.outbox.pending fates plan os b bidder (link_of plan) link refl all.played over (as_planned r plan os fails (ap (λ (x : Report). x.failed) p.report)) in
+    tried_all have_requests mid.outbox.pending fates plan os b bidder (link_of (map planned_of plan)) link (begins plan pumps.few) all.played over in
     record {
       outcomes = os;
       tried = subst (λ (ps : List Post). AreTried ps fates b os bidder) due tried;
@@ -130,7 +120,8 @@ stops_following fates e now messages b wanting f = record {
   entries = f.entries;
   front = [];
   back = now.outbox.pending;
-  fates = [];
+  fates = fates;
+  as_given = all_given fates;
   outcomes = [];
   settled = 0;
   between = b;
@@ -148,15 +139,16 @@ stops_following fates e now messages b wanting f = record {
 }
 
 -- not all messages could be sent
-pub stops_playing : (fates : List Fate) (e mid : ExchangeState) (messages messages_now : List Call) (plan : List Planned) (b bidder : BidderState) (done : Unit {0}) (wanting : OutOfMemory)
+pub stops_playing : (fates : List Fate) (e mid : ExchangeState) (messages messages_now : List Call) (plan : List Reply) (b bidder : BidderState) (done : Unit {0}) (wanting : OutOfMemory)
     → FollowsOn (Ok done) e mid → PlaysAll mid.outbox.pending fates (Err wanting) messages messages_now plan b bidder → PumpsTo fates (Err wanting) e mid messages messages_now b bidder
 stops_playing fates e mid messages messages_now plan b bidder done wanting f p =
-    let t : TriesSome p.front [] b p.between = untried p.front fates plan b p.between p.played in
+    let t : TriesSome fates p.front [] b p.between = untried p.front fates plan b p.between p.played in
     record {
       entries = f.entries;
       front = p.front;
       back = p.back;
       fates = t.fates;
+      as_given = t.as_given;
       outcomes = t.outcomes;
       settled = 0;
       between = p.between;
@@ -173,8 +165,8 @@ stops_playing fates e mid messages messages_now plan b bidder done wanting f p =
       campaigns = f.campaigns;
     }
 
--- not all could be tried, or more failed than the plan lets fail
-pub stops_trying : (fates : List Fate) (e mid now : ExchangeState) (messages messages_now : List Call) (plan : List Planned) (b bidder : BidderState) (done : Unit {0}) (wanting : OutOfMemory)
+-- not all could be tried
+pub stops_trying : (fates : List Fate) (e mid now : ExchangeState) (messages messages_now : List Call) (plan : List Reply) (b bidder : BidderState) (done : Unit {0}) (wanting : OutOfMemory)
     → FollowsOn (Ok done) e mid → PlaysAll mid.outbox.pending fates (Ok done) messages messages_now plan b bidder → PumpsPlan plan (Err wanting) mid now
     → PumpsTo fates (Err wanting) e now messages messages_now b bidder
 stops_trying fates e mid now messages messages_now plan b bidder done wanting f plays pumps = by pumps.tried
@@ -182,13 +174,14 @@ stops_trying fates e mid now messages messages_now plan b bidder done wanting f 
     all : AllPlayed mid.outbox.pending fates messages messages_now plan b bidder
     all = all_played mid.outbox.pending fates messages messages_now plan b bidder done plays
 
-    made : (os : List Outcome) → TriesSome mid.outbox.pending os b bidder → now.outbox.pending ≡ left_of mid.outbox.pending os → now.outbox.undeliverable ≡ given_up_with mid.outbox.undeliverable os
+    made : (os : List Outcome) → TriesSome fates mid.outbox.pending os b bidder → now.outbox.pending ≡ left_of mid.outbox.pending os → now.outbox.undeliverable ≡ given_up_with mid.outbox.undeliverable os
         → now.outbox.followed ≡ mid.outbox.followed → now.outbox.kept ≡ mid.outbox.kept → PumpsTo fates (Err wanting) e now messages messages_now b bidder
     made os t pending given_up count kept = record {
       entries = f.entries;
       front = mid.outbox.pending;
       back = [];
       fates = t.fates;
+      as_given = t.as_given;
       outcomes = t.outcomes;
       settled = length os;
       between = bidder;
@@ -205,19 +198,14 @@ stops_trying fates e mid now messages messages_now plan b bidder done wanting f 
       campaigns = pumps.campaigns ∙ f.campaigns;
     }
 
-    by : (now.outbox ≡ mid.outbox) ⊎ ((r : Result Report OutOfMemory) × PumpsOver plan r mid.outbox now.outbox) → PumpsTo fates (Err wanting) e now messages messages_now b bidder
-    by (inl same) =
-        made [] (untried mid.outbox.pending fates plan b bidder all.played)
-        (ap (λ (o : OutboxState). o.pending) same ∙ none_left mid.outbox.pending)
-        (ap (λ (o : OutboxState). o.undeliverable) same ∙ none_given_up mid.outbox.undeliverable)
-        (ap (λ (o : OutboxState). o.followed) same) (ap (λ (o : OutboxState). o.kept) same)
-    by (inr (r, (link, p))) =
-        made p.outcomes (tried_some have_requests mid.outbox.pending fates plan p.outcomes b bidder (link_of plan) link refl all.played p.tried)
+    by : PumpsOver (map planned_of plan) (Err wanting) mid.outbox now.outbox → PumpsTo fates (Err wanting) e now messages messages_now b bidder
+    by (link, p) =
+        made p.outcomes (tried_some have_requests mid.outbox.pending fates plan p.outcomes b bidder (link_of (map planned_of plan)) link (begins plan pumps.few) all.played p.tried)
         p.pending p.given_up p.followed p.kept
 
 -- ---- whichever way a pump ends
 
-pub pump_ends : (fates : List Fate) (r : Result (Unit {0}) OutOfMemory) (e mid now : ExchangeState) (messages messages_now : List Call) (plan : List Planned) (b bidder : BidderState) (done again : Unit {0})
+pub pump_ends : (fates : List Fate) (r : Result (Unit {0}) OutOfMemory) (e mid now : ExchangeState) (messages messages_now : List Call) (plan : List Reply) (b bidder : BidderState) (done again : Unit {0})
     → FollowsOn (Ok done) e mid → PlaysAll mid.outbox.pending fates (Ok again) messages messages_now plan b bidder → PumpsPlan plan r mid now
     → PumpsTo fates r e now messages messages_now b bidder
 pump_ends fates (Ok end) e mid now messages messages_now plan b bidder done again follows plays pumps = pumped fates e mid now messages messages_now plan b bidder done follows plays pumps

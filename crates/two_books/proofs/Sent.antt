@@ -21,6 +21,7 @@ use Rattle.two_books.specs.Exchanges.{ExchangeState, HasHistory, IsKept, IsNotic
 use Rattle.two_books.specs.Holding.{AreOfHistory, IsAsked, IsSent}
 use Rattle.two_books.specs.Steps.{AtExchange, IsAgain, IsCutShort, StepsTo, Stops, StopsAgain, StopsPumping, Takes, due_posts}
 use Rattle.two_books.specs.Worlds.{IsSendable, WorldState, message_of}
+use Rattle.two_books.specs.declared.step.Fate.{Fate}
 use Rattle.two_books.specs.declared.step.Step.{Step}
 
 -- ---- more entries
@@ -163,19 +164,19 @@ pub back_of_all : (P : Post → Type 0) (xs ys : List Post) → All P (xs ++ ys)
 back_of_all P [] ys all = all
 back_of_all P (x ∷ xs) ys all = back_of_all P xs ys (All-tail P x (xs ++ ys) all)
 
-more_sent : (history : List Entry) (back : List Post) (b : BidderState) (more : List Call) (now : BidderState) → All (IsAsked history) back → IsCutShort back b more now → All (IsSent history) more
-more_sent history back b more now all (inl (none, same)) = subst (λ (cs : List Call). All (IsSent history) cs) (sym none) (All-nil (IsSent history))
-more_sent history back b more now all (inr (p, ps, c, is, message, one, valid, stops)) =
+more_sent : (history : List Entry) (fate : Fate) (back : List Post) (b : BidderState) (more : List Call) (now : BidderState) → All (IsAsked history) back → IsCutShort fate back b more now → All (IsSent history) more
+more_sent history fate back b more now all (inl (none, same)) = subst (λ (cs : List Call). All (IsSent history) cs) (sym none) (All-nil (IsSent history))
+more_sent history fate back b more now all (inr (p, ps, c, is, message, one, valid, heard, stops)) =
     let first : IsAsked history p = All-head (IsAsked history) p ps (subst (λ (t : List Post). All (IsAsked history) t) is all) in
     subst (λ (cs : List Call). All (IsSent history) cs) (sym one) (All-cons (IsSent history) c [] (p, first, message, valid) (All-nil (IsSent history)))
 
-stopped_all : (old new : WorldState) → AreOfHistory old → StopsPumping old new → AreOfHistory new
-stopped_all old new are p =
+stopped_all : (fates : List Fate) (old new : WorldState) → AreOfHistory old → StopsPumping fates old new → AreOfHistory new
+stopped_all fates old new are p =
     let h = old.exchange.day.history in
     let both : All (IsAsked h) (p.front ++ p.back) = subst (λ (t : List Post). All (IsAsked h) t) (sym p.due) (some_due p.entries old.exchange are.pending) in
     let sent : All (IsSent h) (filter_map message_of p.front ++ p.more) =
     All-append (IsSent h) (filter_map message_of p.front) p.more (sent_all h p.front (front_of_all (IsAsked h) p.front p.back both) p.valid)
-    (more_sent h p.back p.between p.more new.bidder (back_of_all (IsAsked h) p.front p.back both) p.cut) in
+    (more_sent h _ p.back p.between p.more new.bidder (back_of_all (IsAsked h) p.front p.back both) p.cut) in
     let history : h ≡ new.exchange.day.history = ap (λ (d : DayState). d.history) (sym p.day) in
     record {
       pending =
@@ -195,7 +196,7 @@ stops_all (Step.Ask request now) old new are at = kept old new at are
 stops_all (Step.Notice kind n) old new are at = kept old new at are
 stops_all (Step.Tick now) old new are at = kept old new at are
 stops_all (Step.Budget campaign change budget) old new are at = kept old new at are
-stops_all (Step.Pump fates) old new are p = stopped_all old new are p
+stops_all (Step.Pump fates) old new are p = stopped_all fates old new are p
 stops_all (Step.Again n) old new are again = brought (slice_get old.messages n) again
   where
     brought : (o : Option Call) → StopsAgain o old new → AreOfHistory new

@@ -231,13 +231,13 @@ all_pumped fates old new p s =
       day = p.day;
     }) s
 
-stopped : (old new : WorldState) → StopsPumping old new → Settles old → Settles new
-stopped old new p s =
+stopped : (fates : List Fate) (old new : WorldState) → StopsPumping fates old new → Settles old → Settles new
+stopped fates old new p s =
     pumped p.entries p.front p.back p.fates p.outcomes p.settled p.between old new (record {
       due = p.due;
       tried = p.tried;
       valid = p.valid;
-      grows = cut_grows p.back p.between p.more new.bidder p.cut;
+      grows = cut_grows _ p.back p.between p.more new.bidder p.cut;
       count = p.followed.count;
       pending = p.pending;
       given_up = p.undeliverable;
@@ -271,7 +271,7 @@ stops_settle (Step.Ask request now) old new s at = kept old new at s
 stops_settle (Step.Notice kind n) old new s at = kept old new at s
 stops_settle (Step.Tick now) old new s at = kept old new at s
 stops_settle (Step.Budget campaign change budget) old new s at = kept old new at s
-stops_settle (Step.Pump fates) old new s p = stopped old new p s
+stops_settle (Step.Pump fates) old new s p = stopped fates old new p s
 stops_settle (Step.Again n) old new s at = stops_again (slice_get old.messages n) old new at s
 stops_settle Step.RestartExchange old new s same = subst Settles (sym same) s
 stops_settle Step.RestartBidder old new s same = subst Settles (sym same) s

@@ -3,6 +3,7 @@ pub mod Exchanges
 pub mod Worlds
 pub mod Delivering
 pub mod Steps
+pub mod Replaying
 pub mod Playing
 pub mod Pumps
 pub mod TwoBooks

@@ -1,9 +1,8 @@
--- Private, cited by the pump of a world alone: what comes of messages, and what the starts of its link are to do. Each message is played at the bidder
--- first, and the link then answers what the bidder replied.
-use Rattle.std.specs.Prelude.{◌≡◌, ◌⊎◌, ℕ, List, [], ◌∷◌, ◌++◌, drop, true, false, Bool, All, Option, Some, None, Result, Ok, Err, OnOk}
-use Rattle.std.specs.List.{count_by, filter_map}
+-- Private, cited by the pump of a world alone: what comes of messages, and what comes back of them. Each message is played at
+-- the bidder first, and the link then answers what the bidder replied.
+use Rattle.std.specs.Prelude.{◌≡◌, ◌≢◌, ◌⊎◌, ℕ, List, [], ◌∷◌, ◌++◌, drop, get_or, length, true, false, Bool, All, Option, Some, None, Result, Ok, Err, OnOk}
+use Rattle.std.specs.List.{filter_map}
 use Rattle.adx_units.specs.declared.memory.OutOfMemory.{OutOfMemory}
-use Rattle.adx_links.specs.declared.planned.Planned.{Planned}
 use Rattle.bidder_core.specs.Seen.{BidderState}
 use Rattle.http_connection.specs.declared.conn.ConnEnd.{ConnEnd}
 use Rattle.outbox.specs.Calls.{IsValidAs}
@@ -12,6 +11,7 @@ use Rattle.outbox.specs.declared.post.Post.{Post}
 use Rattle.two_books.specs.Delivering.{IsDelivered, IsReplied, StopsDelivering}
 use Rattle.two_books.specs.Steps.{IsCutShort, first_fate}
 use Rattle.two_books.specs.Worlds.{IsSendable, message_of}
+use Rattle.two_books.specs.declared.replay.Reply.{Reply}
 use Rattle.two_books.specs.declared.step.Fate.{Fate}
 
 -- a connection that ended by what it brought
@@ -34,67 +34,53 @@ abbrev pub Brings : List ℕ → Result Unit OutOfMemory → BidderState → Bid
 Brings bytes (Ok done) b now = IsDelivered bytes b now
 Brings bytes (Err wanting) b now = StopsDelivering bytes b now
 
--- a start whose put fails, so that nothing comes back; and one that answers a reply
-abbrev pub unanswered : Planned
-unanswered = record { bytes = []; start_fails = false; put_fails = true; take_fails = None }
+-- what comes back of a message, by its fate, and what the bidder is then
+abbrev pub Prepares : Fate → List ℕ → BidderState → Reply → BidderState → Type 0
+Prepares Fate.Held bytes b r now = (r ≡ Reply.Lost) × (now ≡ b)
+Prepares Fate.Mute bytes b r now = (r ≡ Reply.Lost) × IsDelivered bytes b now
+Prepares Fate.Through bytes b r now =
+    (reply : List ℕ) × (r ≡ Reply.Came reply) × IsDelivered bytes b now × IsReplied bytes b reply now
 
-abbrev pub replying : List ℕ → Planned
-replying reply = record { bytes = reply; start_fails = false; put_fails = false; take_fails = None }
-
--- what the start for a message is to do, by the message's fate, and what the bidder is then
-abbrev pub Prepares : Fate → List ℕ → BidderState → Planned → BidderState → Type 0
-Prepares Fate.Held bytes b p now = (p ≡ unanswered) × (now ≡ b)
-Prepares Fate.Mute bytes b p now = (p ≡ unanswered) × IsDelivered bytes b now
-Prepares Fate.Through bytes b p now =
-    (reply : List ℕ) × (p ≡ replying reply) × IsDelivered bytes b now × IsReplied bytes b reply now
-
--- the same where memory may be wanting
-abbrev pub Meets : Fate → List ℕ → Result Planned OutOfMemory → BidderState → BidderState → Type 0
-Meets fate bytes (Ok p) b now = Prepares fate bytes b p now
-Meets fate bytes (Err wanting) b now = StopsDelivering bytes b now
+-- the same where memory may be wanting: a message that is held wants none
+abbrev pub Meets : Fate → List ℕ → Result Reply OutOfMemory → BidderState → BidderState → Type 0
+Meets fate bytes (Ok r) b now = Prepares fate bytes b r now
+Meets fate bytes (Err wanting) b now = (fate ≢ Fate.Held) × StopsDelivering bytes b now
 
 -- the same of messages, one after the other
-abbrev pub ArePlayed : List Call → List Fate → BidderState → List Planned → BidderState → Type 0
+abbrev pub ArePlayed : List Call → List Fate → BidderState → List Reply → BidderState → Type 0
 ArePlayed [] fates b [] now = now ≡ b
-ArePlayed [] fates b (p ∷ plan) now = ⊥
+ArePlayed [] fates b (r ∷ rs) now = ⊥
 ArePlayed (c ∷ cs) fates b [] now = ⊥
-ArePlayed (c ∷ cs) fates b (p ∷ plan) now =
-    (mid : BidderState) × Prepares (first_fate fates) c.request b p mid × ArePlayed cs (drop 1 fates) mid plan now
+ArePlayed (c ∷ cs) fates b (r ∷ rs) now =
+    (mid : BidderState) × Prepares (first_fate fates) c.request b r mid × ArePlayed cs (drop 1 fates) mid rs now
 
--- how many starts nothing comes back of
-abbrev pub fails_of : Planned → Bool
-fails_of p = p.put_fails
-
-abbrev pub failing : List Planned → ℕ
-failing plan = count_by fails_of plan
-
--- A message was sent with that fate, and what comes of it is planned. Where memory was wanting it was sent or not, and is
--- not planned.
-abbrev pub SendsMessage : Call → Fate → Result Unit OutOfMemory → List Call → List Call → List Planned → List Planned → BidderState → BidderState → Type 0
-SendsMessage c fate (Ok done) sent sent_now plan plan_now b now =
+-- A message was sent with that fate, and this comes back of it. Where memory was wanting it was sent or not; one that was
+-- sent and is to be held wanted none.
+abbrev pub SendsMessage : Call → Fate → Result Unit OutOfMemory → List Call → List Call → List Reply → List Reply → BidderState → BidderState → Type 0
+SendsMessage c fate (Ok done) sent sent_now replies replies_now b now =
     (sent_now ≡ sent ++ c ∷ [])
-    × ((p : Planned) × (plan_now ≡ plan ++ p ∷ []) × Prepares fate c.request b p now)
-SendsMessage c fate (Err wanting) sent sent_now plan plan_now b now =
-    (plan_now ≡ plan)
-    × (((sent_now ≡ sent) × (now ≡ b)) ⊎ ((sent_now ≡ sent ++ c ∷ []) × StopsDelivering c.request b now))
+    × ((r : Reply) × (replies_now ≡ replies ++ r ∷ []) × Prepares fate c.request b r now)
+SendsMessage c fate (Err wanting) sent sent_now replies replies_now b now =
+    (replies_now ≡ replies)
+    × (((sent_now ≡ sent) × (now ≡ b)) ⊎ ((sent_now ≡ sent ++ c ∷ []) × (fate ≢ Fate.Held) × StopsDelivering c.request b now))
 
 -- the same of a post: without a message nothing is sent; a message for which there was no memory is as one that wasn't.
 -- What was sent is of a valid URL.
-abbrev pub PlaysPost : List ℕ → Option Call → Fate → Result Unit OutOfMemory → List Call → List Call → List Planned → List Planned → BidderState → BidderState → Type 0
-PlaysPost url None fate result sent sent_now plan plan_now b now = (sent_now ≡ sent) × (plan_now ≡ plan) × (now ≡ b)
-PlaysPost url (Some c) fate result sent sent_now plan plan_now b now =
-    SendsMessage c fate result sent sent_now plan plan_now b now × ((sent_now ≡ sent) ⊎ IsValidAs url)
+abbrev pub PlaysPost : List ℕ → Option Call → Fate → Result Unit OutOfMemory → List Call → List Call → List Reply → List Reply → BidderState → BidderState → Type 0
+PlaysPost url None fate result sent sent_now replies replies_now b now = (sent_now ≡ sent) × (replies_now ≡ replies) × (now ≡ b)
+PlaysPost url (Some c) fate result sent sent_now replies replies_now b now =
+    SendsMessage c fate result sent sent_now replies replies_now b now × ((sent_now ≡ sent) ⊎ IsValidAs url)
 
 -- The messages of posts were sent, one after the other. Where memory was wanting those of a front of them were, and the
 -- next may have been.
-pub record PlaysAll (posts : List Post) (fates : List Fate) (result : Result Unit OutOfMemory) (old_sent new_sent : List Call) (plan : List Planned) (b now : BidderState) : Type 0 where
+pub record PlaysAll (posts : List Post) (fates : List Fate) (result : Result Unit OutOfMemory) (old_sent new_sent : List Call) (replies : List Reply) (b now : BidderState) : Type 0 where
   pub front : List Post
   pub back : List Post
   pub between : BidderState
   pub more : List Call
   pub split : posts ≡ front ++ back
   pub all : OnOk result (back ≡ [])
-  pub played : ArePlayed (filter_map message_of front) fates b plan between
+  pub played : ArePlayed (filter_map message_of front) fates b replies between
   pub valid : All IsSendable front
-  pub cut : IsCutShort back between more now
+  pub cut : IsCutShort (get_or fates (length (filter_map message_of front)) Fate.Through) back between more now
   pub sent : new_sent ≡ old_sent ++ (filter_map message_of front ++ more)

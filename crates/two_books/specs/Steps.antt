@@ -94,20 +94,26 @@ pub record IsPumped (fates : List Fate) (old new : WorldState) : Type 0 where
   pub campaigns : new.exchange.campaigns ≡ old.exchange.campaigns
 
 -- what a pump that stopped had sent behind these posts: nothing, or the message of the next of them, of which the bidder
--- may have heard some first requests
-abbrev pub IsCutShort : List Post → BidderState → List Call → BidderState → Type 0
-IsCutShort back b more now =
+-- may have heard some first requests unless it was to be held
+abbrev pub IsCutShort : Fate → List Post → BidderState → List Call → BidderState → Type 0
+IsCutShort fate back b more now =
     ((more ≡ []) × (now ≡ b))
     ⊎ ((p : Post) × (ps : List Post) × (c : Call) × (back ≡ p ∷ ps) × (message_of p ≡ Some c) × (more ≡ c ∷ [])
-    × IsValidAs p.url × StopsDelivering c.request b now)
+    × IsValidAs p.url × (fate ≢ Fate.Held) × StopsDelivering c.request b now)
 
--- A pump that stopped for want of memory: so many entries were followed, and a front of the posts was tried, with some
--- fates, since a reply may be lost by it. What became of the first so many of them stands; all others stay pending.
-pub record StopsPumping (old new : WorldState) : Type 0 where
+-- the fate that a message met where one was given: that one, or its reply was lost, since memory was wanting before it was read
+abbrev pub IsAsGiven : Fate → Fate → Type 0
+IsAsGiven given fate = (fate ≡ given) ⊎ ((given ≡ Fate.Through) × (fate ≡ Fate.Mute))
+
+-- A pump that stopped for want of memory: so many entries were followed, and a front of the posts was tried, with the fates
+-- that were given, but for replies that are lost. What became of the first so many of them stands; all others stay pending.
+-- So a message that is to be held is never heard.
+pub record StopsPumping (given : List Fate) (old new : WorldState) : Type 0 where
   pub entries : ℕ
   pub front : List Post
   pub back : List Post
   pub fates : List Fate
+  pub as_given : (n : ℕ) → IsAsGiven (get_or given n Fate.Through) (get_or fates n Fate.Through)
   pub outcomes : List Outcome
   pub settled : ℕ
   pub between : BidderState
@@ -115,7 +121,7 @@ pub record StopsPumping (old new : WorldState) : Type 0 where
   pub due : front ++ back ≡ old.exchange.outbox.pending ++ next_posts entries old.exchange
   pub tried : AreTried front fates old.bidder outcomes between
   pub valid : All IsSendable front
-  pub cut : IsCutShort back between more new.bidder
+  pub cut : IsCutShort (get_or given (length (filter_map message_of front)) Fate.Through) back between more new.bidder
   pub followed : HasFollowed (take (old.exchange.outbox.followed + entries) old.exchange.day.history) new.exchange.outbox
   pub pending : new.exchange.outbox.pending ≡ left_of (front ++ back) (take settled outcomes)
   pub undeliverable : new.exchange.outbox.undeliverable ≡ given_up_with old.exchange.outbox.undeliverable (take settled outcomes)
@@ -164,7 +170,7 @@ Stops (Step.Ask request now) old new = AtExchange IsKept old new
 Stops (Step.Notice kind n) old new = AtExchange IsKept old new
 Stops (Step.Tick now) old new = AtExchange IsKept old new
 Stops (Step.Budget campaign change budget) old new = AtExchange IsKept old new
-Stops (Step.Pump fates) old new = StopsPumping old new
+Stops (Step.Pump fates) old new = StopsPumping fates old new
 Stops (Step.Again n) old new = StopsAgain (slice_get old.messages n) old new
 Stops Step.RestartExchange old new = new ≡ old
 Stops Step.RestartBidder old new = new ≡ old

@@ -4,18 +4,18 @@ ghost use Rattle.adx_io.specs.Fakes.{SinkState, SourceState};
 ghost use Rattle.two_books.specs.Playing.{Brings, Delivers, completes};
 
 use adx_io::{MemorySink, MemorySource};
-use adx_units::{OutOfMemory, Text};
+use adx_units::{OutOfMemory, Sequence};
 use bidder_core::Bidder;
 use bidder_http::serve_bidder;
 use http_connection::ConnEnd;
 use std::alloc::Global;
 
-/// The bytes as a text. The bidder replies in UTF-8; other bytes are treated as want of memory.
-fn text_of(alloc: Global, bytes: &[u8]) -> Result<Text, OutOfMemory>
-    ensures { IfOk result (λ text. text ≡ bytes.now) }
+/// A copy of the bytes.
+fn copy_of(alloc: Global, bytes: &[u8]) -> Result<Sequence<u8>, OutOfMemory>
+    ensures { IfOk result (λ copy. copy ≡ bytes.now) }
 {
-    match str::from_utf8(bytes) {
-        Ok(text) => Text::of(alloc, text),
+    match Vec::from_slice(alloc, bytes) {
+        Ok(copy) => Ok(Sequence::from(copy)),
         Err(_) => Err(OutOfMemory),
     }
 }
@@ -50,14 +50,14 @@ fn serve(
     bidder: &mut Bidder,
     source: &mut MemorySource,
     sink: &mut MemorySink,
-) -> Result<Text, OutOfMemory>
+) -> Result<Sequence<u8>, OutOfMemory>
     requires source { source.old.tape.taken ≡ [] }
     requires sink { sink.old.bytes ≡ [] }
     ensures { Delivers source.old.tape.left result bidder.old bidder.new }
 {
     let end = serve_bidder(alloc, bidder, source, sink);
     if is_whole(end) {
-        text_of(alloc, sink.taken())
+        copy_of(alloc, sink.taken())
     } else {
         Err(OutOfMemory)
     }
@@ -69,7 +69,7 @@ pub(crate) fn deliver(
     alloc: Global,
     bidder: &mut Bidder,
     message: &[u8],
-) -> Result<Text, OutOfMemory>
+) -> Result<Sequence<u8>, OutOfMemory>
     ensures { Delivers message.now result bidder.old bidder.new }
 {
     let mut source = match source_of(alloc, message) {
@@ -84,7 +84,7 @@ pub(crate) fn deliver(
 }
 
 /// A reply is lost on its way.
-fn lose(_reply: Text) {}
+fn lose(_reply: Sequence<u8>) {}
 
 /// Serves a message to the bidder, whose reply is lost.
 pub(crate) fn deliver_mute(

@@ -17,6 +17,7 @@ mod exchange;
 mod opening;
 mod playing;
 mod pumping;
+mod replay;
 mod step;
 mod world;
 

@@ -1,41 +1,29 @@
 //! A pump of a world: the outbox follows the day, each message meets its fate, and what comes back decides of its post.
 ghost use Rattle.std.specs.Prelude.{◌≡◌};
-ghost use Rattle.two_books.specs.Pumps.{PumpsPlan, PumpsTo, fails_as};
+ghost use Rattle.two_books.specs.Pumps.{PumpsPlan, PumpsTo};
 
 use crate::exchange::Exchange;
-use crate::playing::{failing, play_all};
+use crate::playing::play_all;
+use crate::replay::{ReplayLink, Reply};
 use crate::step::Fate;
-use adx_links::{MemoryLink, Planned};
 use adx_units::OutOfMemory;
 use bidder_core::Bidder;
-use outbox::{Call, Report};
+use outbox::Call;
 use std::alloc::Global;
 
-/// Tries the pending posts over a link of that plan.
-fn pump_planned(alloc: Global, exchange: &mut Exchange, plan: &[Planned]) -> Result<(), OutOfMemory>
-    ensures { PumpsPlan plan.now result exchange.old exchange.new }
+/// Tries the pending posts over a link that answers these replies.
+fn pump_planned(
+    alloc: Global,
+    exchange: &mut Exchange,
+    replies: Vec<Reply>,
+) -> Result<(), OutOfMemory>
+    ensures { PumpsPlan replies.items result exchange.old exchange.new }
 {
-    let mut link = match MemoryLink::new(alloc, plan) {
-        Ok(link) => link,
-        Err(wanting) => return Err(wanting),
-    };
+    let mut link = ReplayLink::new(alloc, replies);
     match exchange.pump(&mut link) {
-        Ok(report) => {
-            if is_planned(report, plan) {
-                Ok(())
-            } else {
-                Err(OutOfMemory)
-            }
-        }
+        Ok(_report) => Ok(()),
         Err(wanting) => Err(wanting),
     }
-}
-
-/// Whether as many tries failed as the plan lets fail: a link in memory also fails where memory is wanting.
-fn is_planned(report: Report, plan: &[Planned]) -> bool
-    ensures { result ≡ fails_as report plan.now }
-{
-    report.failed < u32::MAX && report.failed as usize == failing(plan)
 }
 
 /// Follows the day, and tries each pending post once; its messages meet these fates.
@@ -53,16 +41,16 @@ pub(crate) fn pump(
         Ok(()) => {}
         Err(wanting) => return Err(wanting),
     }
-    let mut plan = Vec::new(alloc);
+    let mut replies = Vec::new(alloc);
     match play_all(
         alloc,
         bidder,
         messages,
-        &mut plan,
+        &mut replies,
         exchange.pending(),
         fates,
     ) {
-        Ok(()) => pump_planned(alloc, exchange, plan.as_slice()),
+        Ok(()) => pump_planned(alloc, exchange, replies),
         Err(wanting) => Err(wanting),
     }
 }

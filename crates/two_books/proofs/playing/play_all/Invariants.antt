@@ -4,4 +4,4 @@ use Rattle.two_books.proofs.Played.{Stands}
 use Rattle.two_books.proofs.playing.play_all.Given as goal
 
 abbrev pub invariant-loop-post : goal.invariant-loop-post
-invariant-loop-post l = Stands (take l.post-index l.posts) l.fates l.fn.messages.items l.messages.items l.plan.items l.fn.bidder l.bidder
+invariant-loop-post l = Stands (take l.post-index l.posts) l.fates l.fn.messages.items l.messages.items l.replies.items l.fn.bidder l.bidder

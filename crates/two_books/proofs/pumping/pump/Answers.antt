@@ -2,7 +2,6 @@
 use Rattle.std.proofs.Common.{List, Ok, Err, subst}
 use Rattle.outbox.specs.declared.post.Post.{Post}
 use Rattle.two_books.specs.Playing.{PlaysAll}
-use Rattle.two_books.specs.Pumps.{PumpsPlan}
 use Rattle.two_books.proofs.Pumped.{pump_ends, stops_following, stops_playing}
 use Rattle.two_books.proofs.pumping.pump.Goals as goal
 
@@ -11,13 +10,13 @@ returns-in-Err c = stops_following c.args.fates.now c.args.exchange.now c.follow
 
 pub returns-in-Ok-play_all : goal.returns-in-Ok-play_all
 returns-in-Ok-play_all c =
-    pump_ends c.args.fates.now c.pump_planned.result c.args.exchange.now c.follow.new.self c.pump_planned.new.exchange c.args.messages.now.items c.play_all.new.messages.items c.play_all.new.plan.items
+    pump_ends c.args.fates.now c.pump_planned.result c.args.exchange.now c.follow.new.self c.pump_planned.new.exchange c.args.messages.now.items c.play_all.new.messages.items c.play_all.new.replies.items
     c.args.bidder.now c.play_all.new.bidder c.in-Ok.field-0 c.in-Ok-play_all.field-0 c.in-Ok.ensures
-    (subst (λ (ps : List Post). PlaysAll ps c.args.fates.now (Ok c.in-Ok-play_all.field-0) c.args.messages.now.items c.play_all.new.messages.items c.play_all.new.plan.items c.args.bidder.now c.play_all.new.bidder) c.pending.ensures c.in-Ok-play_all.ensures)
-    (subst (λ plan. PumpsPlan plan c.pump_planned.result c.follow.new.self c.pump_planned.new.exchange) c.as_slice.ensures.value c.pump_planned.ensures)
+    (subst (λ (ps : List Post). PlaysAll ps c.args.fates.now (Ok c.in-Ok-play_all.field-0) c.args.messages.now.items c.play_all.new.messages.items c.play_all.new.replies.items c.args.bidder.now c.play_all.new.bidder) c.pending.ensures c.in-Ok-play_all.ensures)
+    c.pump_planned.ensures
 
 pub returns : goal.returns
 returns c =
-    stops_playing c.args.fates.now c.args.exchange.now c.follow.new.self c.args.messages.now.items c.play_all.new.messages.items c.play_all.new.plan.items
+    stops_playing c.args.fates.now c.args.exchange.now c.follow.new.self c.args.messages.now.items c.play_all.new.messages.items c.play_all.new.replies.items
     c.args.bidder.now c.play_all.new.bidder c.in-Ok.field-0 c.in-Err-play_all.wanting c.in-Ok.ensures
-    (subst (λ (ps : List Post). PlaysAll ps c.args.fates.now (Err c.in-Err-play_all.wanting) c.args.messages.now.items c.play_all.new.messages.items c.play_all.new.plan.items c.args.bidder.now c.play_all.new.bidder) c.pending.ensures c.in-Err-play_all.ensures)
+    (subst (λ (ps : List Post). PlaysAll ps c.args.fates.now (Err c.in-Err-play_all.wanting) c.args.messages.now.items c.play_all.new.messages.items c.play_all.new.replies.items c.args.bidder.now c.play_all.new.bidder) c.pending.ensures c.in-Err-play_all.ensures)
