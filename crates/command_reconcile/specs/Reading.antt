@@ -9,19 +9,19 @@ use Rattle.bidder_core.specs.declared.ledger.LedgerRow.{LedgerRow}
 use Rattle.bidder_http.specs.Books.{ledger_text}
 use Rattle.command_reconcile.specs.Differences.{IsReconciliation}
 use Rattle.command_reconcile.specs.declared.bill.Bill.{Bill}
-use Rattle.command_reconcile.specs.Ledgers.{FailsAt, IsLedger, IsRow, IsRowLine, TellsNoRow, ledger_bills, row_bill}
+use Rattle.command_reconcile.specs.Ledgers.{FailsAt, IsLedger, IsLedgerRow, IsRowLine, TellsNoRow, ledger_bills, row_bill}
 use Rattle.command_runs.specs.Meanings.{PutsEnd}
 use Rattle.command_runs.specs.declared.outcome.Outcome.{Outcome}
-use Rattle.command_runs.specs.Limits.{input_limit}
+use Rattle.command_runs.specs.Limits.{line_limit}
 
--- a line tells a row, whose bill was added; or it tells none, or is longer than an input may be
+-- a line tells a row, whose bill was added; or it tells none, or is longer than a line may be
 abbrev pub TakesRow : List Bill → List Bill → Bool → List ℕ → Type 0
-TakesRow old new true line = (row : LedgerRow) × IsRowLine line row × (new ≡ old ++ cons_option (row_bill row) [])
-TakesRow old new false line = (TellsNoRow line ⊎ (input_limit < length line)) × (new ≡ old)
+TakesRow old new true line = (row : LedgerRow) × IsRowLine line row × (length line ≤ line_limit) × (new ≡ old ++ cons_option (row_bill row) [])
+TakesRow old new false line = (TellsNoRow line ⊎ (line_limit < length line)) × (new ≡ old)
 
 -- so it is of the line that a buffer keeps
 abbrev pub OfKept : Bool → List ℕ → (List ℕ → Type 0) → Type 0
-OfKept overlong kept P = (line : List ℕ) → Keeps input_limit overlong kept line → P line
+OfKept overlong kept P = (line : List ℕ) → Keeps line_limit overlong kept line → P line
 
 -- whether a last piece is there, by the number of its line
 abbrev pub IsLastPiece : ℕ → Option ℕ → List ℕ → Type 0
@@ -31,7 +31,7 @@ IsLastPiece n (Some m) piece = (piece ≢ []) × (m ≡ n)
 -- some rows were read, which tell these bills, and the next line has this number
 abbrev pub ReadsRows : TalkState → TalkState → List Bill → ℕ → Tape → Tape → Type 0
 ReadsRows before now bills n old new =
-    (rows : List LedgerRow) × All IsRow rows × Reads before now old new (ledger_text rows) × (bills ≡ ledger_bills rows) × (n ≡ length rows + 1)
+    (rows : List LedgerRow) × All IsLedgerRow rows × Reads before now old new (ledger_text rows) × (bills ≡ ledger_bills rows) × (n ≡ length rows + 1)
 
 -- what was read of a ledger: all of it; up to its first line that fails; or a part of it before a fault
 abbrev pub ReadsLedger : ℕ → List Bill → Result (Option ℕ) Stop → Tape → Tape → Type 0

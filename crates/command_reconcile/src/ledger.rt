@@ -14,12 +14,9 @@ use crate::row::row_of;
 use adx_io::{LineBuffer, Next, Sink, Source, Stop, Talk};
 use adx_units::OutOfMemory;
 use bidder_core::LedgerRow;
-use command_runs::INPUT_LIMIT;
+use command_runs::LINE_LIMIT;
 use notice_book::NoticeKind;
 use std::alloc::Global;
-
-/// The longest line: a line is as long as an input may be.
-const LONGEST_LINE: usize = INPUT_LIMIT as usize;
 
 /// Adds the bill that a row tells, if it does.
 fn keep_bill(bills: &mut Vec<Bill>, row: LedgerRow) -> Result<(), OutOfMemory>
@@ -81,7 +78,7 @@ pub(crate) fn read_ledger<S: Source, K: Sink>(
 {
     let mut number: u64 = 1;
     'lines: loop {
-        match talk.next_line(LONGEST_LINE) {
+        match talk.next_line(LINE_LIMIT) {
             Ok(Next::Line) => match take_row(alloc, talk.buffer, bills) {
                 Ok(true) => match number.checked_add(1) {
                     Some(next) => number = next,
