@@ -6,10 +6,9 @@ use Rattle.std.specs.Ordering.{is_eq, ordering_reverse}
 use Rattle.std.specs.declared.cmp.Ordering.{Ordering}
 use Rattle.std.specs.declared.cmp.Ordering.TheVariants.{Less, Equal, Greater}
 use Rattle.std.proofs.lemmas.Bool.{false≢true}
-use Rattle.command_reconcile.specs.Differences.{bill_cmp, difference_line, is_same, sums_line}
+use Rattle.command_reconcile.specs.Differences.{IsReconciliation, bill_cmp, difference_line, is_same, sums_line}
 use Rattle.command_reconcile.specs.declared.bill.Bill.{Bill}
 use Rattle.command_reconcile.proofs.SameBills.{alike_same, apart, bill_total, same_is, same_itself}
-use Rattle.command_reconcile.specs.Agreements.{ReconciliationsAreOne}
 use Rattle.command_reconcile.proofs.Same.{any_alike, lines_same}
 
 or_first : (s t : Bool) → s ≡ true → (s || t) ≡ true
@@ -74,7 +73,7 @@ same_lines exchange bidder (d ∷ ds) (e ∷ es) ours theirs both =
     ap₂ (λ (a b : List ℕ). a ++ b) (lines_same exchange bidder d e same)
     (same_lines exchange bidder ds es ours.1 theirs.1 (rest_both d e ds es ours.0 theirs.0 same both))
 
-pub one_text : ReconciliationsAreOne
+pub one_text : (exchange bidder : List Bill) (out text : List ℕ) → IsReconciliation exchange bidder out → IsReconciliation exchange bidder text → out ≡ text
 one_text exchange bidder out text ours theirs =
     ours.spelled
     ∙ ap (λ (l : List ℕ). l ++ sums_line exchange bidder)

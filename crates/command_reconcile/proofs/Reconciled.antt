@@ -6,7 +6,7 @@ use Rattle.adx_io.specs.Streams.{Tape, WhereTold}
 use Rattle.adx_io.specs.declared.line_buffer.TheConstants.{CHUNK}
 use Rattle.adx_io.specs.declared.stop.Stop.{Stop}
 use Rattle.adx_desk.specs.declared.fault.DeskFault.{DeskFault}
-use Rattle.command_reconcile.specs.Differences.{IsReconciliation}
+use Rattle.command_reconcile.specs.Agreements.{Reconciles}
 use Rattle.command_reconcile.specs.declared.bill.Bill.{Bill}
 use Rattle.command_reconcile.specs.Reading.{PutsReconciliation, ReadsLedger}
 use Rattle.command_reconcile.specs.Reconciling.{EndsLedger, Ending, EndsDay, EndsOpened, EndsRead, at_end, no_bidder_line, no_row_line}
@@ -53,7 +53,7 @@ module _ (owed : List Bill) (allowed : ℕ) (tape now : Option Tape) (held held_
   pub told_all : (bills : List Bill) (result : Result Outcome Stop) → WhereTold tape now (ReadsLedger allowed bills (Ok None)) → PutsReconciliation owed bills held held_now result
       → WhereTold tape now (λ x y. Wrote (at_end allowed (EndsLedger owed allowed)) x.left y.left held held_now result)
   told_all bills result reads (inl (out, is, puts)) = told_map tape now (ReadsLedger allowed bills (Ok None)) _ reads (λ x y r.
-      put_wrote allowed (EndsLedger owed allowed) held held_now x.left r.0 y.left out Outcome.Done result r.1 (inl (r.2, r.3, refl, subst (λ (told : List Bill). IsReconciliation owed told out) r.4 is)) puts)
+      put_wrote allowed (EndsLedger owed allowed) held held_now x.left r.0 y.left out Outcome.Done result r.1 (inl (r.2, r.3, refl, subst (λ (told : List Bill). Reconciles owed told out) r.4 is)) puts)
   told_all bills result reads (inr (same, refused)) = subst (λ e. WhereTold tape now (λ x y. Wrote (at_end allowed (EndsLedger owed allowed)) x.left y.left held held_now e)) (sym refused)
       (told_map tape now (ReadsLedger allowed bills (Ok None)) _ reads (λ x y r. cut_wrote allowed (EndsLedger owed allowed) held held_now x.left r.0 y.left r.1 r.3.few same))
 

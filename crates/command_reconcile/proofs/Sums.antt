@@ -1,12 +1,13 @@
 -- Bills that are the same on both sides come to as much.
-use Rattle.std.proofs.Common.{◌≡◌, ◌∙◌, ℕ, ◌+◌, ◌≤◌, List, [], ◌∷◌, Bool, true, false, cond, refl, sym, ap, arith}
+use Rattle.std.proofs.Common.{◌≡◌, ◌∙◌, ℕ, ◌+◌, ◌≤◌, List, [], ◌∷◌, Bool, true, false, cond, refl, sym, ap, subst, arith}
 use Rattle.std.proofs.lemmas.List.Sums.{sum_by-cons}
-use Rattle.command_reconcile.specs.Differences.{is_same, number_of, price_of, sum_of}
+use Rattle.command_reconcile.specs.Differences.{IsReconciliation, is_same, number_of, price_of, sum_of}
 use Rattle.command_reconcile.specs.declared.bill.Bill.{Bill}
 use Rattle.command_reconcile.proofs.SameBills.{alike_same, same_itself}
-use Rattle.command_reconcile.specs.Agreements.{AgreementsAreTold, HaveSameBills}
+use Rattle.command_reconcile.specs.Agreements.{HaveSameBills, Reconciles}
 use Rattle.command_reconcile.proofs.Same.{number_cons, prices_same}
 use Rattle.command_reconcile.proofs.Agreed.{agree_alone, alone_told}
+use Rattle.command_reconcile.proofs.OneText.{one_text}
 
 -- bills with the first that is the same as that one taken away
 abbrev pub taken : Bool → Bill → List Bill → List Bill → List Bill
@@ -61,5 +62,12 @@ equal_sums (x ∷ xs) bidder same =
     let rest : sum_of xs ≡ sum_of (without x bidder) = equal_sums xs (without x bidder) (λ b. omega (arith, same b, number_cons b x xs, from.number b)) in
     omega (arith, sum_cons x xs, from.sums, rest)
 
-pub all_told : AgreementsAreTold
-all_told = record { alone = alone_told; agree = agree_alone; equal = equal_sums }
+-- what a reconciliation says
+pub reconciles : (exchange bidder : List Bill) (out : List ℕ) → IsReconciliation exchange bidder out → Reconciles exchange bidder out
+reconciles exchange bidder out is = record {
+  written = is;
+  one = λ text other. one_text exchange bidder text out other is;
+  alone = λ same. alone_told exchange bidder out same is;
+  agree = λ sums. agree_alone exchange bidder (subst (IsReconciliation exchange bidder) sums is);
+  equal = equal_sums exchange bidder;
+}

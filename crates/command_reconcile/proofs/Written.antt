@@ -5,9 +5,11 @@ use Rattle.std.specs.List.Sorted.{IsPermutation}
 use Rattle.std.specs.Prelude.{codes, decimal}
 use Rattle.std.proofs.lemmas.List.Concat.{flat_map-append}
 use Rattle.std.proofs.lemmas.List.Sorted.{sum_by-IsPermutation}
-use Rattle.command_reconcile.specs.Differences.{AreDifferences, IsReconciliation, difference_line, is_same, number_of, price_of, sums_line}
+use Rattle.command_reconcile.specs.Agreements.{Reconciles}
+use Rattle.command_reconcile.specs.Differences.{AreDifferences, difference_line, is_same, number_of, price_of, sums_line}
 use Rattle.command_reconcile.specs.Walks.{bill_names, difference_of, numbers_part}
 use Rattle.command_reconcile.specs.declared.bill.Bill.{Bill}
+use Rattle.command_reconcile.proofs.Sums.{reconciles}
 use Rattle.command_reconcile.proofs.Walked.{grown}
 
 -- four pieces that were written one behind the other
@@ -62,14 +64,14 @@ module _ (exchange bidder ours theirs : List Bill) (moved : IsPermutation exchan
       ap₂ (λ (n m : ℕ). codes "{\"exchange\":" ++ decimal n ++ codes ",\"bidder\":" ++ decimal m ++ codes "}\n") (sum_by-IsPermutation price_of exchange ours moved) (sum_by-IsPermutation price_of bidder theirs shifted)
 
   pub reconciled : (before mid now : List ℕ) → ((ds : List Bill) × AreDifferences ours theirs ds × (mid ≡ before ++ flat_map (difference_line ours theirs) ds)) → now ≡ mid ++ sums_line ours theirs
-      → (text : List ℕ) × (now ≡ before ++ text) × IsReconciliation exchange bidder text
+      → (text : List ℕ) × (now ≡ before ++ text) × Reconciles exchange bidder text
   reconciled before mid now (ds, are, lines) sums = (
     flat_map (difference_line exchange bidder) ds ++ sums_line exchange bidder,
     sums ∙ ap (λ (l : List ℕ). l ++ sums_line ours theirs) lines ∙ append_assoc before (flat_map (difference_line ours theirs) ds) (sums_line ours theirs)
         ∙ ap₂ (λ (a b : List ℕ). before ++ (a ++ b)) (same_lines ds) same_sums,
-    record {
+    reconciles exchange bidder (flat_map (difference_line exchange bidder) ds ++ sums_line exchange bidder) (record {
       differences = ds;
       are_those = record { sorted = are.sorted; just = λ b. are.just b ∙ ap₂ (λ (n m : ℕ). not (eqb n m)) (our_number b) (their_number b) };
       spelled = refl;
-    },
+    }),
   )

@@ -1,5 +1,4 @@
--- What the definitions of a reconciliation come to: it is one text, and it tells of two sides that agree nothing but their
--- equal sums. This project's own.
+-- What the reconciliation of two sides' bills says of them. This project's own.
 use Rattle.std.specs.Prelude.{◌≡◌, ℕ, List}
 use Rattle.command_reconcile.specs.Differences.{IsReconciliation, number_of, sum_of, sums_line}
 use Rattle.command_reconcile.specs.declared.bill.Bill.{Bill}
@@ -10,13 +9,11 @@ use Rattle.command_reconcile.specs.declared.bill.Bill.{Bill}
 abbrev pub HaveSameBills : List Bill → List Bill → Type 0
 HaveSameBills exchange bidder = (b : Bill) → number_of b exchange ≡ number_of b bidder
 
--- There is one text that reconciles two sides' bills.
-abbrev pub ReconciliationsAreOne : Type 0
-ReconciliationsAreOne =
-    (exchange bidder : List Bill) (out text : List ℕ) → IsReconciliation exchange bidder out → IsReconciliation exchange bidder text → out ≡ text
-
--- The sums stand alone just where both sides have the same bills, and then they are equal.
-pub record AgreementsAreTold : Type 0 where
-  pub alone : (exchange bidder : List Bill) (out : List ℕ) → HaveSameBills exchange bidder → IsReconciliation exchange bidder out → out ≡ sums_line exchange bidder
-  pub agree : (exchange bidder : List Bill) → IsReconciliation exchange bidder (sums_line exchange bidder) → HaveSameBills exchange bidder
-  pub equal : (exchange bidder : List Bill) → HaveSameBills exchange bidder → sum_of exchange ≡ sum_of bidder
+-- The text reconciles two sides' bills, and no other text does. It has the sums alone just where both sides have the same
+-- bills, and then the sums are equal.
+pub record Reconciles (exchange bidder : List Bill) (out : List ℕ) : Type 0 where
+  pub written : IsReconciliation exchange bidder out
+  pub one : (text : List ℕ) → IsReconciliation exchange bidder text → text ≡ out
+  pub alone : HaveSameBills exchange bidder → out ≡ sums_line exchange bidder
+  pub agree : out ≡ sums_line exchange bidder → HaveSameBills exchange bidder
+  pub equal : HaveSameBills exchange bidder → sum_of exchange ≡ sum_of bidder

@@ -7,7 +7,7 @@ use Rattle.adx_io.specs.Talk.{Reads, TalkState}
 use Rattle.adx_io.specs.declared.stop.Stop.{Stop}
 use Rattle.bidder_core.specs.declared.ledger.LedgerRow.{LedgerRow}
 use Rattle.bidder_http.specs.Books.{ledger_text}
-use Rattle.command_reconcile.specs.Differences.{IsReconciliation}
+use Rattle.command_reconcile.specs.Agreements.{Reconciles}
 use Rattle.command_reconcile.specs.declared.bill.Bill.{Bill}
 use Rattle.command_reconcile.specs.Ledgers.{FailsAt, IsLedger, IsLedgerRow, IsRowLine, TellsNoRow, ledger_bills, row_bill}
 use Rattle.command_runs.specs.Meanings.{PutsEnd}
@@ -43,5 +43,5 @@ ReadsLedger allowed bills (Err stop) old new = (taken : List ℕ) × (old.left �
 -- the reconciliation of these bills was put, or a prefix of it; or memory was refused before
 abbrev pub PutsReconciliation : List Bill → List Bill → Option (List ℕ) → Option (List ℕ) → Result Outcome Stop → Type 0
 PutsReconciliation owed told held held_now result =
-    ((out : List ℕ) × IsReconciliation owed told out × PutsEnd Outcome.Done held held_now out result)
+    ((out : List ℕ) × Reconciles owed told out × PutsEnd Outcome.Done held held_now out result)
     ⊎ ((held_now ≡ held) × (result ≡ Err Stop.OutOfMemory))

@@ -9,7 +9,7 @@ use Rattle.day_journal.specs.declared.disk.Disk as disk
 use Rattle.adx_io.specs.declared.line_buffer.TheConstants.{CHUNK}
 use Rattle.adx_io.specs.declared.stop.Stop.{Stop}
 use Rattle.bidder_core.specs.declared.ledger.LedgerRow.{LedgerRow}
-use Rattle.command_reconcile.specs.Differences.{IsReconciliation}
+use Rattle.command_reconcile.specs.Agreements.{Reconciles}
 use Rattle.command_reconcile.specs.declared.bill.Bill.{Bill}
 use Rattle.command_reconcile.specs.DayBills.{day_bills, place_named}
 use Rattle.command_reconcile.specs.Ledgers.{FailsAt, IsLedger, ledger_bills}
@@ -42,7 +42,7 @@ IsUnread taken = length taken ≤ CHUNK
 -- is refused.
 abbrev pub EndsLedger : List Bill → ℕ → Ending
 EndsLedger owed allowed outcome taken left out =
-    ((rows : List LedgerRow) × IsLedger allowed taken left rows × (outcome ≡ Outcome.Done) × IsReconciliation owed (ledger_bills rows) out)
+    ((rows : List LedgerRow) × IsLedger allowed taken left rows × (outcome ≡ Outcome.Done) × Reconciles owed (ledger_bills rows) out)
     ⊎ ((n : ℕ) × FailsAt allowed taken left n × (outcome ≡ Outcome.Refused) × (out ≡ no_row_line n))
 
 -- The same of the bills that the bidder at a place owes in a history, by that place; a bidder that the roster hasn't is refused before its ledger is read.

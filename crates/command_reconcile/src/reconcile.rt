@@ -216,12 +216,13 @@ impl<D: Disk> Led for Reconciling<'_, D> {
 /// bills have different numbers, by the bytes of the auction and then by the price; and after these the two sums. No entry
 /// is added: the disk stands for the same history afterwards. Of the ledger only its bills are kept in memory.
 ///
-/// `Done`: the sink took the whole reconciliation. `Refused`: the first line isn't a roster's; or the roster has no bidder
-/// with that name, and nothing of the ledger was read; or a line of the ledger isn't one, or is longer than `LINE_LIMIT`
-/// bytes, or the input passes `INPUT_LIMIT` bytes in it. The sink took the answer that says so. `DiskFault`: the disk failed while the day was opened, and the sink
-/// took nothing. `NoHistory`: the disk's file isn't a journal of the roster's day, and the sink took the answer that says
-/// why. `Err`: the source or the sink failed, whose count rose then, or memory was refused; the sink took a prefix of the
-/// output.
+/// `Done`: the sink took the whole reconciliation, which is the one of both sides: it has the sums alone just where they have
+/// the same bills, and then the sums are equal. `Refused`: the first line isn't a roster's; or the roster has no bidder with
+/// that name, and nothing of the ledger was read; or a line of the ledger isn't one, or is longer than `LINE_LIMIT` bytes, or
+/// the input passes `INPUT_LIMIT` bytes in it. The sink took the answer that says so. `DiskFault`: the disk failed while the
+/// day was opened, and the sink took nothing. `NoHistory`: the disk's file isn't a journal of the roster's day, and the sink
+/// took the answer that says why. `Err`: the source or the sink failed, whose count rose then, or memory was refused; the sink
+/// took a prefix of the output.
 pub fn reconcile_ledger<S: Source, K: Sink, D: Disk>(
     alloc: Global,
     name: &str,

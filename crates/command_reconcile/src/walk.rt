@@ -2,7 +2,8 @@
 ghost use Rattle.std.specs.Prelude.{◌≡◌, ◌++◌, [], List, ℕ, OnOk, IfNone, IfSome, string_bytes};
 ghost use Rattle.std.specs.List.{flat_map, prefix_len};
 ghost use Rattle.std.specs.List.Sorted.{IsPermutation};
-ghost use Rattle.command_reconcile.specs.Differences.{AreDifferences, IsReconciliation, difference_line, is_same as is_same_bill};
+ghost use Rattle.command_reconcile.specs.Agreements.{Reconciles};
+ghost use Rattle.command_reconcile.specs.Differences.{AreDifferences, difference_line, is_same as is_same_bill};
 ghost use Rattle.command_reconcile.specs.Walks.{AreFrom, AreRising, BeginsWith, IsCut, IsLeast, IsLesser};
 ghost use Rattle.command_reconcile.specs.declared.bill.Bill.{Bill as BillValue};
 
@@ -101,7 +102,8 @@ fn push_differences(out: &mut String, exchange: &[Bill], bidder: &[Bill]) -> Res
 }
 
 /// Writes the reconciliation of the bills of an exchange and of a bidder: a line for each auction and price of which they
-/// have different numbers, by the bytes of the auction and then by the price, and after these the two sums.
+/// have different numbers, by the bytes of the auction and then by the price, and after these the two sums. No other text
+/// is that; the sums are alone in it just where both sides have the same bills, and then they are equal.
 ///
 /// Both lists may come in any order. Where memory is refused, a part of it may stand there.
 pub fn push_reconciliation(
@@ -110,7 +112,7 @@ pub fn push_reconciliation(
     bidder: Vec<Bill>,
 ) -> Result<(), OutOfMemory>
     ensures { OnOk result ((text : List ℕ) × (string_bytes out.new ≡ string_bytes out.old ++ text)
-        × IsReconciliation exchange.items bidder.items text) }
+        × Reconciles exchange.items bidder.items text) }
 {
     let mut exchange = exchange;
     let mut bidder = bidder;
