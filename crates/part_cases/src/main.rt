@@ -20,6 +20,7 @@ mod request;
 mod row;
 mod text;
 mod words;
+mod world;
 
 use crate::readers::{done, push_said};
 use crate::row::Row;

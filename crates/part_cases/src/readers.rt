@@ -11,6 +11,7 @@ use crate::offer::push_offers_said;
 use crate::request::{push_asked, push_digest, push_request, push_view};
 use crate::text::push_fronts;
 use crate::words::{push_network_words, push_paths, push_words};
+use crate::world::push_world_said;
 use adx_units::{OutOfMemory, Text, budget_of, floor_of, price_of};
 use notice_macros::{expand_markup, expand_url};
 use std::alloc::{AllocError, Global};
@@ -81,6 +82,7 @@ pub(crate) fn push_said(
         "words" => push_words(out, alloc, text),
         "network" => push_network_words(out, alloc, text),
         "paths" => push_paths(out, alloc, text),
+        "world" => push_world_said(out, alloc, text),
         "bid" => push_bid_in(out, alloc, text),
         "offers" => push_offers_said(out, alloc, text),
         _ => Ok(out.push_str("no such reader")?),
