@@ -5,16 +5,19 @@ use Rattle.day_journal.specs.declared.disk.Disk as disks
 use Rattle.adx_io.specs.declared.sink.Sink as sinks
 use Rattle.adx_io.specs.declared.source.Source as sources
 use Rattle.adx_io.specs.declared.stop.Stop.{Stop}
-use Rattle.command_bidder.specs.Bidders.{bidder_command}
+use Rattle.command_bidder.specs.Bidders.{bidder_command, price_heads}
 use Rattle.command_archive.proofs.Unbegun.{unkept, unlisted_days}
 use Rattle.command_check.proofs.Ended.{unbegun as unchecked}
 use Rattle.command_close.specs.ClosedDays.{IsClosedDay}
 use Rattle.command_close.specs.Guarantees.{IsGuarantee}
-use Rattle.command_conn.specs.Exchanges.{conn_command}
+use Rattle.command_conn.specs.Exchanges.{LeavesDay as LeavesExchange, conn_command}
 use Rattle.command_day.specs.Days.{day_command}
-use Rattle.command_day.proofs.OneOutput.{took_told}
 use Rattle.command_notices.specs.PostLines.{AreNotices}
+use Rattle.command_reconcile.specs.Reconciling.{LeavesDisk as LeavesLedgerDay}
 use Rattle.command_reconcile.specs.Runs.{RunsReconciliation, reconcile_command}
+use Rattle.command_runs.specs.Firsts.{Heads, headless}
+use Rattle.command_runs.specs.Limits.{input_limit}
+use Rattle.command_runs.specs.Runs.{Runs as RunsOver, RunsAs}
 use Rattle.command_runs.specs.Statuses.{status_by}
 use Rattle.command_runs.specs.declared.outcome.Outcome.{Outcome}
 use Rattle.command_runs.proofs.Ran.{unbegun_counted, unbegun_wrote}
@@ -22,11 +25,12 @@ use Rattle.command_words.specs.Meanings.{IsPlain}
 use Rattle.command_words.specs.declared.command.Command.{Command}
 use Rattle.command_words.proofs.Rows.{plain_only, some_reading}
 use Rattle.day_archive.specs.declared.keeper.Keeper as keepers
-use Rattle.history_runs.specs.Histories.{Prints}
+use Rattle.history_runs.specs.Histories.{LeavesDay, Prints}
+use Rattle.history_runs.specs.Rosters.{roster_heads}
 use Rattle.history_runs.specs.Runs.{history_command}
 use Rattle.desk_calls.specs.Courses.{unopened}
 use Rattle.command_gen.specs.GeneratedEnds.{GeneratedRuns}
-use Rattle.adx_commands.specs.Commands.{Does, DoesAsRead, IsCommand, Outside, Runs, RunsBidder, RunsConnection, RunsDay, RunsPrint}
+use Rattle.adx_commands.specs.Commands.{Does, DoesAsRead, EndsBidder, IsCommand, KeepsDay, KeepsRoster, Outside, Runs}
 
 -- ---- the status of words that are no command
 
@@ -64,59 +68,32 @@ still source sink disk keeper = record {
 }
 
 module _ {S K D P : Type 0} (s : sources.Ghosts S) (k : sinks.Ghosts K) (d : disks.Ghosts D) (p : keepers.Ghosts P) (source : S) (sink : K) (disk : D) (keeper : P) where
-  bidder_unserved : RunsBidder (s.tape source) (s.tape source) (k.held sink) (k.held sink) 12
-  bidder_unserved = record {
-    course = None;
-    ended = Err Stop.OutOfMemory;
-    told = refl;
-    ends = tt;
-    wrote = unbegun_wrote (bidder_command None) (s.tape source) (k.held sink) (λ left. (refl, inr (([], All-nil (λ b. b ≢ 10), zero-le, inl ([], zero-le, refl)), refl)));
+  -- nothing was read, and so no first line
+  unbegun : {H : Type 0} (heads : Heads H) → RunsOver s k (headless heads input_limit) source source sink sink (Err Stop.OutOfMemory)
+  unbegun heads = record {
+    wrote = unbegun_wrote (headless heads input_limit) (s.tape source) (k.held sink) (λ left. (refl, inr (([], All-nil (λ b. b ≢ 10), zero-le, inl ([], zero-le, refl)), refl)));
+    causes = unbegun_counted (s.faults source) (k.faults sink);
+    source_same = refl;
+    sink_same = refl;
   }
 
-  unserved : RunsDay d (s.tape source) (s.tape source) (k.held sink) (k.held sink) disk disk 12
-  unserved =
-      let wrote = unbegun_wrote (day_command unopened) (s.tape source) (k.held sink) (λ left. (refl, inr (([], All-nil (λ b. b ≢ 10), zero-le, inl ([], zero-le, refl)), refl))) in record {
-        course = unopened;
-        ended = Err Stop.OutOfMemory;
-        told = refl;
-        ends = tt;
-        on_disk = refl;
-        wrote = wrote;
-        of_whole = took_told unopened (s.tape source) (s.tape source) (k.held sink) (k.held sink) (Err Stop.OutOfMemory) wrote;
-      }
+  unserved : RunsAs s k (KeepsDay d) day_command source source sink sink disk disk 12
+  unserved = record { course = unopened; ended = Err Stop.OutOfMemory; told = refl; left = (tt, refl); runs = unbegun roster_heads }
 
-  unconnected : RunsConnection d (s.tape source) (s.tape source) (k.held sink) (k.held sink) disk disk 12
-  unconnected = record {
-    course = None;
-    ended = Err Stop.OutOfMemory;
-    told = refl;
-    leaves = (refl, tt);
-    wrote = unbegun_wrote (conn_command None) (s.tape source) (k.held sink) (λ left. (refl, inr (([], All-nil (λ b. b ≢ 10), zero-le, inl ([], zero-le, refl)), refl)));
-  }
+  unconnected : RunsAs s k (KeepsRoster (LeavesExchange d)) conn_command source source sink sink disk disk 12
+  unconnected = record { course = None; ended = Err Stop.OutOfMemory; told = refl; left = (refl, tt); runs = unbegun roster_heads }
+
+  bidder_unserved : RunsAs s k EndsBidder bidder_command source source sink sink tt tt 12
+  bidder_unserved = record { course = None; ended = Err Stop.OutOfMemory; told = refl; left = tt; runs = unbegun price_heads }
+
+  unclosed : (prints : Prints) → RunsAs s k (KeepsRoster (LeavesDay d)) (history_command prints) source source sink sink disk disk 12
+  unclosed prints = record { course = None; ended = Err Stop.OutOfMemory; told = refl; left = (refl, tt); runs = unbegun roster_heads }
+
+  unreconciled : (name : List ℕ) → RunsAs s k (KeepsRoster (LeavesLedgerDay d)) (reconcile_command name) source source sink sink disk disk 12
+  unreconciled name = record { course = None; ended = Err Stop.OutOfMemory; told = refl; left = (refl, tt); runs = unbegun roster_heads }
 
   generated_untaken : (seed asks : ℕ) → GeneratedRuns d seed asks (k.held sink) (k.held sink) disk disk (Err Stop.OutOfMemory)
   generated_untaken seed asks = record { course = unopened; ends = (refl, refl); on_disk = refl }
-
-  unclosed : (prints : Prints) → RunsPrint d prints (s.tape source) (s.tape source) (k.held sink) (k.held sink) disk disk 12
-  unclosed prints = record {
-    course = None;
-    ended = Err Stop.OutOfMemory;
-    told = refl;
-    leaves = (refl, tt);
-    wrote = unbegun_wrote (history_command prints None) (s.tape source) (k.held sink) (λ left. (refl, inr (([], All-nil (λ b. b ≢ 10), zero-le, inl ([], zero-le, refl)), refl)));
-  }
-
-  unreconciled : (name : List ℕ) → RunsReconciliation s k d name source source sink sink disk disk (Err Stop.OutOfMemory)
-  unreconciled name = record {
-    course = None;
-    leaves = (refl, tt);
-    runs = record {
-      wrote = unbegun_wrote (reconcile_command name None) (s.tape source) (k.held sink) (λ left. (refl, inr (([], All-nil (λ b. b ≢ 10), zero-le, inl ([], zero-le, refl)), refl)));
-      causes = unbegun_counted (s.faults source) (k.faults sink);
-      source_same = refl;
-      sink_same = refl;
-    };
-  }
 
   -- whatever was to run ends so
   unstarted : (read : Option Command) → Runs s k d p (still source sink disk keeper) 12 read
@@ -130,7 +107,7 @@ module _ {S K D P : Type 0} (s : sources.Ghosts S) (k : sinks.Ghosts K) (d : dis
   unstarted (Some Command.Check) = unchecked (s.tape source) (k.held sink)
   unstarted (Some (Command.ArchivePut file)) = unkept s k p source sink keeper
   unstarted (Some (Command.ArchiveList file seat cid first last)) = unlisted_days p (record { seat = seat; cid = cid; first = first; last = last }) keeper (k.held sink)
-  unstarted (Some (Command.Reconcile journal name)) = record { ended = Err Stop.OutOfMemory; told = refl; ran = unreconciled name }
+  unstarted (Some (Command.Reconcile journal name)) = unreconciled name
   unstarted (Some (Command.Help topic)) = inr (inr (refl, refl))
   unstarted (Some Command.Version) = inr (inr (refl, refl))
   unstarted None = inr (inr (refl, refl))
@@ -147,12 +124,9 @@ pub reconciled : {S K D P : Type 0} (s : sources.Ghosts S) (k : sinks.Ghosts K) 
     (read : Option Command) (journal name asked : List ℕ) (ended : Result Outcome Stop) → read ≡ Some (Command.Reconcile journal name) → asked ≡ name → o.keeper_now ≡ o.keeper
     → status ≡ status_by ended → RunsReconciliation s k d asked o.source o.source_now o.sink o.sink_now o.disk o.disk_now ended → Does s k d p o status read
 reconciled s k d p o status read journal name asked ended is named kept told ran =
+    let ran = subst (λ n. RunsReconciliation s k d n o.source o.source_now o.sink o.sink_now o.disk o.disk_now ended) named ran in
     subst (Does s k d p o status) (sym is) (record {
-      by_run = record {
-        ended = ended;
-        told = told;
-        ran = subst (λ n. RunsReconciliation s k d n o.source o.source_now o.sink o.sink_now o.disk o.disk_now ended) named ran;
-      };
+      by_run = record { course = ran.course; ended = ended; told = told; left = ran.leaves; runs = ran.runs };
       unasked = λ nothing. absurd nothing;
       untouched = λ left. absurd left;
       nothing_kept = λ left. kept;

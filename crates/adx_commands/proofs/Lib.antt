@@ -1,6 +1,8 @@
 pub mod Outcomes
 pub mod Commands
 pub mod Beginnings
+pub mod PlainWords
+pub mod Outputs
 pub mod Words
 mod Documents
 mod LinkLanes

@@ -1,7 +1,13 @@
 -- What a day comes to that begins with no journal: the disk's file is empty, and the history with it. This project's own.
-use Rattle.std.specs.Prelude.{◌≡◌, ℕ, List, [], Option, Some, length, ⊤}
+use Rattle.std.specs.Prelude.{◌≡◌, ℕ, List, [], Option, Some, Result, length, ⊤}
 use Rattle.day_journal.specs.ByteDisks.{ByteDiskState, HeldSince}
-use Rattle.adx_io.specs.Streams.{Tape, Took}
+use Rattle.adx_io.specs.Streams.{Took}
+use Rattle.adx_io.specs.declared.sink.Sink as sinks
+use Rattle.adx_io.specs.declared.source.Source as sources
+use Rattle.adx_io.specs.declared.stop.Stop.{Stop}
+use Rattle.command_runs.specs.Meanings.{Meaning}
+use Rattle.command_runs.specs.Runs.{RunsAs}
+use Rattle.command_runs.specs.declared.outcome.Outcome.{Outcome}
 use Rattle.day_journal.specs.declared.disk.Disk as disks
 use Rattle.command_gen.specs.Generated.{generated_history, generated_line}
 use Rattle.adx_desk.specs.Histories.{DeskTerms, IsHistoryOf}
@@ -10,7 +16,7 @@ use Rattle.day_rules.specs.declared.entry.Entry.{Entry}
 use Rattle.deal_floor.specs.declared.roster.Roster.{Roster}
 use Rattle.history_runs.specs.Script.{terms_by}
 use Rattle.script_lines.specs.Rosters.{IsRosterLine}
-use Rattle.adx_commands.specs.Commands.{RunsConnection, RunsDay, RunsGenerated}
+use Rattle.adx_commands.specs.Commands.{RunsGenerated}
 
 -- an empty file stands for the history without an entry, and for no other
 abbrev pub NothingStandsForNothing : Type 0
@@ -37,15 +43,11 @@ byte_disk = record {
   lasts = λ _ _. ⊤;
 }
 
--- A day of script lines, one on a connection, and a generated one, each on such a disk that was new.
-abbrev pub RunsDayAnew : Option Tape → Option Tape → Option (List ℕ) → Option (List ℕ) → ℕ → Type 0
-RunsDayAnew tape tape_now held held_now status =
-    (kept : ByteDiskState) × RunsDay byte_disk tape tape_now held held_now new_disk kept status
-
--- a day on a connection, without a journal
-abbrev pub RunsConnectionAnew : Option Tape → Option Tape → Option (List ℕ) → Option (List ℕ) → ℕ → Type 0
-RunsConnectionAnew tape tape_now held held_now status =
-    (kept : ByteDiskState) × RunsConnection byte_disk tape tape_now held held_now new_disk kept status
+-- a command ran as it does on a disk, on such a disk that was new
+abbrev pub RunsAnew : {S K C : Type 0} → sources.Ghosts S → sinks.Ghosts K → (ByteDiskState → ByteDiskState → C → Result Outcome Stop → Type 0)
+    → (C → Meaning) → S → S → K → K → ℕ → Type 0
+RunsAnew s k leaves meaning old new sink_old sink_new status =
+    (kept : ByteDiskState) × RunsAs s k leaves meaning old new sink_old sink_new new_disk kept status
 
 -- a generated day, without a journal
 abbrev pub RunsGeneratedAnew : ℕ → ℕ → Option (List ℕ) → Option (List ℕ) → ℕ → Type 0

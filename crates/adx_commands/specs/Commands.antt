@@ -2,8 +2,8 @@
 -- This project's own.
 -- Example: the words `day`, `--journal`, `a` serve a day in plain spelling; `day`, `--journal=a` aren't in plain
 -- spelling, and do what `clap` reads of them.
-use Rattle.std.specs.Prelude.{◌≡◌, ◌⊎◌, ℕ, List, codes, true, false, Option, Some, None, Result}
-use Rattle.adx_io.specs.Streams.{Tape, Took, WhereTold}
+use Rattle.std.specs.Prelude.{◌≡◌, ◌⊎◌, ℕ, ◌-◌, ◌^◌, List, codes, true, false, Option, Some, None, Result}
+use Rattle.adx_io.specs.Streams.{Took}
 use Rattle.day_journal.specs.declared.disk.Disk as disks
 use Rattle.adx_io.specs.declared.stop.Stop.{Stop}
 use Rattle.adx_io.specs.declared.sink.Sink as sinks
@@ -16,67 +16,92 @@ use Rattle.command_archive.specs.declared.list.Query.{Query}
 use Rattle.command_check.specs.Runs.{ChecksInput}
 use Rattle.command_close.specs.ClosedDays.{IsClosedDay}
 use Rattle.command_close.specs.Guarantees.{IsGuarantee}
-use Rattle.command_conn.specs.Exchanges.{Day, LeavesDay as LeavesExchange, conn_command}
-use Rattle.command_day.specs.Days.{EndsAs, TookOfWhole, day_command}
+use Rattle.command_conn.specs.Exchanges.{Day, LeavesDay as LeavesExchange, conn_command, was_given_up, was_served, was_unbegun}
+use Rattle.command_conn.specs.RosterLinks.{AreRosterLanes}
+use Rattle.desk_calls.specs.Steps.{AreSteps, alone}
+use Rattle.desk_calls.specs.Told.{told_of}
+use Rattle.adx_desk.specs.Rosters.{desk_terms}
+use Rattle.history_runs.specs.Unopened.{GivesUpBy}
+use Rattle.command_day.specs.Days.{EndsAs, day_command}
 use Rattle.command_gen.specs.GeneratedEnds.{GeneratedRuns}
 use Rattle.command_notices.specs.PostLines.{AreNotices}
-use Rattle.command_reconcile.specs.Runs.{RunsReconciliation}
+use Rattle.command_reconcile.specs.Reconciling.{LeavesDisk as LeavesLedgerDay}
+use Rattle.command_reconcile.specs.Runs.{reconcile_command}
 use Rattle.command_runs.specs.Firsts.{LeavesFirst}
-use Rattle.command_runs.specs.Meanings.{Wrote}
+use Rattle.command_runs.specs.Runs.{RunsAs}
 use Rattle.command_runs.specs.Statuses.{status_by}
 use Rattle.command_runs.specs.declared.outcome.Outcome.{Outcome}
 use Rattle.command_words.specs.Helps.{help_text, version_text}
-use Rattle.command_words.specs.Meanings.{IsPlain}
+use Rattle.command_words.specs.Meanings.{IsPlain, IsRowOf, archive_name, asks_name, bidder_name, cid_name, from_name, journal_name, number_of, ratio_name, seat_name, seed_name, to_name}
+use Rattle.command_words.specs.Spelling.{Given, Row, Spells, SpellsWith, value_of}
 use Rattle.command_words.specs.Taken.{IsReadingOf}
 use Rattle.command_words.specs.declared.command.Command.{Command}
+use Rattle.command_words.specs.declared.command.TheConstants.{MOST_ASKS}
 use Rattle.command_words.specs.declared.command.Topic.{Topic}
 use Rattle.day_archive.specs.declared.keeper.Keeper as keepers
 use Rattle.deal_floor.specs.declared.roster.Roster.{Roster}
-use Rattle.desk_calls.specs.Courses.{Course, GoesOn}
-use Rattle.desk_calls.specs.OnDisk.{CourseOn}
-use Rattle.history_runs.specs.Histories.{LeavesDay, Opening, Prints}
+use Rattle.desk_calls.specs.Courses.{Course}
+use Rattle.desk_calls.specs.OnDisk.{CourseOn, history_after}
+use Rattle.history_runs.specs.Histories.{LeavesDay}
 use Rattle.history_runs.specs.Runs.{history_command}
 use Rattle.history_runs.specs.Endings.{TookFront}
 
--- the words serve a day, in plain spelling: with no journal, or with one in a file
+-- the words are the command of this word with these options in plain spelling
+abbrev pub IsCalled : List ℕ → List Given → List (List ℕ) → Type 0
+IsCalled word given words = (row : Row) × Spells row given words × IsRowOf word row
+
+-- the words serve a day: with no journal, or with one in a file
 abbrev pub IsDay : List (List ℕ) → Type 0
-IsDay words = (journal : Option (List ℕ)) × IsPlain (Command.Day journal) words
+IsDay words = (given : List Given) × IsCalled (codes "day") given words
 
 -- the words serve a day on a connection: with no journal, or with one in a file
 abbrev pub IsConnection : List (List ℕ) → Type 0
-IsConnection words = (journal : Option (List ℕ)) × IsPlain (Command.Connection journal) words
+IsConnection words = (given : List Given) × IsCalled (codes "conn") given words
 
 -- the words serve a bidder's connection
 abbrev pub IsBidder : List (List ℕ) → Type 0
-IsBidder words = IsPlain Command.Bidder words
+IsBidder words = (given : List Given) × IsCalled (codes "bidder") given words
 
 -- the words generate a day of so many asks by this seed
 abbrev pub IsGenerated : List (List ℕ) → ℕ → ℕ → Type 0
-IsGenerated words seed asks = IsPlain (Command.Generate seed asks) words
+IsGenerated words seed asks =
+    (given : List Given) × IsCalled (codes "gen") given words
+    × (number_of (2 ^ 64 - 1) (value_of seed_name given) ≡ Some seed) × (number_of MOST_ASKS (value_of asks_name given) ≡ Some asks)
 
--- the words print the notices of a day, with the journal in a file
+-- the words are this command on the journal in a file
+abbrev pub IsOnJournal : List ℕ → List (List ℕ) → Type 0
+IsOnJournal word words =
+    (journal : List ℕ) × (given : List Given) × IsCalled word given words × (value_of journal_name given ≡ Some journal)
+
+-- the words print the notices of the day that a journal in a file keeps
 abbrev pub IsNotices : List (List ℕ) → Type 0
-IsNotices words = (journal : List ℕ) × IsPlain (Command.Notices journal) words
+IsNotices words = IsOnJournal (codes "notices") words
 
--- the words print the document of the day that a journal in a file keeps, and the line of its revenue guarantee
+-- the words print the document of the day that a journal in a file keeps
 abbrev pub IsClose : List (List ℕ) → Type 0
-IsClose words = (journal : List ℕ) × IsPlain (Command.Close journal false) words
+IsClose words = IsOnJournal (codes "close") words
 
--- the line of its revenue guarantee
+-- the words print the line of its revenue guarantee
 abbrev pub IsRatio : List (List ℕ) → Type 0
-IsRatio words = (journal : List ℕ) × IsPlain (Command.Close journal true) words
+IsRatio words =
+    (journal : List ℕ) × (row : Row) × (given : List Given) × SpellsWith row ratio_name given words × IsRowOf (codes "close") row
+    × (value_of journal_name given ≡ Some journal)
 
 -- the words check a closed day
 abbrev pub IsCheck : List (List ℕ) → Type 0
-IsCheck words = IsPlain Command.Check words
+IsCheck words = (given : List Given) × IsCalled (codes "check") given words
 
 -- the words keep a closed day in the archive of this file
 abbrev pub IsArchivePut : List (List ℕ) → Type 0
-IsArchivePut words = (archive : List ℕ) × IsPlain (Command.ArchivePut archive) words
+IsArchivePut words =
+    (archive : List ℕ) × (given : List Given) × IsCalled (codes "archive-put") given words × (value_of archive_name given ≡ Some archive)
 
 -- the words list the kept days that are asked for, in the archive of this file
 abbrev pub IsArchiveList : List (List ℕ) → Query → Type 0
-IsArchiveList words q = (archive : List ℕ) × IsPlain (Command.ArchiveList archive q.seat q.cid q.first q.last) words
+IsArchiveList words q =
+    (archive : List ℕ) × (given : List Given) × IsCalled (codes "archive-list") given words × (value_of archive_name given ≡ Some archive)
+    × (value_of seat_name given ≡ Some q.seat) × (value_of cid_name given ≡ Some q.cid)
+    × (value_of from_name given ≡ Some q.first) × (value_of to_name given ≡ Some q.last)
 
 -- the words are one of these
 abbrev pub IsArchive : List (List ℕ) → Type 0
@@ -84,7 +109,9 @@ IsArchive words = IsArchivePut words ⊎ ((q : Query) × IsArchiveList words q)
 
 -- the words compare the bills of the day that a journal in a file keeps with the ledger of the bidder of this name
 abbrev pub IsReconcile : List (List ℕ) → List ℕ → Type 0
-IsReconcile words name = (journal : List ℕ) × IsPlain (Command.Reconcile journal name) words
+IsReconcile words name =
+    (journal : List ℕ) × (given : List Given) × IsCalled (codes "reconcile") given words × (value_of journal_name given ≡ Some journal)
+    × (value_of bidder_name given ≡ Some name)
 
 -- the words ask for help on this, and for the version
 abbrev pub IsHelp : List (List ℕ) → Topic → Type 0
@@ -98,42 +125,30 @@ IsVersion words = IsPlain Command.Version words
 abbrev pub IsCommand : List (List ℕ) → Type 0
 IsCommand words = (command : Command) × IsPlain command words
 
--- A day ran so over a source, a sink and a disk, told by the exit status. The course is how the day went; by it, how the
--- run ended, what became of the disk, and what was written for the input. Whatever the sink took is a prefix of each whole
--- output of a day that goes on from there.
-pub record RunsDay {D : Type 0} (d : disks.Ghosts D) (tape tape_now : Option Tape) (held held_now : Option (List ℕ))
-    (old new : D) (status : ℕ) : Type 0 where
-  pub course : Course
-  pub ended : Result Outcome Stop
-  pub told : status ≡ status_by ended
-  pub ends : EndsAs course ended
-  pub on_disk : CourseOn d.faults d.reads d.may_leave d.moment d.left_since course old new
-  pub wrote : WhereTold tape tape_now
-      (λ before now. Wrote (day_command course) before.left now.left held held_now ended)
-  pub of_whole : WhereTold tape tape_now (λ before now.
-      (more : Course) → GoesOn course more → TookOfWhole (day_command more) before.left held held_now)
+-- How a day ended by how it went, and what became of its disk.
+abbrev pub KeepsDay : {D : Type 0} → disks.Ghosts D → D → D → Course → Result Outcome Stop → Type 0
+KeepsDay d old new course ended = EndsAs course ended × CourseOn d.faults d.reads d.may_leave d.moment d.left_since course old new
 
--- A day of an exchange on a connection ran so over a source, a sink and a disk, told by the exit status. The course is the
--- roster of the first line, if there is one, and what came of its day; by it, how the run ended, what became of the disk, and
--- what was written for the input.
-pub record RunsConnection {D : Type 0} (d : disks.Ghosts D) (tape tape_now : Option Tape) (held held_now : Option (List ℕ))
-    (old new : D) (status : ℕ) : Type 0 where
-  pub course : Option (Roster × Day)
-  pub ended : Result Outcome Stop
-  pub told : status ≡ status_by ended
-  pub leaves : LeavesFirst (λ before now r day. LeavesExchange d r day before now) old new course ended
-  pub wrote : WhereTold tape tape_now
-      (λ before now. Wrote (conn_command course) before.left now.left held held_now ended)
+-- The same where nothing is said of a disk.
+abbrev pub EndsDay : Unit {0} → Unit {0} → Course → Result Outcome Stop → Type 0
+EndsDay nothing still course ended = EndsAs course ended
 
--- A bidder's run ended so over a source and a sink, told by the exit status. The course is the bidder of the first line, if
--- there is one, and what the connection left of it.
-pub record RunsBidder (tape tape_now : Option Tape) (held held_now : Option (List ℕ)) (status : ℕ) : Type 0 where
-  pub course : Option (BidderState × BidderState)
-  pub ended : Result Outcome Stop
-  pub told : status ≡ status_by ended
-  pub ends : MayEnd course ended
-  pub wrote : WhereTold tape tape_now
-      (λ before now. Wrote (bidder_command course) before.left now.left held held_now ended)
+-- What became of the disk of the roster that the first line told, by what came of its day, where a line told one.
+abbrev pub KeepsRoster : {D Day : Type 0} → (Roster → Day → D → D → Result Outcome Stop → Type 0) → D → D → Option (Roster × Day)
+    → Result Outcome Stop → Type 0
+KeepsRoster leaves = LeavesFirst (λ old new r day. leaves r day old new)
+
+-- How the run on a connection ended by what came of its day, where nothing is said of a disk: the bidders answer by the roster's
+-- texts, and each message's steps are made at the history that those before it leave.
+abbrev pub EndsExchange : Roster → Day → Unit {0} → Unit {0} → Result Outcome Stop → Type 0
+EndsExchange r was_unbegun nothing still ended = ended ≡ Err Stop.OutOfMemory
+EndsExchange r (was_given_up why) nothing still ended = GivesUpBy why ended
+EndsExchange r (was_served start lanes course) nothing still ended =
+    AreRosterLanes r lanes × AreSteps alone (desk_terms r) start course.steps (history_after (desk_terms r).day start (told_of course.steps))
+
+-- How a bidder's run ended. It has no disk.
+abbrev pub EndsBidder : Unit {0} → Unit {0} → Option (BidderState × BidderState) → Result Outcome Stop → Type 0
+EndsBidder nothing still course ended = MayEnd course ended
 
 -- A generated day ended so over a sink and a disk, told by the exit status.
 pub record RunsGenerated {D : Type 0} (d : disks.Ghosts D) (seed asks : ℕ) (held held_now : Option (List ℕ))
@@ -141,24 +156,6 @@ pub record RunsGenerated {D : Type 0} (d : disks.Ghosts D) (seed asks : ℕ) (he
   pub ended : Result Outcome Stop
   pub told : status ≡ status_by ended
   pub runs : GeneratedRuns d seed asks held held_now old new ended
-
--- Something of the day that a journal keeps was printed over a source, a sink and a disk, told by the exit status. The course
--- is what came of the roster and of its day; by it, what became of the disk, and what was written for the input.
-pub record RunsPrint {D : Type 0} (d : disks.Ghosts D) (prints : Prints) (tape tape_now : Option Tape)
-    (held held_now : Option (List ℕ)) (old new : D) (status : ℕ) : Type 0 where
-  pub course : Option (Roster × Opening)
-  pub ended : Result Outcome Stop
-  pub told : status ≡ status_by ended
-  pub leaves : LeavesFirst (λ before now r o. LeavesDay d r o before now) old new course ended
-  pub wrote : WhereTold tape tape_now
-      (λ before now. Wrote (history_command prints course) before.left now.left held held_now ended)
-
--- The bills of a day and of a bidder's ledger were compared over a source, a sink and a disk, told by the exit status.
-pub record RunsReconcile {S K D : Type 0} (s : sources.Ghosts S) (k : sinks.Ghosts K) (d : disks.Ghosts D) (name : List ℕ)
-    (source source_now : S) (sink sink_now : K) (old new : D) (status : ℕ) : Type 0 where
-  pub ended : Result Outcome Stop
-  pub told : status ≡ status_by ended
-  pub ran : RunsReconciliation s k d name source source_now sink sink_now old new ended
 
 -- The sink took the text, and the status is this one; or it took a front of the text and failed; or memory was refused
 -- before, and it took nothing.
@@ -190,23 +187,23 @@ module _ {S K D P : Type 0} (s : sources.Ghosts S) (k : sinks.Ghosts K) (d : dis
   -- what was read of the words ran so; where nothing was read, they are no command
   abbrev pub Runs : Option Command → Type 0
   Runs (Some (Command.Day journal)) =
-      RunsDay d (s.tape o.source) (s.tape o.source_now) (k.held o.sink) (k.held o.sink_now) o.disk o.disk_now status
+      RunsAs s k (KeepsDay d) day_command o.source o.source_now o.sink o.sink_now o.disk o.disk_now status
   Runs (Some (Command.Connection journal)) =
-      RunsConnection d (s.tape o.source) (s.tape o.source_now) (k.held o.sink) (k.held o.sink_now) o.disk o.disk_now status
+      RunsAs s k (KeepsRoster (LeavesExchange d)) conn_command o.source o.source_now o.sink o.sink_now o.disk o.disk_now status
   Runs (Some (Command.Notices journal)) =
-      RunsPrint d AreNotices (s.tape o.source) (s.tape o.source_now) (k.held o.sink) (k.held o.sink_now) o.disk o.disk_now status
-  Runs (Some Command.Bidder) = RunsBidder (s.tape o.source) (s.tape o.source_now) (k.held o.sink) (k.held o.sink_now) status
+      RunsAs s k (KeepsRoster (LeavesDay d)) (history_command AreNotices) o.source o.source_now o.sink o.sink_now o.disk o.disk_now status
+  Runs (Some Command.Bidder) = RunsAs s k EndsBidder bidder_command o.source o.source_now o.sink o.sink_now tt tt status
   Runs (Some (Command.Close journal false)) =
-      RunsPrint d IsClosedDay (s.tape o.source) (s.tape o.source_now) (k.held o.sink) (k.held o.sink_now) o.disk o.disk_now status
+      RunsAs s k (KeepsRoster (LeavesDay d)) (history_command IsClosedDay) o.source o.source_now o.sink o.sink_now o.disk o.disk_now status
   Runs (Some (Command.Close journal true)) =
-      RunsPrint d IsGuarantee (s.tape o.source) (s.tape o.source_now) (k.held o.sink) (k.held o.sink_now) o.disk o.disk_now status
+      RunsAs s k (KeepsRoster (LeavesDay d)) (history_command IsGuarantee) o.source o.source_now o.sink o.sink_now o.disk o.disk_now status
   Runs (Some (Command.Generate seed asks)) = RunsGenerated d seed asks (k.held o.sink) (k.held o.sink_now) o.disk o.disk_now status
   Runs (Some Command.Check) = ChecksInput (s.tape o.source) (s.tape o.source_now) (k.held o.sink) (k.held o.sink_now) status
   Runs (Some (Command.ArchivePut file)) = KeepsAs s k p o.source o.source_now o.sink o.sink_now o.keeper o.keeper_now status
   Runs (Some (Command.ArchiveList file seat cid first last)) =
       ListsAs p (record { seat = seat; cid = cid; first = first; last = last }) o.keeper o.keeper_now (k.held o.sink) (k.held o.sink_now) status
   Runs (Some (Command.Reconcile journal name)) =
-      RunsReconcile s k d name o.source o.source_now o.sink o.sink_now o.disk o.disk_now status
+      RunsAs s k (KeepsRoster (LeavesLedgerDay d)) (reconcile_command name) o.source o.source_now o.sink o.sink_now o.disk o.disk_now status
   Runs (Some (Command.Help topic)) = Tells (help_text topic) 0 (k.held o.sink) (k.held o.sink_now) status
   Runs (Some Command.Version) = Tells version_text 0 (k.held o.sink) (k.held o.sink_now) status
   Runs None = Tells usage_line 2 (k.held o.sink) (k.held o.sink_now) status

@@ -4,10 +4,14 @@ ghost use Rattle.adx_io.specs.Streams.{Rises};
 ghost use Rattle.command_archive.specs.Keeps.{KeepsAs};
 ghost use Rattle.command_archive.specs.Lists.{ListsAs};
 ghost use Rattle.command_archive.specs.declared.list.Query.{Query as Asked};
+ghost use Rattle.command_bidder.specs.Bidders.{bidder_command};
 ghost use Rattle.command_check.specs.Runs.{AcceptsInput, ChecksInput};
-ghost use Rattle.adx_commands.specs.Anew.{NothingStandsForNothing, RunsConnectionAnew, RunsDayAnew, RunsGeneratedAnew, TookGenerated};
+ghost use Rattle.command_conn.specs.Exchanges.{LeavesDay as LeavesExchange, conn_command};
+ghost use Rattle.command_day.specs.Days.{day_command};
+ghost use Rattle.command_runs.specs.Runs.{RunsAs};
+ghost use Rattle.adx_commands.specs.Anew.{NothingStandsForNothing, RunsAnew, RunsGeneratedAnew, TookGenerated, byte_disk};
 ghost use Rattle.adx_commands.specs.Words.{DoesWordsAnew};
-ghost use Rattle.adx_commands.specs.Commands.{IsArchive, IsArchiveList, IsArchivePut, IsBidder, IsCheck, IsConnection, IsDay, IsGenerated, RunsBidder};
+ghost use Rattle.adx_commands.specs.Commands.{EndsBidder, EndsDay, EndsExchange, IsArchive, IsArchiveList, IsArchivePut, IsBidder, IsCheck, IsConnection, IsDay, IsGenerated, KeepsDay, KeepsRoster};
 
 use crate::command::adx;
 use adx_io::{Sink, Source};
@@ -26,12 +30,16 @@ pub fn adx_in_memory<S: Source, K: Sink, P: Keeper>(
     sink: &mut K,
     keeper: &mut P,
 ) -> u8
-    ensures day { IsDay words.now →
-        RunsDayAnew (S.tape source.old) (S.tape source.new) (K.held sink.old) (K.held sink.new) result }
-    ensures connection { IsConnection words.now →
-        RunsConnectionAnew (S.tape source.old) (S.tape source.new) (K.held sink.old) (K.held sink.new) result }
+    ensures day_output { IsDay words.now →
+        RunsAs S.Source K.Sink EndsDay day_command source.old source.new sink.old sink.new tt tt result }
+    ensures day_kept { IsDay words.now →
+        RunsAnew S.Source K.Sink (KeepsDay byte_disk) day_command source.old source.new sink.old sink.new result }
+    ensures connection_output { IsConnection words.now →
+        RunsAs S.Source K.Sink (KeepsRoster EndsExchange) conn_command source.old source.new sink.old sink.new tt tt result }
+    ensures connection_kept { IsConnection words.now →
+        RunsAnew S.Source K.Sink (KeepsRoster (LeavesExchange byte_disk)) conn_command source.old source.new sink.old sink.new result }
     ensures bidder { IsBidder words.now →
-        RunsBidder (S.tape source.old) (S.tape source.new) (K.held sink.old) (K.held sink.new) result }
+        RunsAs S.Source K.Sink EndsBidder bidder_command source.old source.new sink.old sink.new tt tt result }
     ensures generated { (seed asks : ℕ) → IsGenerated words.now seed asks →
         RunsGeneratedAnew seed asks (K.held sink.old) (K.held sink.new) result }
     ensures generated_table { (seed asks : ℕ) → IsGenerated words.now seed asks → result ≡ 0 →

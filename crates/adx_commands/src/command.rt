@@ -8,16 +8,23 @@ ghost use Rattle.command_check.specs.Checks.{HasOneAnswer};
 ghost use Rattle.command_check.specs.Runs.{AcceptsInput, ChecksInput};
 ghost use Rattle.command_close.specs.ClosedDays.{HasOneDocument, IsClosedDay};
 ghost use Rattle.command_close.specs.Guarantees.{HasOneGuarantee, IsGuarantee};
+ghost use Rattle.command_bidder.specs.Bidders.{bidder_command};
+ghost use Rattle.command_conn.specs.Exchanges.{LeavesDay as LeavesExchange, conn_command};
 ghost use Rattle.command_conn.specs.Laws.{HasOneOutput as HasOneExchange};
-ghost use Rattle.command_day.specs.Days.{HasOneOutput, HasOutputs};
+ghost use Rattle.command_day.specs.Days.{HasOneOutput, HasOutputs, HasPrefixes, day_command};
 ghost use Rattle.command_notices.specs.PostLines.{AreNotices};
+ghost use Rattle.command_reconcile.specs.Reconciling.{LeavesDisk as LeavesLedgerDay};
+ghost use Rattle.command_reconcile.specs.Runs.{reconcile_command};
+ghost use Rattle.command_runs.specs.Runs.{RunsAs};
+ghost use Rattle.history_runs.specs.Histories.{LeavesDay};
+ghost use Rattle.history_runs.specs.Runs.{history_command};
 ghost use Rattle.command_words.specs.Helps.{help_text, version_text};
 ghost use Rattle.command_words.specs.Meanings.{HasFewAsks, IsPlain};
 ghost use Rattle.command_words.specs.declared.command.Command.{Command as Meaning};
 ghost use Rattle.command_words.specs.declared.command.Topic.{Topic as HelpTopic};
 ghost use Rattle.adx_commands.specs.Statuses.{HasCauses, HasDiskCauses};
 ghost use Rattle.adx_commands.specs.Words.{DoesWords};
-ghost use Rattle.adx_commands.specs.Commands.{AsksNothing, Does, DoesAsRead, IsArchive, IsArchiveList, IsArchivePut, IsBidder, IsCheck, IsClose, IsCommand, IsConnection, IsDay, IsGenerated, IsHelp, IsNotices, IsRatio, IsReconcile, IsVersion, LeavesDisk, LeavesKeeper, Runs, RunsBidder, RunsConnection, RunsDay, RunsGenerated, RunsPrint, RunsReconcile, Tells};
+ghost use Rattle.adx_commands.specs.Commands.{AsksNothing, Does, DoesAsRead, IsArchive, IsArchiveList, IsArchivePut, IsBidder, IsCheck, IsClose, IsCommand, IsConnection, IsDay, IsGenerated, IsHelp, IsNotices, IsRatio, IsReconcile, IsVersion, EndsExchange, KeepsDay, KeepsRoster, LeavesDisk, LeavesKeeper, EndsBidder, EndsDay, Runs, RunsGenerated, Tells};
 
 use crate::status::{DONE, NO_COMMAND, OUT_OF_MEMORY, WRITE_FAULT, status_of_outcome};
 use adx_io::{Sink, Source, put_all};
@@ -258,20 +265,27 @@ pub fn adx<S: Source, K: Sink, D: Disk, P: Keeper>(
     disk: &mut D,
     keeper: &mut P,
 ) -> u8
-    ensures day { IsDay words.now →
-        RunsDay D.Disk (S.tape source.old) (S.tape source.new) (K.held sink.old) (K.held sink.new) disk.old disk.new result }
-    ensures connection { IsConnection words.now →
-        RunsConnection D.Disk (S.tape source.old) (S.tape source.new) (K.held sink.old) (K.held sink.new) disk.old disk.new result }
+    ensures day_output { IsDay words.now →
+        RunsAs S.Source K.Sink EndsDay day_command source.old source.new sink.old sink.new tt tt result }
+    ensures day_kept { IsDay words.now →
+        RunsAs S.Source K.Sink (KeepsDay D.Disk) day_command source.old source.new sink.old sink.new disk.old disk.new result }
+    ensures connection_output { IsConnection words.now →
+        RunsAs S.Source K.Sink (KeepsRoster EndsExchange) conn_command source.old source.new sink.old sink.new tt tt result }
+    ensures connection_kept { IsConnection words.now →
+        RunsAs S.Source K.Sink (KeepsRoster (LeavesExchange D.Disk)) conn_command source.old source.new sink.old sink.new disk.old disk.new result }
     ensures bidder { IsBidder words.now →
-        RunsBidder (S.tape source.old) (S.tape source.new) (K.held sink.old) (K.held sink.new) result }
+        RunsAs S.Source K.Sink EndsBidder bidder_command source.old source.new sink.old sink.new tt tt result }
     ensures generated { (seed asks : ℕ) → IsGenerated words.now seed asks →
         RunsGenerated D.Disk seed asks (K.held sink.old) (K.held sink.new) disk.old disk.new result }
     ensures notices { IsNotices words.now →
-        RunsPrint D.Disk AreNotices (S.tape source.old) (S.tape source.new) (K.held sink.old) (K.held sink.new) disk.old disk.new result }
+        RunsAs S.Source K.Sink (KeepsRoster (LeavesDay D.Disk)) (history_command AreNotices)
+        source.old source.new sink.old sink.new disk.old disk.new result }
     ensures close { IsClose words.now →
-        RunsPrint D.Disk IsClosedDay (S.tape source.old) (S.tape source.new) (K.held sink.old) (K.held sink.new) disk.old disk.new result }
+        RunsAs S.Source K.Sink (KeepsRoster (LeavesDay D.Disk)) (history_command IsClosedDay)
+        source.old source.new sink.old sink.new disk.old disk.new result }
     ensures ratio { IsRatio words.now →
-        RunsPrint D.Disk IsGuarantee (S.tape source.old) (S.tape source.new) (K.held sink.old) (K.held sink.new) disk.old disk.new result }
+        RunsAs S.Source K.Sink (KeepsRoster (LeavesDay D.Disk)) (history_command IsGuarantee)
+        source.old source.new sink.old sink.new disk.old disk.new result }
     ensures check { IsCheck words.now →
         ChecksInput (S.tape source.old) (S.tape source.new) (K.held sink.old) (K.held sink.new) result }
     ensures accepted { IsCheck words.now → result ≡ 0 →
@@ -281,7 +295,8 @@ pub fn adx<S: Source, K: Sink, D: Disk, P: Keeper>(
     ensures archive_list { (q : Asked) → IsArchiveList words.now q →
         ListsAs P.Keeper q keeper.old keeper.new (K.held sink.old) (K.held sink.new) result }
     ensures reconcile { (name : List ℕ) → IsReconcile words.now name →
-        RunsReconcile S.Source K.Sink D.Disk name source.old source.new sink.old sink.new disk.old disk.new result }
+        RunsAs S.Source K.Sink (KeepsRoster (LeavesLedgerDay D.Disk)) (reconcile_command name)
+        source.old source.new sink.old sink.new disk.old disk.new result }
     ensures words { DoesWords S.Source K.Sink D.Disk P.Keeper (record {
       source = source.old;
       source_now = source.new;
@@ -306,6 +321,7 @@ pub fn adx<S: Source, K: Sink, D: Disk, P: Keeper>(
     ensures disk_later { D.faults disk.old ≤ D.faults disk.new }
     ensures outputs { HasOutputs }
     ensures one_output { HasOneOutput }
+    ensures prefixes { HasPrefixes }
     ensures one_exchange { HasOneExchange }
     ensures one_document { HasOneDocument }
     ensures one_answer { HasOneAnswer }

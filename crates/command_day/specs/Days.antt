@@ -6,13 +6,13 @@
 use Rattle.std.specs.Prelude.{◌≡◌, ℕ, List, [], ◌++◌, Option, Some, None, Result, Ok, Err}
 use Rattle.adx_io.specs.declared.stop.Stop.{Stop}
 use Rattle.command_runs.specs.Firsts.{EndsHeadless, headless, led}
-use Rattle.command_runs.specs.Meanings.{Meaning, TookPrefix}
+use Rattle.command_runs.specs.Meanings.{Meaning, TookPrefix, Wrote}
 use Rattle.command_runs.specs.Scripts.{Answering, script}
 use Rattle.command_runs.specs.Limits.{input_limit}
 use Rattle.command_runs.specs.declared.outcome.Outcome.{Outcome}
 use Rattle.day_rules.specs.declared.entry.Entry.{Entry}
 use Rattle.deal_floor.specs.declared.roster.Roster.{Roster}
-use Rattle.desk_calls.specs.Courses.{AreAlike, Course, HasDiskFault, HasNoDiskFault, IsSound, given_up, served, unopened}
+use Rattle.desk_calls.specs.Courses.{AreAlike, Course, GoesOn, HasDiskFault, HasNoDiskFault, IsSound, given_up, served, unopened}
 use Rattle.desk_calls.specs.Meanings.{IsLine, Told}
 use Rattle.desk_calls.specs.OnDisk.{history_after}
 use Rattle.history_runs.specs.Rosters.{roster_heads}
@@ -96,3 +96,9 @@ abbrev pub HasOneOutput : Type 0
 HasOneOutput =
     (course other : Course) (input out out_other : List ℕ) → AreAlike course other
     → IsWhole (day_command course) input out → IsWhole (day_command other) input out_other → out ≡ out_other
+
+-- whatever a day wrote that ended so is a prefix of each whole output of a day that goes on from there
+abbrev pub HasPrefixes : Type 0
+HasPrefixes =
+    (course more : Course) (input left : List ℕ) (held held_now : Option (List ℕ)) (ended : Result Outcome Stop) → GoesOn course more
+    → Wrote (day_command course) input left held held_now ended → TookOfWhole (day_command more) input held held_now
