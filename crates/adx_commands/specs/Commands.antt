@@ -44,7 +44,7 @@ use Rattle.desk_calls.specs.Courses.{Course}
 use Rattle.desk_calls.specs.OnDisk.{CourseOn, history_after}
 use Rattle.history_runs.specs.Histories.{LeavesDay}
 use Rattle.history_runs.specs.Runs.{history_command}
-use Rattle.history_runs.specs.Endings.{TookFront}
+use Rattle.command_runs.specs.Meanings.{TookPrefix}
 
 -- the words are the command of this word with these options in plain spelling
 abbrev pub IsCalled : List ℕ → List Given → List (List ℕ) → Type 0
@@ -162,7 +162,7 @@ pub record RunsGenerated {D : Type 0} (d : disks.Ghosts D) (seed asks : ℕ) (he
 abbrev pub Tells : List ℕ → ℕ → Option (List ℕ) → Option (List ℕ) → ℕ → Type 0
 Tells text done held held_now status =
     ((status ≡ done) × Took held held_now text)
-    ⊎ (((status ≡ 5) × TookFront held held_now text) ⊎ ((status ≡ 12) × (held_now ≡ held)))
+    ⊎ (((status ≡ 5) × TookPrefix held held_now text) ⊎ ((status ≡ 12) × (held_now ≡ held)))
 
 -- What a run of the program stands between: a source, a sink, a disk and a keeper of closed days, as they were and as they
 -- are behind the run.

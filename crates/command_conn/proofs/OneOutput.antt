@@ -13,7 +13,8 @@ use Rattle.exchange_messages.specs.Courses.{AnswersOn, GivesUpOn, begun}
 use Rattle.history_runs.specs.Rosters.{roster_heads}
 use Rattle.http_service.specs.declared.limits.TheConstants.{REQUEST_LIMIT}
 use Rattle.command_conn.specs.RosterLinks.{WorksByTexts}
-use Rattle.history_runs.specs.Output.{roster_refused_line, unopened_line}
+use Rattle.history_runs.specs.Output.{unopened_line}
+use Rattle.script_lines.specs.Refusals.{roster_refused_line}
 use Rattle.script_lines.specs.Rosters.{IsRosterLine}
 use Rattle.script_lines.proofs.OneMeaning.{one_refusal, one_roster, roster_not_refused}
 use Rattle.command_conn.specs.Exchanges.{Day, conn_command, means, was_given_up, was_served, was_unbegun}

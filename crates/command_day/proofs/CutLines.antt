@@ -2,7 +2,7 @@
 use Rattle.std.proofs.Common.{◌≡◌, ◌<◌, ◌≤◌, ℕ, List, ◌++◌, length}
 use Rattle.script_lines.specs.Refusals.{refusal_line}
 use Rattle.history_runs.specs.Script.{cut_line}
-use Rattle.history_runs.specs.declared.limits.TheConstants.{LINE_LIMIT}
+use Rattle.command_runs.specs.Limits.{line_limit}
 use Rattle.script_lines.specs.declared.refusal.Refusal.{Refusal}
 use Rattle.history_runs.proofs.AnswerLaws.{cut_long as long_cut, cut_none as none_cut, cut_short as short_cut, dropped_line as dropped, kept_line as kept_so, kept_short as short_kept, line_short as short_line}
 use Rattle.adx_io.specs.Lines.{Keeps}
@@ -11,10 +11,10 @@ use Rattle.std.proofs.Common.{Bool, true, false}
 pub cut_none : (number : ℕ) (kept line : List ℕ) → kept ≡ line → length kept ≡ 0 → (old : List ℕ) → old ≡ old ++ cut_line number line
 cut_none number kept line same none old = none_cut number kept line same none old
 
-pub cut_short : (number : ℕ) (line : List ℕ) → 1 ≤ length line → length line ≤ LINE_LIMIT → refusal_line number Refusal.Cut ≡ cut_line number line
+pub cut_short : (number : ℕ) (line : List ℕ) → 1 ≤ length line → length line ≤ line_limit → refusal_line number Refusal.Cut ≡ cut_line number line
 cut_short number line some short = short_cut number line some short
 
-pub cut_long : (number : ℕ) (line : List ℕ) → LINE_LIMIT < length line → refusal_line number Refusal.Long ≡ cut_line number line
+pub cut_long : (number : ℕ) (line : List ℕ) → line_limit < length line → refusal_line number Refusal.Long ≡ cut_line number line
 cut_long number line long = long_cut number line long
 
 -- the line that is kept is the line that was read

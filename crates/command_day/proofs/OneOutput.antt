@@ -21,7 +21,8 @@ use Rattle.desk_calls.specs.Meanings.{AnswersLine, Told, Writing, call_answer}
 use Rattle.desk_calls.specs.OnDisk.{history_after}
 use Rattle.history_runs.specs.Rosters.{roster_heads}
 use Rattle.history_runs.specs.Unopened.{not_opened}
-use Rattle.history_runs.specs.Output.{roster_refused_line, unopened_line, writing}
+use Rattle.history_runs.specs.Output.{unopened_line, writing}
+use Rattle.script_lines.specs.Refusals.{roster_refused_line}
 use Rattle.history_runs.specs.Script.{closing, terms_by}
 use Rattle.history_runs.proofs.OneMeaning.{one_meaning}
 use Rattle.script_lines.specs.Meanings.{Meaning as LineMeaning, calls, refused}

@@ -16,7 +16,8 @@ use Rattle.desk_calls.specs.Courses.{Course, HasNoDiskFault, IsSound, served, un
 use Rattle.desk_calls.specs.Meanings.{AreDone, Told, call_answer}
 use Rattle.desk_calls.specs.OnDisk.{history_after}
 use Rattle.history_runs.specs.Rosters.{roster_heads}
-use Rattle.history_runs.specs.Output.{refusal_line, roster_refused_line, toolong_line, writing}
+use Rattle.history_runs.specs.Output.{writing}
+use Rattle.script_lines.specs.Refusals.{refusal_line, roster_refused_line, toolong_line}
 use Rattle.history_runs.specs.Script.{Means, closing, terms_by}
 use Rattle.script_lines.specs.Meanings.{Meaning, calls, refused}
 use Rattle.script_lines.specs.Rosters.{IsRosterLine}

@@ -17,7 +17,8 @@ use Rattle.desk_calls.specs.Meanings.{IsLine, Told}
 use Rattle.desk_calls.specs.OnDisk.{history_after}
 use Rattle.history_runs.specs.Rosters.{roster_heads}
 use Rattle.history_runs.specs.Unopened.{GivesUpBy, not_opened}
-use Rattle.history_runs.specs.Output.{toolong_line, writing}
+use Rattle.history_runs.specs.Output.{writing}
+use Rattle.script_lines.specs.Refusals.{toolong_line}
 use Rattle.history_runs.specs.Script.{Means, closing, terms_by}
 use Rattle.script_lines.specs.Meanings.{calls}
 

@@ -6,7 +6,7 @@ use Rattle.adx_io.specs.Lines.{Keeps}
 use Rattle.adx_desk.specs.Desks.{OnDisk}
 use Rattle.day_rules.specs.Replies.{Call}
 use Rattle.day_rules.specs.Terms.{Terms}
-use Rattle.history_runs.specs.declared.limits.TheConstants.{LINE_LIMIT}
+use Rattle.command_runs.specs.Limits.{line_limit}
 use Rattle.deal_floor.specs.declared.roster.Roster.{Roster}
 use Rattle.deal_floor.specs.declared.campaign.Campaign.{Campaign}
 use Rattle.script_lines.specs.Meanings.{calls, refused}
@@ -14,7 +14,8 @@ use Rattle.script_lines.specs.declared.refusal.Refusal.{Refusal}
 use Rattle.history_runs.specs.Answering.{AnswersCall, AnswersTo, LeavesUnwritten}
 use Rattle.desk_calls.specs.Answering.{LeavesCall}
 use Rattle.desk_calls.specs.Meanings.{Told, call_answer}
-use Rattle.history_runs.specs.Output.{refusal_line, writing}
+use Rattle.history_runs.specs.Output.{writing}
+use Rattle.script_lines.specs.Refusals.{refusal_line}
 use Rattle.history_runs.specs.Script.{Means, terms_by, cut_line}
 
 -- the call of a line was answered, and its line written
@@ -82,12 +83,12 @@ line_short limit true kept line short keeps = absurd (cc short)
 line_short limit false kept line short keeps = keeps.1
 
 -- a line that was read and kept: what is answered to its bytes is answered to it
-kept_is : (overlong : Bool) (kept text line : List ℕ) → overlong ≡ false → text ≡ kept → Keeps LINE_LIMIT overlong kept line → (line ≡ text) × (length line ≤ LINE_LIMIT)
-kept_is overlong kept text line short same keeps = (sym (same ∙ kept_line LINE_LIMIT overlong kept line short keeps), line_short LINE_LIMIT overlong kept line short keeps)
+kept_is : (overlong : Bool) (kept text line : List ℕ) → overlong ≡ false → text ≡ kept → Keeps line_limit overlong kept line → (line ≡ text) × (length line ≤ line_limit)
+kept_is overlong kept text line short same keeps = (sym (same ∙ kept_line line_limit overlong kept line short keeps), line_short line_limit overlong kept line short keeps)
 
 pub answered_kept : {D : Type 0} (faults : D → ℕ) (may_leave : D → List ℕ → Type 0) (moment : D → ℕ) (left_since : D → ℕ → List ℕ → Type 0) (roster : Roster) (old new : OnDisk D) (number : ℕ) (overlong : Bool) (kept text out_old out_new : List ℕ)
-    → overlong ≡ false → text ≡ kept → AnswersTo faults may_leave moment left_since roster old new number (λ l. (l ≡ text) × (length l ≤ LINE_LIMIT)) out_old out_new
-    → AnswersTo faults may_leave moment left_since roster old new number (Keeps LINE_LIMIT overlong kept) out_old out_new
+    → overlong ≡ false → text ≡ kept → AnswersTo faults may_leave moment left_since roster old new number (λ l. (l ≡ text) × (length l ≤ line_limit)) out_old out_new
+    → AnswersTo faults may_leave moment left_since roster old new number (Keeps line_limit overlong kept) out_old out_new
 answered_kept faults may_leave moment left_since roster old new number overlong kept text out_old out_new short same a = record {
   told = a.told;
   out = a.out;
@@ -97,8 +98,8 @@ answered_kept faults may_leave moment left_since roster old new number overlong 
 }
 
 pub unwritten_kept : {D : Type 0} (faults : D → ℕ) (may_leave : D → List ℕ → Type 0) (moment : D → ℕ) (left_since : D → ℕ → List ℕ → Type 0) (roster : Roster) (old new : OnDisk D) (overlong : Bool) (kept text : List ℕ)
-    → overlong ≡ false → text ≡ kept → LeavesUnwritten faults may_leave moment left_since roster old new (λ l. (l ≡ text) × (length l ≤ LINE_LIMIT))
-    → LeavesUnwritten faults may_leave moment left_since roster old new (Keeps LINE_LIMIT overlong kept)
+    → overlong ≡ false → text ≡ kept → LeavesUnwritten faults may_leave moment left_since roster old new (λ l. (l ≡ text) × (length l ≤ line_limit))
+    → LeavesUnwritten faults may_leave moment left_since roster old new (Keeps line_limit overlong kept)
 unwritten_kept faults may_leave moment left_since roster old new overlong kept text short same left = record {
   told = left.told;
   serves = left.serves;
@@ -110,10 +111,10 @@ pub cut_none : (number : ℕ) (kept line : List ℕ) → kept ≡ line → lengt
 cut_none number [] line same none old = sym (ap (λ l. old ++ cut_line number l) (sym same) ∙ append-nil old)
 cut_none number (b ∷ kept) line same none old = absurd (omega (arith, none))
 
-pub cut_short : (number : ℕ) (line : List ℕ) → 1 ≤ length line → length line ≤ LINE_LIMIT → refusal_line number Refusal.Cut ≡ cut_line number line
+pub cut_short : (number : ℕ) (line : List ℕ) → 1 ≤ length line → length line ≤ line_limit → refusal_line number Refusal.Cut ≡ cut_line number line
 cut_short number [] some short = absurd (omega (arith, some))
-cut_short number (b ∷ bs) some short = ap (λ (long : Bool). refusal_line number (if long then Refusal.Long else Refusal.Cut)) (sym (le-ltb LINE_LIMIT (length (b ∷ bs)) short))
+cut_short number (b ∷ bs) some short = ap (λ (long : Bool). refusal_line number (if long then Refusal.Long else Refusal.Cut)) (sym (le-ltb line_limit (length (b ∷ bs)) short))
 
-pub cut_long : (number : ℕ) (line : List ℕ) → LINE_LIMIT < length line → refusal_line number Refusal.Long ≡ cut_line number line
+pub cut_long : (number : ℕ) (line : List ℕ) → line_limit < length line → refusal_line number Refusal.Long ≡ cut_line number line
 cut_long number [] long = absurd (omega (arith, long))
-cut_long number (b ∷ bs) long = ap (λ (is : Bool). refusal_line number (if is then Refusal.Long else Refusal.Cut)) (sym (lt-ltb LINE_LIMIT (length (b ∷ bs)) long))
+cut_long number (b ∷ bs) long = ap (λ (is : Bool). refusal_line number (if is then Refusal.Long else Refusal.Cut)) (sym (lt-ltb line_limit (length (b ∷ bs)) long))

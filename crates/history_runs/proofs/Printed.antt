@@ -13,7 +13,8 @@ use Rattle.command_runs.proofs.Documents.{put_wrote, stopped}
 use Rattle.command_runs.proofs.Told.{told_map}
 use Rattle.day_rules.specs.declared.entry.Entry.{Entry}
 use Rattle.deal_floor.specs.declared.roster.Roster.{Roster}
-use Rattle.history_runs.specs.Output.{roster_refused_line, unopened_line}
+use Rattle.history_runs.specs.Output.{unopened_line}
+use Rattle.script_lines.specs.Refusals.{roster_refused_line}
 use Rattle.script_lines.specs.declared.refusal.RosterRefusal.{RosterRefusal}
 use Rattle.history_runs.specs.Histories.{Opening, Printed, Prints, PutsTold, tells}
 use Rattle.history_runs.specs.Unopened.{MayEndAs, PutsUnopened, unopened_end}

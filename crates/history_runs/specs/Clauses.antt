@@ -11,15 +11,15 @@ use Rattle.deal_floor.specs.declared.roster.Roster.{Roster}
 use Rattle.desk_calls.specs.Answering.{LeavesCall}
 use Rattle.script_lines.specs.declared.notice.Notice.{Notice}
 use Rattle.history_runs.specs.Answering.{AnswersCall, AnswersTo, LeavesUnwritten}
-use Rattle.history_runs.specs.declared.limits.TheConstants.{LINE_LIMIT}
+use Rattle.command_runs.specs.Limits.{line_limit}
 
 -- this is a line's text, within the limit of a line
 abbrev pub IsShort : List ℕ → List ℕ → Type 0
-IsShort line text = (text ≡ line) × (length text ≤ LINE_LIMIT)
+IsShort line text = (text ≡ line) × (length text ≤ line_limit)
 
 -- this is the line that a buffer keeps, or a longer one of which it tells that it is longer than a line may be
 abbrev pub IsKept : LineBuffer → List ℕ → Type 0
-IsKept buffer line = Keeps LINE_LIMIT buffer.overlong buffer.line line
+IsKept buffer line = Keeps line_limit buffer.overlong buffer.line line
 
 -- so it is of the line that a buffer keeps
 abbrev pub OfLine : LineBuffer → (List ℕ → Type 0) → Type 0

@@ -17,7 +17,8 @@ use Rattle.day_rules.specs.declared.entry.Entry.{Entry}
 use Rattle.day_rules.specs.Legal.{IsLegal}
 use Rattle.deal_floor.specs.declared.roster.Roster.{Roster}
 use Rattle.history_runs.specs.Unopened.{GivesUpBy, MayEndAs, unopened_end}
-use Rattle.history_runs.specs.Output.{roster_refused_line, unopened_line}
+use Rattle.history_runs.specs.Output.{unopened_line}
+use Rattle.script_lines.specs.Refusals.{roster_refused_line}
 use Rattle.script_lines.specs.declared.refusal.RosterRefusal.{RosterRefusal}
 
 -- what a command writes of the history of a roster's day

@@ -6,13 +6,13 @@ use Rattle.std.specs.Prelude.{◌≡◌, ◌⊎◌, ℕ, ◌<◌, ◌≤◌, Lis
 use Rattle.adx_desk.specs.Rosters.{desk_terms}
 use Rattle.day_rules.specs.declared.entry.Entry.{Entry}
 use Rattle.day_rules.specs.Terms.{Terms}
-use Rattle.history_runs.specs.declared.limits.TheConstants.{LINE_LIMIT}
+use Rattle.command_runs.specs.Limits.{line_limit}
 use Rattle.deal_floor.specs.declared.roster.Roster.{Roster}
 use Rattle.script_lines.specs.Meanings.{Meaning, LineMeans, refused}
 use Rattle.script_lines.specs.declared.refusal.Refusal.{Refusal}
 use Rattle.script_lines.specs.declared.refusal.Refusal.TheVariants.{Cut, Long}
 use Rattle.answer_lines.specs.Table.{closing_table}
-use Rattle.history_runs.specs.Output.{refusal_line}
+use Rattle.script_lines.specs.Refusals.{refusal_line}
 
 -- what the day of a roster is opened with
 abbrev pub terms_by : Roster → Terms
@@ -20,11 +20,11 @@ terms_by r = (desk_terms r).day
 
 -- what a whole line means: one above the limit of a line is refused
 abbrev pub Means : Roster → List ℕ → Meaning → Type 0
-Means r line m = ((LINE_LIMIT < length line) × (m ≡ refused Long)) ⊎ ((length line ≤ LINE_LIMIT) × LineMeans r line m)
+Means r line m = ((line_limit < length line) × (m ≡ refused Long)) ⊎ ((length line ≤ line_limit) × LineMeans r line m)
 
 -- why a last piece without a newline is refused
 abbrev pub cut_why : List ℕ → Refusal
-cut_why piece = if nat_lt LINE_LIMIT (length piece) then Long else Cut
+cut_why piece = if nat_lt line_limit (length piece) then Long else Cut
 
 -- a last piece without a newline that isn't empty is refused
 abbrev pub cut_line : ℕ → List ℕ → List ℕ

@@ -12,7 +12,7 @@ ghost use Rattle.day_rules.specs.DayState.{IsDay};
 ghost use Rattle.history_runs.specs.Histories.{LeavesDay, Opening, PrintsDay, PutsTold, tells};
 ghost use Rattle.history_runs.specs.Histories.Opening.{opened};
 ghost use Rattle.history_runs.specs.Runs.{RunsHistory};
-ghost use Rattle.history_runs.specs.Output.{roster_refused_line};
+ghost use Rattle.script_lines.specs.Refusals.{roster_refused_line};
 ghost use Rattle.script_lines.specs.declared.refusal.RosterRefusal.TheVariants.{Long};
 
 use crate::opening::tell_unopened;

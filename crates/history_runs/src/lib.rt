@@ -3,24 +3,19 @@
 //! `run_history` reads a roster's line and the rest of its input, opens the roster's day on a disk, and prints what a
 //! `Print` makes of the day's history. The disk stands for the history afterwards. It knows nothing that is printed.
 //!
-//! What a day of script lines says, and the lines of what isn't begun. Its definitions say what a line means and how it
-//! is answered, and what closes a script. `push_roster_refused` writes why a first line is no roster's, and
-//! `push_unopened` why a day can't be opened on its disk; their contracts give these bytes. It knows no words of a
-//! command, no exit status, and no run.
+//! What a day of script lines says. Its definitions say what a line means and how it is answered, and what closes a
+//! script. `push_unopened` writes why a day can't be opened on its disk; its contract gives these bytes. It knows no words
+//! of a command and no exit status.
 //!
 //! Stands on `command_runs` for a run, on `adx_desk` for the day, and on `desk_calls` and `script_lines` for lines.
 #![tactic(auto)]
 
 mod history;
-mod limits;
 mod opening;
-mod refusals;
 mod roster;
 mod unopened_lines;
 
 pub use history::{Print, run_history};
-pub use limits::LINE_LIMIT;
 pub use opening::{tell_unopened, unopened_outcome};
-pub use refusals::push_roster_refused;
 pub use roster::{push_roster_lack, roster_of};
 pub use unopened_lines::push_unopened;

@@ -4,11 +4,10 @@ ghost use Rattle.command_runs.specs.Firsts.{FindsHead};
 ghost use Rattle.command_runs.specs.Limits.{input_limit};
 ghost use Rattle.history_runs.specs.Rosters.{lack_line, roster_heads};
 
-use crate::refusals::push_roster_refused;
 use adx_units::OutOfMemory;
 use command_runs::NoLine;
 use deal_floor::Roster;
-use script_lines::{RosterLineFault, RosterRefusal, read_roster};
+use script_lines::{RosterLineFault, RosterRefusal, push_roster_refused, read_roster};
 use std::alloc::Global;
 
 /// The roster of a whole line. None where it is refused, and then the answer that says why is written.

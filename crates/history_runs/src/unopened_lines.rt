@@ -5,11 +5,18 @@ ghost use Rattle.answer_lines.specs.Answers.{fault_line};
 ghost use Rattle.answer_lines.specs.declared.faults.Fault.{Fault as FaultLine};
 ghost use Rattle.adx_io.specs.Talk.{ended};
 
-use crate::refusals::push;
 use adx_desk::DeskFault;
 use adx_json::push_number;
 use adx_units::OutOfMemory;
 use answer_lines::{Fault, push_digest, push_fault};
+
+/// Writes a text as it is.
+fn push(out: &mut String, text: &str) -> Result<(), OutOfMemory>
+    ensures { OnOk result (string_bytes out.new ≡ string_bytes out.old ++ text.now) }
+{
+    out.push_str(text)?;
+    Ok(())
+}
 
 /// Writes why the file is no journal of the day, and where.
 fn push_place(out: &mut String, why: &str, at: u64) -> Result<(), OutOfMemory>

@@ -7,7 +7,7 @@ use Rattle.adx_io.specs.declared.rest.Rest.{Rest}
 use Rattle.command_runs.specs.Documents.{document}
 use Rattle.command_runs.specs.Meanings.{PutsEnd, Wrote}
 use Rattle.command_runs.specs.declared.outcome.Outcome.{Outcome}
-use Rattle.history_runs.specs.Output.{roster_refused_line}
+use Rattle.script_lines.specs.Refusals.{roster_refused_line}
 use Rattle.script_lines.specs.declared.refusal.RosterRefusal.{RosterRefusal}
 use Rattle.history_runs.specs.Histories.{Opening, PutsTold, tells}
 use Rattle.history_runs.proofs.Printed.{not_refused, told_long, told_said, told_stopped}
