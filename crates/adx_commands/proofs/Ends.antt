@@ -75,7 +75,7 @@ module _ {L D : Type 0} (l : links.Ghosts L) (d : disks.Ghosts D) (document : Li
   post_faulted PostEnd.Pending is ends = absurd (omega (arith, is))
   post_faulted (PostEnd.Refused why) is ends = absurd (omega (arith, is))
   post_faulted PostEnd.DiskFault is (roster, begins, ends) = day_faulted l d roster disk disk_now link link_now ends
-  post_faulted PostEnd.NoHistory is ends = absurd (omega (arith, is))
+  post_faulted (PostEnd.NoHistory why) is ends = absurd (omega (arith, is))
   post_faulted PostEnd.OutOfMemory is ends = absurd (omega (arith, is))
 
   post_passed : (end : PostEnd) → status_by_post end ≢ 6 → EndsPosting l d document disk disk_now link link_now end → d.faults disk_now ≡ d.faults disk
@@ -83,7 +83,7 @@ module _ {L D : Type 0} (l : links.Ghosts L) (d : disks.Ghosts D) (document : Li
   post_passed PostEnd.Pending other (roster, begins, ends) = day_passed l d roster disk disk_now link link_now PostEnd.Pending (λ e. cc e) ends
   post_passed (PostEnd.Refused why) other (lacks, (disk_same, link_same)) = ap d.faults disk_same
   post_passed PostEnd.DiskFault other ends = absurd (other refl)
-  post_passed PostEnd.NoHistory other (roster, begins, ends) = day_passed l d roster disk disk_now link link_now PostEnd.NoHistory (λ e. cc e) ends
+  post_passed (PostEnd.NoHistory why) other (roster, begins, ends) = day_passed l d roster disk disk_now link link_now (PostEnd.NoHistory why) (λ e. cc e) ends
   post_passed PostEnd.OutOfMemory other (inl untouched) = ap d.faults untouched.0
   post_passed PostEnd.OutOfMemory other (inr (roster, begins, ends)) = day_passed l d roster disk disk_now link link_now PostEnd.OutOfMemory (λ e. cc e) ends
 
@@ -93,7 +93,7 @@ module _ {L D : Type 0} (l : links.Ghosts L) (d : disks.Ghosts D) (document : Li
   post_lacking PostEnd.Pending is ends = absurd (omega (arith, is))
   post_lacking (PostEnd.Refused why) is ends = (why, ends.0)
   post_lacking PostEnd.DiskFault is ends = absurd (omega (arith, is))
-  post_lacking PostEnd.NoHistory is ends = absurd (omega (arith, is))
+  post_lacking (PostEnd.NoHistory why) is ends = absurd (omega (arith, is))
   post_lacking PostEnd.OutOfMemory is ends = absurd (omega (arith, is))
 
   post_refuses : (end : PostEnd) → HasNoRoster document → EndsPosting l d document disk disk_now link link_now end → (status_by_post end ≡ 3) ⊎ (status_by_post end ≡ 12)
@@ -101,7 +101,7 @@ module _ {L D : Type 0} (l : links.Ghosts L) (d : disks.Ghosts D) (document : Li
   post_refuses PostEnd.Pending lacks (roster, begins, ends) = absurd (roster_taken document roster lacks.0 begins lacks.1)
   post_refuses (PostEnd.Refused why) lacks ends = inl refl
   post_refuses PostEnd.DiskFault lacks (roster, begins, ends) = absurd (roster_taken document roster lacks.0 begins lacks.1)
-  post_refuses PostEnd.NoHistory lacks (roster, begins, ends) = absurd (roster_taken document roster lacks.0 begins lacks.1)
+  post_refuses (PostEnd.NoHistory why) lacks (roster, begins, ends) = absurd (roster_taken document roster lacks.0 begins lacks.1)
   post_refuses PostEnd.OutOfMemory lacks ends = inr refl
 
 -- ---- the acceptor of a bidder's connections
@@ -199,7 +199,7 @@ module _ {A I O D L : Type 0} (a : acceptors.Ghosts A I O) (d : disks.Ghosts D) 
         never_four PostEnd.Pending is = omega (arith, is)
         never_four (PostEnd.Refused why) is = omega (arith, is)
         never_four PostEnd.DiskFault is = omega (arith, is)
-        never_four PostEnd.NoHistory is = omega (arith, is)
+        never_four (PostEnd.NoHistory why) is = omega (arith, is)
         never_four PostEnd.OutOfMemory is = omega (arith, is)
 
     pub post_refused : RunsPost l d document given back → ComesExactly back.status 3 ((0 < length given.links.items) ⊎ HasNoRoster document)

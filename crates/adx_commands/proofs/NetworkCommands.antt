@@ -26,7 +26,7 @@ post_not_two PostEnd.Delivered is = omega (arith, is)
 post_not_two PostEnd.Pending is = omega (arith, is)
 post_not_two (PostEnd.Refused why) is = omega (arith, is)
 post_not_two PostEnd.DiskFault is = omega (arith, is)
-post_not_two PostEnd.NoHistory is = omega (arith, is)
+post_not_two (PostEnd.NoHistory why) is = omega (arith, is)
 post_not_two PostEnd.OutOfMemory is = omega (arith, is)
 
 bid_not_two : (end : BidEnd) → status_by_bid end ≡ 2 → ⊥

@@ -30,7 +30,8 @@ use Rattle.script_lines.specs.declared.refusal.RosterRefusal.{RosterRefusal}
 use Rattle.adx_commands.specs.Causes.{HasCauses}
 use Rattle.adx_commands.specs.Lanes.{Fit, links_in}
 use Rattle.adx_commands.specs.Served.{ComesExactly, EndsAtOnce}
-use Rattle.adx_commands.specs.Serving.{EndsOpening, EndsRoster, FitsServing, GivesBack, GivesServed, LosesDay, OpensNot, RunsServing, ServesOpened, all_left, no_disk_left, post_left, serving, status_by, status_by_fault, unfit, unserved}
+use Rattle.adx_commands.specs.Serving.{EndsOpening, EndsRoster, FitsServing, GivesBack, GivesServed, LosesDay, OpensNot, RunsServing, SaysUnfit, ServesOpened, all_left, no_disk_left, post_left, serving, status_by, status_by_fault, unfit, unserved}
+use Rattle.adx_commands.specs.declared.not_begun.NotBegun.{NotBegun}
 use Rattle.adx_commands.specs.declared.objects.Objects.{Objects}
 use Rattle.adx_commands.specs.declared.served.Served.{Served}
 use Rattle.adx_commands.proofs.Documents.{one_begun, roster_taken}
@@ -132,24 +133,24 @@ module _ {A I O D L : Type 0} (a : acceptors.Ghosts A I O) (s : sources.Ghosts I
   })
   opened_ends opened lanes (Err (Unserved.Unbegun desk acceptor_now lanes_now post_now)) opens since same serves (desk_is, acceptor_is, lanes_are, post_is) gives =
       inr (inr (all_left desk (subst (λ (o : OnDisk D). KeepsHistory d roster o.desk.history disk o.disk) (sym desk_is) opens)
-      (subst (λ (x : A). GivesBack 12 (Some x) (Some desk.disk) post back) acceptor_is
-      (subst (λ (p : L). GivesBack 12 (Some acceptor_now) (Some desk.disk) p back) post_is gives))))
+      (subst (λ (x : A). GivesBack 12 (Some x) (Some desk.disk) post None back) acceptor_is
+      (subst (λ (p : L). GivesBack 12 (Some acceptor_now) (Some desk.disk) p None back) post_is gives))))
   opened_ends opened lanes (Err (Unserved.Unshared acceptor_now lanes_now post_now)) opens since same serves (acceptor_is, lanes_are, post_is) gives =
-      inr (inr (no_disk_left (subst (λ (x : A). GivesBack 12 (Some x) None post back) acceptor_is
-      (subst (λ (p : L). GivesBack 12 (Some acceptor_now) None p back) post_is gives))))
+      inr (inr (no_disk_left (subst (λ (x : A). GivesBack 12 (Some x) None post None back) acceptor_is
+      (subst (λ (p : L). GivesBack 12 (Some acceptor_now) None p None back) post_is gives))))
   opened_ends opened lanes (Err (Unserved.Lost post_now)) opens since same serves tried gives = inr (inr (post_left post_now tried gives))
 
   -- it wasn't
   pub unopened_ends : (why : DeskFault) (now : D) → DeskGivesUp d (desk_terms roster) disk now why → HasDiskCause (d.faults disk) (d.faults now) why
-      → back.status ≡ status_by_fault why → back.acceptor ≡ Some acceptor → back.disk ≡ Some now → back.post ≡ Some post
+      → back.status ≡ status_by_fault why → back.acceptor ≡ Some acceptor → back.disk ≡ Some now → back.post ≡ Some post → back.why ≡ Some (NotBegun.Journal why)
       → EndsOpening a s k d l IsMoment acceptor disk post back roster workers
-  unopened_ends why now gives_up cause status acceptor_back disk_back post_back =
+  unopened_ends why now gives_up cause status acceptor_back disk_back post_back why_back =
       inr (inl (record {
         why = why;
         disk_now = now;
         gives_up = gives_up;
         cause = cause;
-        gives = record { status_is = status; acceptor_is = acceptor_back; disk_is = disk_back; post_is = post_back };
+        gives = record { status_is = status; acceptor_is = acceptor_back; disk_is = disk_back; post_is = post_back; why_is = why_back };
       }))
 
 module _ {A I O D L : Type 0} (a : acceptors.Ghosts A I O) (s : sources.Ghosts I) (k : sinks.Ghosts O) (d : disks.Ghosts D) (l : links.Ghosts L) (IsMoment : ℕ → Type 0)
@@ -183,7 +184,7 @@ module _ {A I O D L : Type 0} (a : acceptors.Ghosts A I O) (s : sources.Ghosts I
   }
 
   -- what is given back of a day that no desk was left for
-  lost_with : (acceptor : Option A) (disk : Option D) (post : L) → GivesBack 12 acceptor disk post back → HasCauses a d given back
+  lost_with : (acceptor : Option A) (disk : Option D) (post : L) → GivesBack 12 acceptor disk post None back → HasCauses a d given back
   lost_with acceptor disk post g = record {
     acceptor_fault = λ is. absurd (omega (arith, g.status_is, is));
     acceptor_passed = λ other more. absurd (more g.status_is);
@@ -210,7 +211,7 @@ module _ {A I O D L : Type 0} (a : acceptors.Ghosts A I O) (s : sources.Ghosts I
       by_end (inl o) = opened_causes fits.roster r.workers o
       by_end (inr (inl o)) = unopened_causes fits.roster o
       by_end (inr (inr loses)) = lost_causes fits.roster loses
-  serving_causes document workers (unfit misfit e) = ended_causes a d given back 3 (λ is. omega (arith, is)) (λ is. omega (arith, is)) e
+  serving_causes document workers (unfit misfit e said) = ended_causes a d given back 3 (λ is. omega (arith, is)) (λ is. omega (arith, is)) e
   serving_causes document workers (unserved e) = ended_causes a d given back 12 (λ is. omega (arith, is)) (λ is. omega (arith, is)) e
 
   -- no run ends with the status of words that are none
@@ -223,7 +224,7 @@ module _ {A I O D L : Type 0} (a : acceptors.Ghosts A I O) (s : sources.Ghosts I
   pub serving_not_two : (document : List ℕ) (workers : ℕ) → RunsServing a s k d l IsMoment given back document workers → back.status ≡ 2 → ⊥
   serving_not_two document workers (serving fits r) is =
       opening_not 2 not_two (λ e. omega (arith, e)) (λ e. omega (arith, e)) (λ e. omega (arith, e)) fits.roster r.workers r.ends is
-  serving_not_two document workers (unfit misfit e) is = omega (arith, e.status_is, is)
+  serving_not_two document workers (unfit misfit e said) is = omega (arith, e.status_is, is)
   serving_not_two document workers (unserved e) is = omega (arith, e.status_is, is)
 
   -- status 3 exactly where the links don't fit the document
@@ -233,7 +234,7 @@ module _ {A I O D L : Type 0} (a : acceptors.Ghosts A I O) (s : sources.Ghosts I
     λ is. absurd (opening_not 3 not_three (λ e. omega (arith, e)) (λ e. omega (arith, e)) (λ e. omega (arith, e)) fits.roster r.workers r.ends is),
     λ misfit. absurd (misfit fits),
   )
-  serve_refused document workers (unfit misfit e) = (λ is. misfit, λ why. inl e.status_is)
+  serve_refused document workers (unfit misfit e said) = (λ is. misfit, λ why. inl e.status_is)
   serve_refused document workers (unserved e) = (λ is. absurd (omega (arith, e.status_is, is)), λ why. inr e.status_is)
 
   -- what was served by a roster is what the document asks for
@@ -244,15 +245,15 @@ module _ {A I O D L : Type 0} (a : acceptors.Ghosts A I O) (s : sources.Ghosts I
     where
       links_at : Vec L Global → List L
       links_at v = v.items
-  runs_by document workers roster begins counted (inr (inl (misfit, e))) =
-      unfit (λ fits. misfit (subst (λ (o : Roster). All (Fit o.bidders) (links_in given.links.items)) (one_begun document fits.roster roster fits.begins begins) fits.each)) e
+  runs_by document workers roster begins counted (inr (inl (misfit, e, none))) =
+      unfit (λ fits. misfit (subst (λ (o : Roster). All (Fit o.bidders) (links_in given.links.items)) (one_begun document fits.roster roster fits.begins begins) fits.each)) e (subst (SaysUnfit document) (sym none) tt)
   runs_by document workers roster begins counted (inr (inr e)) = unserved e
 
-  pub runs_uncounted : (document : List ℕ) (workers : ℕ) → length given.links.items ≢ workers → EndsAtOnce given back 3 → RunsServing a s k d l IsMoment given back document workers
-  runs_uncounted document workers other e = unfit (λ fits. other (sym (length-map given.links.items links_at) ∙ fits.counted)) e
+  pub runs_uncounted : (document : List ℕ) (workers : ℕ) → length given.links.items ≢ workers → EndsAtOnce given back 3 → back.why ≡ None → RunsServing a s k d l IsMoment given back document workers
+  runs_uncounted document workers other e none = unfit (λ fits. other (sym (length-map given.links.items links_at) ∙ fits.counted)) e (subst (SaysUnfit document) (sym none) tt)
     where
       links_at : Vec L Global → List L
       links_at v = v.items
 
-  pub runs_refused : (document : List ℕ) (workers : ℕ) (why : RosterRefusal) → LacksRoster document why → EndsAtOnce given back 3 → RunsServing a s k d l IsMoment given back document workers
-  runs_refused document workers why lacks e = unfit (λ fits. roster_taken document fits.roster why fits.begins lacks) e
+  pub runs_refused : (document : List ℕ) (workers : ℕ) (why : RosterRefusal) → LacksRoster document why → EndsAtOnce given back 3 → back.why ≡ Some (NotBegun.Line why) → RunsServing a s k d l IsMoment given back document workers
+  runs_refused document workers why lacks e said = unfit (λ fits. roster_taken document fits.roster why fits.begins lacks) e (subst (SaysUnfit document) (sym said) lacks)

@@ -16,7 +16,7 @@ use Rattle.command_notices.specs.Posting.{EndsPosting}
 use Rattle.command_notices.specs.Statuses.{status_by as status_by_post}
 use Rattle.command_notices.specs.declared.ending.PostEnd.{PostEnd}
 use Rattle.adx_commands.specs.Serving.{RunsServing}
-use Rattle.adx_commands.specs.Served.{EndsAtOnce, RunsUnlinked}
+use Rattle.adx_commands.specs.Served.{EndsAtOnce, RunsUnlinked, why_no_bid, why_no_post}
 use Rattle.adx_commands.specs.declared.objects.Objects.{Objects}
 use Rattle.adx_commands.specs.declared.served.Served.{Served}
 
@@ -59,6 +59,7 @@ pub record PostsNotices {A D L : Type 0} (l : links.Ghosts L) (d : disks.Ghosts 
   pub acceptor_back : back.acceptor ≡ Some given.acceptor
   pub disk_back : back.disk ≡ Some disk
   pub post_back : back.post ≡ Some post
+  pub why_is : back.why ≡ why_no_post end
   pub lasts : d.lasts given.disk disk
 
 -- The bidder of a document's price line served the acceptor's connections, told by the exit status. The disk and the post
@@ -72,6 +73,7 @@ pub record ServesBidder {A I O D L : Type 0} (a : acceptors.Ghosts A I O) (s : s
   pub acceptor_back : back.acceptor ≡ Some acceptor
   pub disk_back : back.disk ≡ Some given.disk
   pub post_back : back.post ≡ Some given.post
+  pub why_is : back.why ≡ why_no_bid end
 
 -- what the two commands do, by the links that they are given
 abbrev pub RunsPost : {A D L : Type 0} → links.Ghosts L → disks.Ghosts D → List ℕ → Objects A D L → Served A D L → Type 0

@@ -1,7 +1,10 @@
 -- What a command gives back of the objects that it was given. This project's own.
-use Rattle.std.specs.Prelude.{◌≡◌, ◌≢◌, ◌⊎◌, ℕ, ◌<◌, [], length, Some, IsSome, IfSome}
+use Rattle.std.specs.Prelude.{◌≡◌, ◌≢◌, ◌⊎◌, ℕ, ◌<◌, [], length, Option, Some, None, IsSome, IfSome}
 use Rattle.adx_io.specs.Streams.{Rises}
 use Rattle.day_journal.specs.declared.disk.Disk as disks
+use Rattle.command_bidder.specs.declared.ending.BidEnd.{BidEnd}
+use Rattle.command_notices.specs.declared.ending.PostEnd.{PostEnd}
+use Rattle.adx_commands.specs.declared.not_begun.NotBegun.{NotBegun}
 use Rattle.adx_commands.specs.declared.objects.Objects.{Objects}
 use Rattle.adx_commands.specs.declared.served.Served.{Served}
 
@@ -35,6 +38,17 @@ pub data RunsUnlinked {A D L : Type 0} (given : Objects A D L) (back : Served A 
   ran : given.links.items ≡ [] → Ran → RunsUnlinked given back Ran
   linked : 0 < length given.links.items → EndsAtOnce given back 3 → RunsUnlinked given back Ran
   unbegun : EndsAtOnce given back 12 → RunsUnlinked given back Ran
+
+-- Why the run of `post` didn't begin that ended so: where its document or its journal was refused.
+abbrev pub why_no_post : PostEnd → Option NotBegun
+why_no_post (PostEnd.Refused why) = Some (NotBegun.Line why)
+why_no_post (PostEnd.NoHistory fault) = Some (NotBegun.Journal fault)
+why_no_post other = None
+
+-- The same of `bid`.
+abbrev pub why_no_bid : BidEnd → Option NotBegun
+why_no_bid (BidEnd.Refused why) = Some (NotBegun.Line why)
+why_no_bid other = None
 
 -- a status comes exactly where this holds, unless memory was refused
 abbrev pub ComesExactly : (status wanted : ℕ) → Type 0 → Type 0

@@ -19,9 +19,10 @@ use Rattle.exchange_serving.specs.declared.leaving.Served.{Served as Left}
 use Rattle.exchange_serving.specs.declared.leaving.Unserved.{Unserved}
 use Rattle.fan_out.specs.declared.lane.Lane.{Lane}
 use Rattle.history_runs.specs.Histories.{KeepsHistory}
-use Rattle.command_notices.specs.Rosters.{BeginsWithRoster}
+use Rattle.command_notices.specs.Rosters.{BeginsWithRoster, LacksRoster}
 use Rattle.adx_commands.specs.Lanes.{AreWorkersOver, Fit, links_in}
 use Rattle.adx_commands.specs.Served.{EndsAtOnce}
+use Rattle.adx_commands.specs.declared.not_begun.NotBegun.{NotBegun}
 use Rattle.adx_commands.specs.declared.objects.Objects.{Objects}
 use Rattle.adx_commands.specs.declared.served.Served.{Served}
 
@@ -50,19 +51,28 @@ pub record FitsServing {L : Type 0} (document : List ℕ) (workers : ℕ) (lists
   pub counted : length lists ≡ workers
   pub each : All (Fit roster.bidders) lists
 
--- this was given back, with this status; the post link always is
-pub record GivesBack {A D L : Type 0} (status : ℕ) (acceptor : Option A) (disk : Option D) (post : L) (back : Served A D L) : Type 0 where
+-- What is said of a document that isn't served: why its first line is no roster; nothing where the links are other ones than it
+-- asks for.
+abbrev pub SaysUnfit : List ℕ → Option NotBegun → Type 0
+SaysUnfit document None = Unit {0}
+SaysUnfit document (Some (NotBegun.Line why)) = LacksRoster document why
+SaysUnfit document (Some (NotBegun.Journal fault)) = ⊥
+
+-- this was given back, with this status, and for this the run didn't begin; the post link always is given back
+pub record GivesBack {A D L : Type 0} (status : ℕ) (acceptor : Option A) (disk : Option D) (post : L) (why : Option NotBegun)
+    (back : Served A D L) : Type 0 where
   pub status_is : back.status ≡ status
   pub acceptor_is : back.acceptor ≡ acceptor
   pub disk_is : back.disk ≡ disk
   pub post_is : back.post ≡ Some post
+  pub why_is : back.why ≡ why
 
 -- What is given back of a run that served, and of one that no desk was left for. Private clauses alone cite this.
 abbrev pub GivesServed : {A D L : Type 0} → Result (Left A D L) (Unserved A D L) → Served A D L → Type 0
-GivesServed (Ok left) back = GivesBack (status_by left.ending) (Some left.acceptor) (Some left.disk) left.post back
-GivesServed (Err (Unserved.Unbegun desk acceptor lanes post)) back = GivesBack 12 (Some acceptor) (Some desk.disk) post back
-GivesServed (Err (Unserved.Unshared acceptor lanes post)) back = GivesBack 12 (Some acceptor) None post back
-GivesServed (Err (Unserved.Lost post)) back = GivesBack 12 None None post back
+GivesServed (Ok left) back = GivesBack (status_by left.ending) (Some left.acceptor) (Some left.disk) left.post None back
+GivesServed (Err (Unserved.Unbegun desk acceptor lanes post)) back = GivesBack 12 (Some acceptor) (Some desk.disk) post None back
+GivesServed (Err (Unserved.Unshared acceptor lanes post)) back = GivesBack 12 (Some acceptor) None post None back
+GivesServed (Err (Unserved.Lost post)) back = GivesBack 12 None None post None back
 
 -- What serving a roster's day leaves, over an acceptor, a disk and a post link, by a worker for each of these lists of lanes.
 module _ {A I O D L : Type 0} (a : acceptors.Ghosts A I O) (s : sources.Ghosts I) (k : sinks.Ghosts O) (d : disks.Ghosts D)
@@ -74,16 +84,16 @@ module _ {A I O D L : Type 0} (a : acceptors.Ghosts A I O) (s : sources.Ghosts I
     pub since : opened.since ≡ record { count = d.faults disk; tells = is_some (d.reads disk) }
     pub left : Left A D L
     pub serves : ServesDay d l IsMoment roster workers opened left.disk (told_by a s k acceptor) (told_by a s k left.acceptor) post left.post left.ending
-    pub gives : GivesBack (status_by left.ending) (Some left.acceptor) (Some left.disk) left.post back
+    pub gives : GivesBack (status_by left.ending) (Some left.acceptor) (Some left.disk) left.post None back
 
   -- The day was opened so, and memory was refused before a worker began: all is given back, the disk as the opening left
   -- it; or all but the disk. Or it was refused for the workers: the post link alone is given back, over which posts of some
   -- history of the day were tried.
   pub data LosesDay : Type 0 where
     all_left : (opened : OnDisk D) → KeepsHistory d roster opened.desk.history disk opened.disk
-        → GivesBack 12 (Some acceptor) (Some opened.disk) post back → LosesDay
-    no_disk_left : GivesBack 12 (Some acceptor) None post back → LosesDay
-    post_left : (post_now : L) → LeavesPost l roster post post_now → GivesBack 12 None None post_now back → LosesDay
+        → GivesBack 12 (Some acceptor) (Some opened.disk) post None back → LosesDay
+    no_disk_left : GivesBack 12 (Some acceptor) None post None back → LosesDay
+    post_left : (post_now : L) → LeavesPost l roster post post_now → GivesBack 12 None None post_now None back → LosesDay
 
   -- The day wasn't opened for a cause; acceptor and post link are as they were.
   pub record OpensNot : Type 0 where
@@ -91,7 +101,7 @@ module _ {A I O D L : Type 0} (a : acceptors.Ghosts A I O) (s : sources.Ghosts I
     pub disk_now : D
     pub gives_up : DeskGivesUp d (desk_terms roster) disk disk_now why
     pub cause : HasDiskCause (d.faults disk) (d.faults disk_now) why
-    pub gives : GivesBack (status_by_fault why) (Some acceptor) (Some disk_now) post back
+    pub gives : GivesBack (status_by_fault why) (Some acceptor) (Some disk_now) post (Some (NotBegun.Journal why)) back
 
   -- it served; or the day wasn't opened; or memory was refused once it was
   abbrev pub EndsOpening : List (List (Lane L)) → Type 0
@@ -109,10 +119,12 @@ module _ {A I O D L : Type 0} (a : acceptors.Ghosts A I O) (s : sources.Ghosts I
   -- or memory was refused before.
   pub data RunsServing (document : List ℕ) (workers : ℕ) : Type 0 where
     serving : (fits : FitsServing document workers (links_in given.links.items)) → ServesRoster fits.roster → RunsServing document workers
-    unfit : (FitsServing document workers (links_in given.links.items) → ⊥) → EndsAtOnce given back 3 → RunsServing document workers
+    unfit : (FitsServing document workers (links_in given.links.items) → ⊥) → EndsAtOnce given back 3 → SaysUnfit document back.why
+        → RunsServing document workers
     unserved : EndsAtOnce given back 12 → RunsServing document workers
 
   -- The same of a roster, by whether each list of links fits it. A private clause alone cites this.
   abbrev pub EndsRoster : Roster → Type 0
   EndsRoster roster =
-      ServesRoster roster ⊎ (((All (Fit roster.bidders) (links_in given.links.items) → ⊥) × EndsAtOnce given back 3) ⊎ EndsAtOnce given back 12)
+      ServesRoster roster
+      ⊎ (((All (Fit roster.bidders) (links_in given.links.items) → ⊥) × EndsAtOnce given back 3 × (back.why ≡ None)) ⊎ EndsAtOnce given back 12)

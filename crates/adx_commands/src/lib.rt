@@ -16,6 +16,7 @@ mod command;
 mod kept;
 mod lanes;
 mod network_command;
+mod not_begun;
 mod objects;
 mod runs;
 mod served;
@@ -26,6 +27,7 @@ pub use anew::adx_in_memory;
 pub use command::adx;
 pub use kept::{Kept, kept_by_words};
 pub use network_command::{PENDING, adx_serve};
+pub use not_begun::NotBegun;
 pub use served::Served;
 pub use status::{
     DISK_FAULT, DONE, KEEPER_FAULT, NO_COMMAND, NO_HISTORY, NOT_ACCEPTED, NOT_KEPT, OUT_OF_MEMORY,

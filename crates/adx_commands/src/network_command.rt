@@ -87,7 +87,7 @@ fn run<
 {
     match read {
         Some(command) => run_command(rt, alloc, command, document, objects, clock),
-        None => give_back(objects, NO_COMMAND),
+        None => give_back(objects, NO_COMMAND, None),
     }
 }
 
@@ -175,6 +175,6 @@ pub fn adx_serve<
     };
     match network_command_of(alloc, words) {
         Ok(read) => run(rt, alloc, read, document, objects, clock),
-        Err(_) => give_back(objects, OUT_OF_MEMORY),
+        Err(_) => give_back(objects, OUT_OF_MEMORY, None),
     }
 }

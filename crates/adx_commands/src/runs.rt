@@ -5,6 +5,7 @@ ghost use Rattle.adx_commands.specs.Causes.{HasCauses};
 ghost use Rattle.adx_commands.specs.NetworkCommands.{RunsBid, RunsPost};
 ghost use Rattle.adx_commands.specs.Served.{KeepsObjects};
 
+use crate::not_begun::{bid_not_begun, post_not_begun};
 use crate::objects::{Objects, give_back};
 use crate::served::Served;
 use adx_links::{Acceptor, Link};
@@ -27,7 +28,7 @@ pub(crate) fn run_post<A: Acceptor + Drop, D: Disk + Drop, L: Link + Drop>(
     ensures causes { HasCauses A.Acceptor D.Disk objects result × KeepsObjects D.Disk objects result }
 {
     if !objects.links.is_empty() {
-        return give_back(objects, REFUSED);
+        return give_back(objects, REFUSED, None);
     }
     let mut post = objects.post;
     let (end, disk) = post_notices(alloc, document, objects.disk, &mut post);
@@ -36,6 +37,7 @@ pub(crate) fn run_post<A: Acceptor + Drop, D: Disk + Drop, L: Link + Drop>(
         acceptor: Some(objects.acceptor),
         disk: Some(disk),
         post: Some(post),
+        why: post_not_begun(end),
     }
 }
 
@@ -51,7 +53,7 @@ pub(crate) fn run_bid<R: Wait, A: Acceptor + Drop, D: Disk + Drop, L: Drop>(
     ensures causes { HasCauses A.Acceptor D.Disk objects result × KeepsObjects D.Disk objects result }
 {
     if !objects.links.is_empty() {
-        return give_back(objects, REFUSED);
+        return give_back(objects, REFUSED, None);
     }
     let mut acceptor = objects.acceptor;
     let end = bid(rt, alloc, document, &mut acceptor);
@@ -60,5 +62,6 @@ pub(crate) fn run_bid<R: Wait, A: Acceptor + Drop, D: Disk + Drop, L: Drop>(
         acceptor: Some(acceptor),
         disk: Some(objects.disk),
         post: Some(objects.post),
+        why: bid_not_begun(end),
     }
 }

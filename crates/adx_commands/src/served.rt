@@ -1,4 +1,5 @@
 //! What a command gives back.
+use crate::not_begun::NotBegun;
 
 /// What a command that talks over the network gives back: the exit status, and the objects that it was given.
 #[derive(Drop)]
@@ -11,4 +12,6 @@ pub struct Served<A, D, L> {
     pub disk: Option<D>,
     /// The link that notices are sent over.
     pub post: Option<L>,
+    /// Why it didn't begin, where the status alone doesn't say it.
+    pub why: Option<NotBegun>,
 }

@@ -8,6 +8,7 @@ ghost use Rattle.exchange_serving.specs.Lanes.{lists_of};
 ghost use Rattle.adx_commands.specs.Serving.{EndsOpening, EndsRoster, GivesServed, RunsServing, status_by, status_by_fault};
 
 use crate::lanes::workers_over;
+use crate::not_begun::NotBegun;
 use crate::objects::{Objects, give_back};
 use crate::served::Served;
 use adx_desk::{Desk, DeskFault};
@@ -73,6 +74,7 @@ fn unserved_by<A: Drop, D: Disk + Drop, L: Drop>(unserved: Unserved<A, D, L>) ->
             acceptor: Some(acceptor),
             disk: Some(desk.close()),
             post: Some(post),
+            why: None,
         },
         Unserved::Unshared {
             acceptor,
@@ -83,12 +85,14 @@ fn unserved_by<A: Drop, D: Disk + Drop, L: Drop>(unserved: Unserved<A, D, L>) ->
             acceptor: Some(acceptor),
             disk: None,
             post: Some(post),
+            why: None,
         },
         Unserved::Lost { post } => Served {
             status: OUT_OF_MEMORY,
             acceptor: None,
             disk: None,
             post: Some(post),
+            why: None,
         },
     }
 }
@@ -105,6 +109,7 @@ fn served_by<A: Drop, D: Disk + Drop, L: Drop>(
             acceptor: Some(served.acceptor),
             disk: Some(served.disk),
             post: Some(served.post),
+            why: None,
         },
         Err(unserved) => unserved_by(unserved),
     }
@@ -144,6 +149,7 @@ fn serve_day<
                 acceptor: Some(acceptor),
                 disk: Some(disk),
                 post: Some(post),
+                why: Some(NotBegun::Journal { fault }),
             }
         }
     }
@@ -180,6 +186,7 @@ fn serve_roster<
         acceptor: Some(acceptor),
         disk: Some(disk),
         post: Some(post),
+        why: None,
     }
 }
 
@@ -205,11 +212,13 @@ pub(crate) fn run_serve<
         objects result document.now workers }
 {
     if objects.links.as_slice().len() != workers as usize {
-        return give_back(objects, REFUSED);
+        return give_back(objects, REFUSED, None);
     }
     match first_roster(alloc, document) {
         Ok(roster) => serve_roster(rt, alloc, &roster, objects, clock),
-        Err(RosterLineFault::Refused { .. }) => give_back(objects, REFUSED),
-        Err(RosterLineFault::OutOfMemory) => give_back(objects, OUT_OF_MEMORY),
+        Err(RosterLineFault::Refused { why }) => {
+            give_back(objects, REFUSED, Some(NotBegun::Line { why }))
+        }
+        Err(RosterLineFault::OutOfMemory) => give_back(objects, OUT_OF_MEMORY, None),
     }
 }

@@ -37,5 +37,5 @@ module _ {L D : Type 0} (l : links.Ghosts L) (d : disk.Ghosts D) (document : Lis
   ends_posting (PostEnd.Refused why) begins (inl (history, keeps, tries)) = absurd tries
   ends_posting (PostEnd.Refused why) begins (inr (cause, is, same, gives_up, caused)) = absurd (no_refusal why cause is)
   ends_posting PostEnd.DiskFault begins ends = (roster, begins, ends)
-  ends_posting PostEnd.NoHistory begins ends = (roster, begins, ends)
+  ends_posting (PostEnd.NoHistory why) begins ends = (roster, begins, ends)
   ends_posting PostEnd.OutOfMemory begins ends = inr (roster, begins, ends)

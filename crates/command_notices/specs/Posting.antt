@@ -40,7 +40,7 @@ module _ {L : Type 0} (l : links.Ghosts L) where
   TriesSo posts link link_now PostEnd.Pending = (left : List Post) × (0 < length left) × TriesAll posts link link_now left
   TriesSo posts link link_now (PostEnd.Refused why) = ⊥
   TriesSo posts link link_now PostEnd.DiskFault = ⊥
-  TriesSo posts link link_now PostEnd.NoHistory = ⊥
+  TriesSo posts link link_now (PostEnd.NoHistory why) = ⊥
   TriesSo posts link link_now PostEnd.OutOfMemory = (outcomes : List Outcome) × Tries posts link link_now outcomes
 
   -- the same of the posts that a history asks for
@@ -75,6 +75,7 @@ module _ {L : Type 0} (l : links.Ghosts L) where
     EndsPosting document disk disk_now link link_now PostEnd.Pending = EndsOpened document disk disk_now link link_now PostEnd.Pending
     EndsPosting document disk disk_now link link_now (PostEnd.Refused why) = LacksRoster document why × IsUntouched disk disk_now link link_now
     EndsPosting document disk disk_now link link_now PostEnd.DiskFault = EndsOpened document disk disk_now link link_now PostEnd.DiskFault
-    EndsPosting document disk disk_now link link_now PostEnd.NoHistory = EndsOpened document disk disk_now link link_now PostEnd.NoHistory
+    EndsPosting document disk disk_now link link_now (PostEnd.NoHistory why) =
+        EndsOpened document disk disk_now link link_now (PostEnd.NoHistory why)
     EndsPosting document disk disk_now link link_now PostEnd.OutOfMemory =
         IsUntouched disk disk_now link link_now ⊎ EndsOpened document disk disk_now link link_now PostEnd.OutOfMemory

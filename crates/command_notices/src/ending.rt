@@ -20,14 +20,17 @@ pub enum PostEnd {
     /// The disk failed.
     DiskFault,
     /// The disk's file represents no history of the roster.
-    NoHistory,
+    NoHistory {
+        /// Why it represents none.
+        fault: DeskFault,
+    },
     /// Memory was refused.
     OutOfMemory,
 }
 
 /// How a run ends whose day wasn't opened for this cause.
-pub(crate) fn end_of(fault: &DeskFault) -> PostEnd
-    ensures { result ≡ unopened_end fault.now }
+pub(crate) fn end_of(fault: DeskFault) -> PostEnd
+    ensures { result ≡ unopened_end fault }
 {
     match fault {
         DeskFault::DiskFault => PostEnd::DiskFault,
@@ -36,7 +39,7 @@ pub(crate) fn end_of(fault: &DeskFault) -> PostEnd
         | DeskFault::BadLength { .. }
         | DeskFault::BadEntry { .. }
         | DeskFault::OtherRoster { .. }
-        | DeskFault::JournalFull { .. } => PostEnd::NoHistory,
+        | DeskFault::JournalFull { .. } => PostEnd::NoHistory { fault },
     }
 }
 
@@ -48,7 +51,7 @@ pub fn status_of(end: PostEnd) -> u8
         PostEnd::Delivered => 0,
         PostEnd::Refused { .. } => 3,
         PostEnd::DiskFault => 6,
-        PostEnd::NoHistory => 7,
+        PostEnd::NoHistory { .. } => 7,
         PostEnd::Pending => 11,
         PostEnd::OutOfMemory => 12,
     }

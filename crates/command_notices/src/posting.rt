@@ -62,7 +62,7 @@ fn post_day<D: Disk + Drop, L: Link>(
         }
         Err(refused) => {
             let (fault, back) = refused;
-            (end_of(&fault), back)
+            (end_of(fault), back)
         }
     }
 }
