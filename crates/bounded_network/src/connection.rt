@@ -1,5 +1,5 @@
 //! A connection that was taken, whose calls end in time.
-ghost use Rattle.std.specs.Io.{ReadsAtMost};
+ghost use Rattle.std.specs.Io.{ReadsAtMost, WritesAtMost};
 
 use crate::listening::Listening;
 use crate::locked::locked;
@@ -148,7 +148,9 @@ impl<'a, R> Connection<'a, R> {
 
 impl<'a, R> Connection<'a, R> {
     /// Writes what is taken.
-    fn write_now(&self, buf: &[u8]) -> io::Result<usize> {
+    fn write_now(&self, buf: &[u8]) -> io::Result<usize>
+        ensures { WritesAtMost result buf.now }
+    {
         let stream = self.stream()?;
         match &*stream {
             Some(stream) => (&*stream).write(buf),
