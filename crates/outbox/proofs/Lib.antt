@@ -4,6 +4,7 @@ pub mod Keyed
 pub mod Steps
 pub mod Shown
 pub mod Tried
+pub mod Parts
 pub mod Changes
 pub mod Walks
 pub mod Followed

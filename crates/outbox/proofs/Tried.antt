@@ -1,7 +1,5 @@
 -- Tries one after the other, and what they leave pending.
 use Rattle.std.proofs.Common.{◌≡◌, ◌≢◌, ℕ, ◌<◌, List, [], ◌∷◌, ◌++◌, length, Bool, true, false, cond, refl, sym, ap, ◌∙◌, subst, arith, Option, Some, None, Result, Ok, Err, IsTrue, append-nil, inl, inr, suc, ◌+◌}
-use mathlib.Core.List.{reverse}
-use Rattle.std.proofs.lemmas.List.{reverse-append, reverse-reverse}
 use Rattle.std.specs.Option.{IfSome}
 use Rattle.std.specs.List.{count_by}
 use Rattle.std.specs.Prelude.{min, ◌-◌, ◌^◌}
@@ -30,50 +28,6 @@ module _ {L : Type 0} (exchanges : L → Option Exchanges) (course : L → Optio
   tried_more [] (x ∷ os) p o old mid new before now = absurd before
   tried_more (q ∷ ps) [] p o old mid new before now = absurd before
   tried_more (q ∷ ps) (x ∷ os) p o old mid new before now = (before.0, before.1, tried_more ps os p o before.0 mid new before.2 now)
-
--- what stays of posts that stand from a place on
-abbrev pub left_from : List Outcome → ℕ → List Post → List Post
-left_from os n [] = []
-left_from os n (p ∷ ps) = cond (stays_at os n) (p ∷ left_from os (n + 1) ps) (left_from os (n + 1) ps)
-
-left_behind : (o : Outcome) (os : List Outcome) (n : ℕ) (ps : List Post) → left_from (o ∷ os) (suc n) ps ≡ left_from os n ps
-left_behind o os n [] = refl
-left_behind o os n (p ∷ ps) =
-    let next : suc n + 1 ≡ suc (n + 1) = omega arith in
-    ap (λ (t : List Post). cond (stays_at os n) (p ∷ t) t) (ap (λ k. left_from (o ∷ os) k ps) next ∙ left_behind o os (n + 1) ps)
-
-left_untried : (n : ℕ) (ps : List Post) → left_from [] n ps ≡ ps
-left_untried n [] = refl
-left_untried n (p ∷ ps) = ap (λ (t : List Post). p ∷ t) (left_untried (n + 1) ps)
-
-pub left_is : (os : List Outcome) (ps : List Post) → left_from os 0 ps ≡ left_of ps os
-left_is [] [] = refl
-left_is (o ∷ os) [] = refl
-left_is [] (p ∷ ps) = left_untried 0 (p ∷ ps)
-left_is (o ∷ os) (p ∷ ps) =
-    let one : 0 + 1 ≡ suc 0 = omega arith in
-    ap (λ (t : List Post). cond (stays o) (p ∷ t) t) (ap (λ k. left_from (o ∷ os) k ps) one ∙ (left_behind o os 0 ps ∙ left_is os ps))
-
-pushed_left : (b : Bool) (p : Post) (ps : List Post) → reverse ps ++ cond b (p ∷ []) [] ≡ reverse (cond b (p ∷ ps) ps)
-pushed_left true p ps = sym (reverse-append (p ∷ []) ps)
-pushed_left false p ps = append-nil (reverse ps)
-
--- one post more is taken from the end
-pub left_more : (os : List Outcome) (n m : ℕ) (p : Post) (ps mid new : List Post) → n + 1 ≡ m → mid ≡ reverse (left_from os m ps) → new ≡ mid ++ cond (stays_at os n) (p ∷ []) [] → new ≡ reverse (left_from os n (p ∷ ps))
-left_more os n m p ps mid new next before now =
-    now
-    ∙ (ap (λ (t : List Post). t ++ cond (stays_at os n) (p ∷ []) []) (before ∙ ap (λ k. reverse (left_from os k ps)) (sym next))
-    ∙ pushed_left (stays_at os n) p (left_from os (n + 1) ps))
-
--- all were taken
-pub left_all : (os : List Outcome) (n : ℕ) (ps tried all mid new : List Post) → n ≡ 0 → tried ≡ [] → tried ++ ps ≡ all → mid ≡ reverse (left_from os n ps) → new ≡ reverse mid → new ≡ left_of all os
-left_all os n ps tried all mid new first none whole before now =
-    now
-    ∙ (ap (λ (t : List Post). reverse t) before
-    ∙ (reverse-reverse (left_from os n ps)
-    ∙ (ap (λ k. left_from os k ps) first
-    ∙ (left_is os ps
-    ∙ ap (λ (t : List Post). left_of t os) (sym (ap (λ (t : List Post). t ++ ps) none) ∙ whole)))))
 
 -- ---- what an exchange comes to
 
@@ -176,28 +130,3 @@ given_up_more before os few = capped before (count_by is_undeliverable os) (2 ^ 
   where
     capped : (a b many : ℕ) → a < many → min (a + min b (many - 1)) (many - 1) ≡ a + min b ((many - 1) - a)
     capped a b many few = omega (arith, few)
-
-none_given_up : (before : ℕ) → before ≡ given_up_with before []
-none_given_up before = none before ((2 ^ 32 - 1) - before)
-  where
-    none : (a most : ℕ) → a ≡ a + min 0 most
-    none a most = omega arith
-
-none_tried : (ps : List Post) → ps ≡ left_of ps []
-none_tried [] = refl
-none_tried (p ∷ ps) = refl
-
-module _ {L : Type 0} (exchanges : L → Option Exchanges) (course : L → Option Course) (faults : L → ℕ) (stands_on : L → List GName) (limit : ℕ) where
-  -- memory was wanting before the first try
-  pub untried : (link : L) (wanting : OutOfMemory) (o : OutboxState) → Pumps exchanges course faults stands_on limit link link (Err wanting) o o
-  untried link wanting o = record {
-    outcomes = [];
-    few = omega arith;
-    all = tt;
-    tried = refl;
-    pending = none_tried o.pending;
-    followed = refl;
-    kept = refl;
-    given_up = none_given_up o.undeliverable;
-    report = tt;
-  }

@@ -1,5 +1,5 @@
 -- What a pump does: it tries each pending post once, in order. This project's own.
-use Rattle.std.specs.Prelude.{◌≡◌, ◌≢◌, ◌⊎◌, ℕ, ◌+◌, ◌-◌, ◌^◌, ◌<◌, ◌≤◌, min, List, [], ◌∷◌, length, take, Bool, true, false, ◌&&◌, nat_le, IsTrue, if◌then◌else◌, Option, Some, None, IfSome, IfOk, OnOk, Result, Ok, Err, ⊤}
+use Rattle.std.specs.Prelude.{◌≡◌, ◌≢◌, ◌⊎◌, ℕ, ◌+◌, ◌-◌, ◌^◌, ◌<◌, ◌≤◌, min, List, [], ◌∷◌, ◌++◌, length, take, drop, Bool, true, false, ◌&&◌, nat_le, IsTrue, if◌then◌else◌, Option, Some, None, IfSome, IfOk, OnOk, Result, Ok, Err, ⊤}
 use Rattle.std.specs.List.{count_by, slice_get}
 use Rattle.std.specs.Option.{option_map_or}
 use Rattle.std.specs.Borrow.{GName}
@@ -171,6 +171,23 @@ module _ {L : Type 0} (exchanges : L → Option Exchanges) (course : L → Optio
     pub all : OnOk result (length outcomes ≡ length old.pending)
     pub tried : AreTried (take (length outcomes) old.pending) outcomes link_old link_new
     pub pending : new.pending ≡ left_of old.pending outcomes
+    pub followed : new.followed ≡ old.followed
+    pub kept : new.kept ≡ old.kept
+    pub given_up : new.undeliverable ≡ given_up_with old.undeliverable outcomes
+    pub report : IfOk result (λ r. r ≡ report_of outcomes)
+
+  -- the posts that are tried where so many are, from a place on
+  abbrev pub part_of : ℕ → ℕ → List Post → List Post
+  part_of first most pending = take most (drop first pending)
+
+  -- As a pump, but of so many of the pending posts alone, from a place on: those before it and behind it stay where they are.
+  -- Example: of p, q, r, s the two from place 1 on are tried; of a 204 and a 500 p, r and s stay.
+  pub record PumpsPart (first most : ℕ) (link_old link_new : L) (result : Result Report OutOfMemory) (old new : OutboxState) : Type 0 where
+    pub outcomes : List Outcome
+    pub few : length outcomes ≤ length (part_of first most old.pending)
+    pub all : OnOk result (length outcomes ≡ length (part_of first most old.pending))
+    pub tried : AreTried (take (length outcomes) (drop first old.pending)) outcomes link_old link_new
+    pub pending : new.pending ≡ take first old.pending ++ left_of (drop first old.pending) outcomes
     pub followed : new.followed ≡ old.followed
     pub kept : new.kept ≡ old.kept
     pub given_up : new.undeliverable ≡ given_up_with old.undeliverable outcomes

@@ -4,7 +4,7 @@ ghost use Rattle.day_rules.specs.DayState.{IsDay};
 ghost use Rattle.day_rules.specs.Terms.{Terms};
 ghost use Rattle.day_rules.specs.declared.entry.Entry.{Entry as EntryValue};
 ghost use Rattle.outbox.specs.Following.{Follows, HasFollowed};
-ghost use Rattle.outbox.specs.Pumping.{Pumps};
+ghost use Rattle.outbox.specs.Pumping.{Pumps, PumpsPart};
 ghost use Rattle.outbox.specs.declared.outbox.TheConstants.{ANSWER_LIMIT as LIMIT};
 ghost use Rattle.outbox.specs.declared.post.TheConstants.{OPPORTUNITY_EXPIRED as EXPIRED_LOSS};
 ghost use Rattle.outbox.specs.Rows.{row_loss};
@@ -16,7 +16,7 @@ use crate::post::{OPPORTUNITY_EXPIRED, Post, PostKind};
 use crate::pushing::push_notice;
 use crate::report::{Report, given_up_with, report_of};
 use crate::rows::Rows;
-use crate::trying::{keep_left, try_all};
+use crate::trying::{keep_left, part_of, try_all};
 use adx_links::Link;
 use adx_units::OutOfMemory;
 use allocator_core::LOST_TO_HIGHER;
@@ -24,7 +24,6 @@ use day_rules::{Ask, Entry};
 use http_connection::Conn;
 use std::alloc::Global;
 use std::marker::Model;
-use std::mem;
 
 /// The most bytes of the body of an answer to a post.
 pub const ANSWER_LIMIT: u32 = 262_144;
@@ -122,24 +121,29 @@ impl Outbox {
     pub fn pump<L: Link>(&mut self, link: &mut L) -> Result<Report, OutOfMemory>
         ensures { Pumps L.exchanges L.course L.faults L.place LIMIT link.old link.new result self.old self.new }
     {
-        let mut left = match Vec::with_capacity(self.alloc, self.pending.len()) {
-            Ok(left) => left,
-            Err(_full) => return Err(OutOfMemory),
-        };
+        let all = self.pending.len();
+        self.pump_part(0, all, link)
+    }
+
+    /// Tries so many of the pending posts once over the link, in order, from a place on, as `pump` does all of them. The
+    /// others stay where they are.
+    pub fn pump_part<L: Link>(
+        &mut self,
+        first: usize,
+        most: usize,
+        link: &mut L,
+    ) -> Result<Report, OutOfMemory>
+        ensures { PumpsPart L.exchanges L.course L.faults L.place LIMIT first most link.old link.new result self.old self.new }
+    {
         let mut outcomes = Vec::new(self.alloc);
         let tried = try_all(
             self.alloc,
             &mut self.conn,
             link,
-            self.pending.as_slice(),
+            part_of(self.pending.as_slice(), first, most),
             &mut outcomes,
         );
-        keep_left(
-            mem::replace(&mut self.pending, Vec::new(self.alloc)),
-            &outcomes,
-            &mut left,
-        );
-        self.pending = left;
+        keep_left(&mut self.pending, first, &outcomes);
         self.undeliverable = given_up_with(self.undeliverable, &outcomes);
         match tried {
             Ok(()) => Ok(report_of(&outcomes)),

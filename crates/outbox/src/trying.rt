@@ -1,6 +1,6 @@
 //! Posts that are tried over a link.
-ghost use Rattle.std.specs.Prelude.{◌≡◌, ◌+◌, ◌<◌, ◌≤◌, ◌++◌, ◌∷◌, if◌then◌else◌, IfOk, OnErr, OnOk, [], length, take, vec_capacity, vec_len};
-ghost use Rattle.outbox.specs.Pumping.{AreTried, IsTried, TriesCall, left_of, outcome_by, stays_at};
+ghost use Rattle.std.specs.Prelude.{◌≡◌, ◌≤◌, ◌++◌, IfOk, OnErr, OnOk, [], length, take, drop};
+ghost use Rattle.outbox.specs.Pumping.{AreTried, IsTried, TriesCall, left_of, outcome_by, part_of, stays_at};
 ghost use Rattle.outbox.specs.Calls.{call_of as call_of_text};
 
 use crate::calling::{Call, call_of};
@@ -107,28 +107,26 @@ fn stays(outcomes: &[Outcome], at: usize) -> bool
     }
 }
 
-/// Puts a post behind those that stay, if it does.
-fn push_left(left: &mut Vec<Post>, post: Post, stays: bool)
-    requires room { vec_len left.old < vec_capacity left.old }
-    ensures items { left.new.items ≡ left.old.items ++ (if stays then post ∷ [] else []) }
-    ensures len { vec_len left.new ≤ vec_len left.old + 1 }
-    ensures room { vec_capacity left.new ≡ vec_capacity left.old }
+/// So many of the posts, from a place on.
+pub(crate) fn part_of(posts: &[Post], first: usize, most: usize) -> &[Post]
+    ensures { result.now ≡ part_of first most posts.now }
 {
-    if stays {
-        left.push_reserved(post);
-    }
+    let (_before, rest) = posts.split_at(first.min(posts.len()));
+    let (part, _behind) = rest.split_at(most.min(rest.len()));
+    part
 }
 
-/// Moves the posts that stay behind the tries, without memory.
-pub(crate) fn keep_left(posts: Vec<Post>, outcomes: &[Outcome], left: &mut Vec<Post>)
-    requires room { vec_len posts ≤ vec_capacity left.old }
-    requires empty { vec_len left.old ≡ 0 }
-    requires none { left.old.items ≡ [] }
-    ensures { left.new.items ≡ left_of posts.items outcomes.now }
+/// Keeps the posts that stay behind tries of those from a place on, in their order, and all others, without memory.
+pub(crate) fn keep_left(posts: &mut Vec<Post>, first: usize, outcomes: &[Outcome])
+    ensures { posts.new.items ≡ take first posts.old.items ++ left_of (drop first posts.old.items) outcomes.now }
 {
-    let mut tried = posts;
-    'posts: while let Some(post) = tried.pop() {
-        push_left(left, post, stays(outcomes, tried.len()));
+    let begin = first.min(posts.len());
+    let mut count = begin;
+    for at in 0..posts.len() - begin {
+        if stays(outcomes, at) {
+            posts.swap(count, begin + at);
+            count += 1;
+        }
     }
-    left.reverse();
+    posts.truncate(count);
 }

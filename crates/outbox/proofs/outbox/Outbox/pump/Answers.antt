@@ -1,6 +1,9 @@
+use Rattle.std.proofs.Common.{arith}
 use Rattle.outbox.specs.declared.outbox.TheConstants.{ANSWER_LIMIT}
-use Rattle.outbox.proofs.Tried.{untried}
+use Rattle.outbox.proofs.Parts.{pumped_all}
 use Rattle.outbox.proofs.outbox.Outbox.pump.Goals as goal
 
-pub returns-in-Err : goal.returns-in-Err
-returns-in-Err g c = untried {L = g.row.L.Denot} g.L.Link.exchanges g.L.Link.course g.L.Link.faults g.L.Link.place ANSWER_LIMIT c.args.link.now _ c.args.self.now
+pub returns : goal.returns
+returns g c =
+    pumped_all {L = g.row.L.Denot} g.L.Link.exchanges g.L.Link.course g.L.Link.faults g.L.Link.place ANSWER_LIMIT c.len-all.result c.args.link.now c.pump_part.new.link c.pump_part.result c.args.self.now c.pump_part.new.self
+    (omega arith) c.pump_part.ensures
