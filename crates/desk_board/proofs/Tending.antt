@@ -1,7 +1,8 @@
 -- What following entries, and trying posts, makes of what became of the posts of a history.
-use Rattle.std.proofs.Common.{◌≡◌, suc, pred, List, [], ◌∷◌, ◌++◌, length, take, All, Contains, IsPermutation, Bool, true, false, if◌then◌else◌, refl, sym, ap, ◌∙◌, subst, append_assoc, append-nil, arith}
+use Rattle.std.proofs.Common.{◌≡◌, suc, pred, List, [], ◌∷◌, ◌++◌, length, take, drop, All, Contains, IsPermutation, Bool, true, false, if◌then◌else◌, refl, sym, ap, ◌∙◌, subst, append_assoc, append-nil, arith}
+use Rattle.std.proofs.lemmas.List.{take-append-drop}
 use Rattle.std.proofs.lemmas.List.Elements.{All-append, All-contains, All-contains_itself, All-nil, All-take, All-weaker, Contains-append_left, Contains-append_right, Contains-get_or}
-use Rattle.std.proofs.lemmas.List.Sorted.{All-permutation, IsPermutation-append, IsPermutation-cons, IsPermutation-middle, IsPermutation-refl, IsPermutation-sym, IsPermutation-trans}
+use Rattle.std.proofs.lemmas.List.Sorted.{All-permutation, IsPermutation-append, IsPermutation-append_comm, IsPermutation-append_left, IsPermutation-append_right, IsPermutation-cons, IsPermutation-middle, IsPermutation-refl, IsPermutation-sym, IsPermutation-trans}
 use Rattle.adx_links.specs.declared.link.Link as links
 use Rattle.day_rules.specs.declared.entry.Entry.{Entry}
 use Rattle.outbox.specs.Posts.{posts_behind, posts_by, posts_of}
@@ -53,7 +54,7 @@ pub all_right : (P : Post → Type 0) (xs ys : List Post) → All P (xs ++ ys) �
 all_right P xs ys h k d lt = All-contains P (xs ++ ys) _ h (Contains-append_right xs ys _ (Contains-get_or ys k d lt))
 
 -- where none was tried all are left
-none_left : (ps : List Post) → left_of ps [] ≡ ps
+pub none_left : (ps : List Post) → left_of ps [] ≡ ps
 none_left [] = refl
 none_left (p ∷ ps) = refl
 
@@ -122,11 +123,30 @@ module _ {L : Type 0} (l : links.Ghosts L) where
             (IsPermutation-trans _ _ _ (IsPermutation-append settled settled (more ++ left_of pending os) pending (IsPermutation-refl settled) (parted pending os)) t.each_once)));
       }
 
-  -- a round that comes to none of the posts
-  pub none_tried : (pending : List Post) (link : L) (history : List Entry) → AreTriedOnce l (due_behind pending history []) pending link link
-  none_tried pending link history = record {
-    outcomes = [];
-    few = omega arith;
-    tries = refl;
-    pending_are = sym (append-nil pending) ∙ sym (none_left (pending ++ []));
-  }
+  -- so many of the pending posts from a place on were tried once more
+  pub tended_part : (history : List Entry) (first : ℕ) (pending now : List Post) (os : List Outcome) (link mid link_now : L) → now ≡ take first pending ++ left_of (drop first pending) os →
+      Tried (take (length os) (drop first pending)) os mid link_now → AreTended l history pending link mid → AreTended l history now link link_now
+  tended_part history first pending now os link mid link_now is tries t =
+      let front = take first pending in
+      let rest = drop first pending in
+      let some = take (length os) rest in
+      let left = left_of rest os in
+      let settled = settled_by t.tried t.outcomes in
+      let more = settled_by some os in
+      let posts = posts_of history in
+      let pending_are : All (Contains posts) pending = all_right (Contains posts) settled pending (All-permutation (Contains posts) posts (settled ++ pending) (IsPermutation-sym (settled ++ pending) posts t.each_once) (All-contains_itself posts)) in
+      let rest_are : All (Contains posts) rest = all_right (Contains posts) front rest (subst (All (Contains posts)) (sym (take-append-drop first pending)) pending_are) in
+      let both : settled_by (t.tried ++ some) (t.outcomes ++ os) ≡ settled ++ more = settled_append t.tried t.outcomes some os (tried_long t.tried t.outcomes link mid t.tries) in
+      let parts : IsPermutation (more ++ (front ++ left)) (front ++ rest) = IsPermutation-trans _ _ _
+      (subst (λ (ps : List Post). IsPermutation ps ((front ++ more) ++ left)) (append_assoc more front left) (IsPermutation-append_left left (more ++ front) (front ++ more) (IsPermutation-append_comm more front)))
+      (subst (λ (ps : List Post). IsPermutation ps (front ++ rest)) (sym (append_assoc front more left)) (IsPermutation-append_right front (more ++ left) rest (parted rest os))) in
+      let whole : IsPermutation (more ++ (front ++ left)) pending = subst (IsPermutation (more ++ (front ++ left))) (take-append-drop first pending) parts in record {
+        tried = t.tried ++ some;
+        outcomes = t.outcomes ++ os;
+        tries = tried_append t.tried t.outcomes some os link mid link_now t.tries tries;
+        own = All-append (Contains posts) t.tried some t.own (All-take (Contains posts) (length os) rest rest_are);
+        each_once = subst (λ (ps : List Post). IsPermutation (ps ++ now) posts) (sym both)
+            (subst (λ (ps : List Post). IsPermutation ((settled ++ more) ++ ps) posts) (sym is)
+            (subst (λ (ps : List Post). IsPermutation ps posts) (sym (append_assoc settled more (front ++ left)))
+            (IsPermutation-trans _ _ _ (IsPermutation-append settled settled (more ++ (front ++ left)) pending (IsPermutation-refl settled) whole) t.each_once)));
+      }

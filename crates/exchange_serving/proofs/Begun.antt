@@ -1,9 +1,13 @@
 -- How a day of serving begins: the first pass once two others were split from it, and an outbox that has followed nothing.
-use Rattle.std.proofs.Common.{◌≡◌, ℕ, ◌+◌, List, [], length, true, sym, ap, ◌∙◌, subst, append-nil}
+use Rattle.std.proofs.Common.{◌≡◌, ℕ, ◌+◌, List, [], ◌++◌, length, drop, true, Option, Some, Result, Ok, Err, OnOk, sym, ap, ◌∙◌, subst, append-nil}
+use mathlib.Core.List.{IsPrefix}
 use Rattle.adx_desk.specs.declared.shared.OpenedWith.{OpenedWith}
 use Rattle.adx_links.specs.declared.link.Link as links
+use Rattle.adx_units.specs.declared.memory.OutOfMemory.{OutOfMemory}
+use Rattle.day_rules.specs.DayState.{IsDay}
+use Rattle.day_rules.specs.Terms.{Terms}
 use Rattle.day_rules.specs.declared.entry.Entry.{Entry}
-use Rattle.desk_board.specs.Rooms.{HasTended}
+use Rattle.desk_board.specs.Rooms.{FollowsUp, HasTended, IsTendedTo}
 use Rattle.desk_board.specs.declared.mail.Mail.{Mail}
 use Rattle.shared_desk.specs.Callers.{DeskPass}
 use Rattle.shared_desk.specs.Idle.{IsIdle}
@@ -42,6 +46,36 @@ module _ (desk : TurnstileState OpenedWith) (history : List Entry) (faults : ℕ
         begins = ([], append-nil a.seen ∙ (ap (λ (v : DeskPass). v.seen) x ∙ sym (ap (λ (v : DeskPass). v.seen) y)));
       }
 
--- what has followed nothing did so over its link as it is
-pub has_own : {L : Type 0} (l : links.Ghosts L) (link : L) (mail : Mail L) → mail.link ≡ link → HasTended l [] link mail → HasTended l [] mail.link mail
-has_own {L} l link mail is has = subst (λ (x : L). HasTended l [] x mail) (sym is) has
+-- what has followed the history of a desk that is shared did so over its link as it is
+pub has_own : {L : Type 0} (l : links.Ghosts L) (history seen : List Entry) (link : L) (mail : Mail L) → history ≡ seen → mail.link ≡ link → HasTended l history link mail → HasTended l seen mail.link mail
+has_own {L} l history seen link mail same is has = subst (λ (es : List Entry). HasTended l es mail.link mail) same (subst (λ (x : L). HasTended l history x mail) (sym is) has)
+
+-- and it has followed a front of what a pass beside the first one has seen
+pub tended_to : {L : Type 0} (l : links.Ghosts L) (first was p : DeskPass) (link : Option L) (mail : Mail L) → first ≡ was → IsIdle was p → link ≡ Some mail.link → HasTended l first.seen mail.link mail → IsTendedTo l link p.seen mail
+tended_to l first was p link mail same idle is has = record {
+  before = mail.link;
+  before_is = is;
+  history = first.seen;
+  begins = subst (λ (q : DeskPass). IsPrefix q.seen p.seen) (sym same) idle.begins;
+  has = has;
+}
+
+-- an outbox that had followed nothing was to follow all of a desk's history
+module _ {L : Type 0} (l : links.Ghosts L) (terms : Terms) (history entries : List Entry) (post : L) (old new : Mail L) (r : Result Unit OutOfMemory) where
+  follows_it : entries ≡ drop 0 history → IsDay terms history → HasTended l [] post old →
+      ((terms : Terms) (before : List Entry) (link : L) → IsDay terms (before ++ entries) → HasTended l before link old → FollowsUp l before entries link old new r) → FollowsUp l [] entries post old new r
+  follows_it are day has follows = follows terms [] post (subst (IsDay terms) (sym are) day) has
+
+  pub followed_all : entries ≡ drop 0 history → IsDay terms history → HasTended l [] post old → r ≡ Ok tt →
+      ((terms : Terms) (before : List Entry) (link : L) → IsDay terms (before ++ entries) → HasTended l before link old → FollowsUp l before entries link old new r) → HasTended l history post new
+  followed_all are day has done follows =
+      let f = follows_it are day has follows in
+      subst (λ (es : List Entry). HasTended l es post new) (all_of r (f.more ≡ entries) done f.all ∙ are) f.has
+    where
+      all_of : (r : Result Unit OutOfMemory) (P : Type 0) → r ≡ Ok tt → OnOk r P → P
+      all_of (Ok x) P e p = p
+      all_of (Err x) P e p = absurd (cc e)
+
+  pub followed_link : entries ≡ drop 0 history → IsDay terms history → HasTended l [] post old → old.link ≡ post →
+      ((terms : Terms) (before : List Entry) (link : L) → IsDay terms (before ++ entries) → HasTended l before link old → FollowsUp l before entries link old new r) → new.link ≡ post
+  followed_link are day has is follows = (follows_it are day has follows).link_same ∙ is

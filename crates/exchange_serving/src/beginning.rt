@@ -25,8 +25,8 @@ pub(crate) struct Begun<D: Disk + Drop> {
     pub(crate) mail: Pass<Desk<D>>,
 }
 
-/// What is made before a desk is shared: an outbox that has followed nothing, with its link; and a board that shows nothing
-/// yet, with its readers.
+/// What is made before a desk is shared: an outbox that has followed the desk's history, with its link; and a board that shows
+/// nothing yet, with its readers.
 #[derive(Drop)]
 pub(crate) struct Prepared<R: Wait + Drop, L> {
     pub(crate) mail: Mail<L>,
@@ -54,22 +54,51 @@ fn board_of<R: Wait + Drop>(
     Ok((board, all))
 }
 
-/// Makes the outbox over this link, and a board with so many readers. The link is given back where memory is refused.
-pub(crate) fn prepare<R: Wait + Drop, L: Link + Drop>(
+/// An outbox over this link that has followed the desk's history, without a copy of it. The link is given back where memory is
+/// refused.
+fn mail_of<D: Disk + Drop, L: Link + Drop>(
+    alloc: Global,
+    desk: &Desk<D>,
+    post: L,
+) -> Result<Mail<L>, L>
+    ensures mail { IfOk result (HasTended L.Link desk.now.desk.history post) }
+    ensures link { IfOk result (λ mail. mail.link ≡ post) }
+    ensures back { IfErr result (λ back. back ≡ post) }
+{
+    match Mail::new(alloc, post) {
+        Ok(mut mail) => {
+            // A desk's history is legal.
+            let _ = desk.entries();
+            match mail.follow(desk.entries_since(0)) {
+                Ok(()) => Ok(mail),
+                Err(_) => Err(mail.link),
+            }
+        }
+        Err(refused) => {
+            let (_, post) = refused;
+            Err(post)
+        }
+    }
+}
+
+/// Makes the outbox over this link, which follows the desk's history, and a board with so many readers. The link is given back
+/// where memory is refused.
+pub(crate) fn prepare<R: Wait + Drop, D: Disk + Drop, L: Link + Drop>(
     alloc: Global,
     rt: R,
+    desk: &Desk<D>,
     post: L,
     readers: u32,
 ) -> Result<Prepared<R, L>, L>
     requires readers { (1 ≤ readers) × (readers ≤ 64) }
-    ensures mail { IfOk result (λ p. HasTended L.Link [] post p.mail) }
+    ensures mail { IfOk result (λ p. HasTended L.Link desk.now.desk.history post p.mail) }
     ensures link { IfOk result (λ p. p.mail.link ≡ post) }
     ensures taken { IfOk result (λ p. taken p.board ≡ []) }
     ensures empty { IfOk result (λ p. published p.board ≡ []) }
     ensures readers { IfOk result (λ p. All (λ r. IsReaderOf r p.board) p.readers.items) }
     ensures back { IfErr result (λ back. back ≡ post) }
 {
-    match Mail::new(alloc, post) {
+    match mail_of(alloc, desk, post) {
         Ok(mail) => match board_of(alloc, rt, readers) {
             Ok(made) => {
                 let (board, readers) = made;
@@ -81,10 +110,7 @@ pub(crate) fn prepare<R: Wait + Drop, L: Link + Drop>(
             }
             Err(_) => Err(mail.link),
         },
-        Err(refused) => {
-            let (_, post) = refused;
-            Err(post)
-        }
+        Err(post) => Err(post),
     }
 }
 

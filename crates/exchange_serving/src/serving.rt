@@ -147,7 +147,7 @@ fn serve_shared_desk<
     requires board_idle { IsIdle J.first board.pass }
     requires mail_idle { IsIdle J.first mail_pass }
     requires link { J.link ≡ Some mail.link }
-    requires mail { HasTended L.Link [] mail.link mail }
+    requires mail { HasTended L.Link first.seen mail.link mail }
     requires first { first ≡ J.first }
     requires is_first { first.is_first ≡ true }
     requires out { first.out ≡ 2 }
@@ -197,8 +197,8 @@ fn serve_shared_desk<
 
 /// Serves the connections that the acceptor gives, on the desk that the roster's day was opened with, until no more come or
 /// the acceptor fails. Each list of lanes is a worker's, who serves one connection at a time in a thread of its own; each
-/// has a lane for every bidder of the roster. Behind each connection its worker tries the pending posts of the history once
-/// over `post`, and so does the caller behind the last.
+/// has a lane for every bidder of the roster. Behind each connection its worker tries the posts of what is new in the history
+/// over `post`, and pending ones again: all of them once, or some where they are many; the caller tries each behind the last.
 ///
 /// A connection ends alone, whatever its end, and a fault of the disk is answered by its reply. The ending is told once no
 /// connection is served any more: `OutOfMemory` where memory was refused for some of it, then `AcceptorFault`, `DiskFault`,
@@ -235,7 +235,7 @@ pub fn serve_connections<
     ensures unserved { IfErr result (IsGivenBack L.Link roster.entry.now desk acceptor lanes post) }
 {
     let count = count_of(lanes.as_slice());
-    match prepare(alloc, rt, post, count) {
+    match prepare(alloc, rt, &desk, post, count) {
         Ok(prepared) => {
             let Prepared {
                 mail,

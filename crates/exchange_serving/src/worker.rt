@@ -33,8 +33,8 @@ use turnstile::Pass;
 /// The posts of a day, under their lock.
 pub(crate) type Mails<D, L, J> = Mutex<Mailroom<D, L, Day<L, J>>>;
 
-/// How many rounds in a row a worker makes for others.
-const MOST_ROUNDS: u32 = 64;
+/// How many turns in a row a worker takes at the posts, for others too.
+const MOST_TURNS: u32 = 64;
 
 /// A worker of a day: what it shares with the others, its lanes, and its reader of the meters.
 #[derive(Drop)]
@@ -54,7 +54,7 @@ pub(crate) struct DayWorker<
     clock: &'a C,
     board: &'a Boards<'b, R, D, L, J>,
     mail: &'a Mails<D, L, J>,
-    /// A round over the posts is due.
+    /// A turn at the posts is due.
     due: &'a AtomicBool,
     lanes: Vec<Lane<L>>,
     reader: MeterReader,
@@ -118,10 +118,11 @@ impl<
     }
 
     fn rest(&mut self, rt: &R) -> bool {
-        // Nobody waits for another's round: who has the posts makes one more for those who found them taken.
+        // Nobody waits for another's turn: who has the posts takes one more for those who found them taken.
         self.due.store(true, Ordering::SeqCst);
+        let begun = self.clock.now();
         let mut wanting = false;
-        for _round in 0..MOST_ROUNDS {
+        for _turn in 0..MOST_TURNS {
             if !self.due.load(Ordering::SeqCst) {
                 break;
             }
@@ -129,8 +130,14 @@ impl<
                 break;
             };
             self.due.store(false, Ordering::SeqCst);
-            if mail.bring_up(rt, self.alloc, self.desk).is_err() {
-                wanting = true;
+            let now = self.clock.now();
+            match mail.tend(rt, self.alloc, self.desk, now) {
+                Ok(more) => {
+                    if more && now == begun {
+                        self.due.store(true, Ordering::SeqCst);
+                    }
+                }
+                Err(_) => wanting = true,
             }
         }
         wanting

@@ -9,7 +9,7 @@ use Rattle.exchange_serving.proofs.Begun.{has_own}
 use Rattle.exchange_serving.proofs.serving.serve_connections.Goals as goal
 
 pub serve_shared_desk-requires-clause-mail : goal.serve_shared_desk-requires-clause-mail
-serve_shared_desk-requires-clause-mail g c κs within = has_own g.L.Link c.args.post c.in-Ok.prepared.mail c.in-Ok.ensures.link c.in-Ok.ensures.mail
+serve_shared_desk-requires-clause-mail g c κs within = has_own g.L.Link c.args.desk.desk.history c.in-Ok-share.begun.first.seen c.args.post c.in-Ok.prepared.mail c.in-Ok-share.ensures.begun.seen c.in-Ok.ensures.link c.in-Ok.ensures.mail
 
 pub returns-in-Ok-serve_shared_desk-clause-serves : goal.returns-in-Ok-serve_shared_desk-clause-serves
 returns-in-Ok-serve_shared_desk-clause-serves g c =

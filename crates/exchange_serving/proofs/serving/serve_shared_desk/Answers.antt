@@ -2,12 +2,16 @@ use Rattle.std.proofs.Common.{sym, ap, ◌∙◌, subst}
 use Rattle.adx_links.specs.Told.{told_by}
 use Rattle.shared_desk.specs.Callers.{DeskPass}
 use Rattle.exchange_serving.specs.Unserved.{LeavesPost}
+use Rattle.exchange_serving.proofs.Begun.{tended_to}
 use Rattle.exchange_serving.proofs.Days.{begins_history, day_served, few_followed, leaves_post, left_named, posted_by}
 use Rattle.exchange_serving.proofs.Finished.{not_short}
 use Rattle.exchange_serving.proofs.serving.serve_shared_desk.Goals as goal
 
 pub open-requires-clause-named : goal.open-requires-clause-named
 open-requires-clause-named g c = c.requires.board
+
+pub open-2-requires-clause-tended : goal.open-2-requires-clause-tended
+open-2-requires-clause-tended g c = tended_to g.L.Link c.args.first g.J.DayNames.first c.args.mail_pass g.J.DayNames.link c.args.mail c.requires.first c.requires.mail_idle c.requires.link c.requires.mail
 
 pub close_desk-desk-requires-clause-first : goal.close_desk-desk-requires-clause-first
 close_desk-desk-requires-clause-first g c = let l = c.in-Some.ensures.left in (l.later.turnstile ∙ c.requires.of.0, l.later.fixed ∙ c.requires.of.1)
