@@ -139,6 +139,10 @@ report_of outcomes = record {
   undeliverable = counted is_undeliverable outcomes;
 }
 
+-- the posts that are tried where so many are, from a place on
+abbrev pub part_of : ℕ → ℕ → List Post → List Post
+part_of first most pending = take most (drop first pending)
+
 module _ {L : Type 0} (exchanges : L → Option Exchanges) (course : L → Option Course) (faults : L → ℕ) (stands_on : L → List GName) (limit : ℕ) where
   -- a call was tried over the link, and this came of it
   pub record IsTried (c : Call) (old new : L) (o : Outcome) : Type 0 where
@@ -175,10 +179,6 @@ module _ {L : Type 0} (exchanges : L → Option Exchanges) (course : L → Optio
     pub kept : new.kept ≡ old.kept
     pub given_up : new.undeliverable ≡ given_up_with old.undeliverable outcomes
     pub report : IfOk result (λ r. r ≡ report_of outcomes)
-
-  -- the posts that are tried where so many are, from a place on
-  abbrev pub part_of : ℕ → ℕ → List Post → List Post
-  part_of first most pending = take most (drop first pending)
 
   -- As a pump, but of so many of the pending posts alone, from a place on: those before it and behind it stay where they are.
   -- Example: of p, q, r, s the two from place 1 on are tried; of a 204 and a 500 p, r and s stay.
