@@ -104,7 +104,10 @@ answered c o l now p plan goes some one = record {
     fails yes_fails = one.planned.put some (ap (λ (q : Planned). q.put_fails) next ∙ yes_fails)
 
     plain : fails_of p ≡ false → unmet l ≡ failing plan
-    plain not_fails = here ∙ ap {B = ℕ} (λ (b : Bool). cond b 1 0 + failing plan) not_fails
+    plain not_fails = alone (cond (fails_of p) 1 0) (failing plan) (unmet l) here (ap {B = ℕ} (λ (b : Bool). cond b 1 0) not_fails)
+      where
+        alone : (x f u : ℕ) → u ≡ x + f → x ≡ 0 → u ≡ f
+        alone x f u is none = omega (arith, is, none)
 
     never : fails_of p ≡ false → (q : Outcome) → IsCaused (faults_of l) (faults_of now) q → q ≢ Outcome.Failed
     never not_fails q cause is = unmoved most_faults (unmet l) (unmet now) (failing plan) last_count (plain not_fails) least few most_below (cause.failed is)

@@ -1,5 +1,5 @@
 //! A link whose starts answer the replies of a list, and whose calls take no memory.
-ghost use Rattle.std.specs.Prelude.{◌≡◌, ◌≤◌, ◌<◌, [], drop, length, map, min, take, vec_len, true, IfOk, IfSome, IsErr, None, OnErr, OnOk, Option, Some};
+ghost use Rattle.std.specs.Prelude.{◌≡◌, ◌≤◌, ◌<◌, [], drop, length, map, min, take, vec_len, true, false, IfOk, IfSome, IsErr, None, OnErr, OnOk, Option, Some};
 ghost use Rattle.adx_io.specs.Streams.{Gives, HasCause, own_place, put_of};
 ghost use Rattle.adx_links.specs.Links.{Connects, FailsPut, FailsStart, FailsTake, Puts, Takes, connection_of};
 ghost use Rattle.two_books.specs.Replaying.{course_of, failing, faults_of, link_of, most_faults, planned_of, silent};

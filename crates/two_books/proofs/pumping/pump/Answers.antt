@@ -15,8 +15,8 @@ returns-in-Ok-play_all c =
     (subst (λ (ps : List Post). PlaysAll ps c.args.fates.now (Ok c.in-Ok-play_all.field-0) c.args.messages.now.items c.play_all.new.messages.items c.play_all.new.replies.items c.args.bidder.now c.play_all.new.bidder) c.pending.ensures c.in-Ok-play_all.ensures)
     c.pump_planned.ensures
 
-pub returns : goal.returns
-returns c =
+pub returns-in-Err-play_all : goal.returns-in-Err-play_all
+returns-in-Err-play_all c =
     stops_playing c.args.fates.now c.args.exchange.now c.follow.new.self c.args.messages.now.items c.play_all.new.messages.items c.play_all.new.replies.items
     c.args.bidder.now c.play_all.new.bidder c.in-Ok.field-0 c.in-Err-play_all.wanting c.in-Ok.ensures
     (subst (λ (ps : List Post). PlaysAll ps c.args.fates.now (Err c.in-Err-play_all.wanting) c.args.messages.now.items c.play_all.new.messages.items c.play_all.new.replies.items c.args.bidder.now c.play_all.new.bidder) c.pending.ensures c.in-Err-play_all.ensures)
