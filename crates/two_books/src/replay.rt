@@ -80,8 +80,8 @@ impl Answering {
         self.fails
     }
 
-    /// The put that fails has failed.
-    fn failed(&mut self)
+    /// A put has come: none fails from now on.
+    fn meet(&mut self)
         ensures { self.new ≡ record self.old { put_fails = false } }
     {
         self.fails = false;
@@ -172,11 +172,9 @@ impl Link for ReplayLink {
         ensures cause { HasCause (faults_of self.old) (faults_of self.new) result }
         ensures same { own_place ≡ own_place }
     {
-        if self.now.fails() {
-            self.now.failed();
-            return Err(Failed);
-        }
-        Ok(piece.len())
+        let fails = self.now.fails();
+        self.now.meet();
+        if fails { Err(Failed) } else { Ok(piece.len()) }
     }
 
     fn take(&mut self, out: &mut [u8]) -> Result<usize, Failed>
