@@ -18,6 +18,7 @@ use Rattle.adx_io.specs.declared.sink.Sink as sinks
 use Rattle.adx_io.specs.declared.source.Source as sources
 use Rattle.adx_links.specs.declared.link.Link as links
 use Rattle.deal_floor.specs.declared.roster.Roster.{Roster}
+use Rattle.exchange_serving.specs.Lanes.{lists_of}
 use Rattle.exchange_serving.specs.Served.{ServesDay}
 use Rattle.exchange_serving.specs.Unserved.{IsGivenBack as GivesDayBack}
 use Rattle.exchange_serving.specs.declared.ending.Ending.{Ending}
@@ -113,6 +114,13 @@ cause_passed before now (DeskFault.NotAJournal at) other cause = cause
 cause_passed before now (DeskFault.BadLength at) other cause = cause
 cause_passed before now DeskFault.OutOfMemory other cause = cause
 
+-- ---- workers
+
+pub all_lists : {A D L : Type 0} (lanes : List (Vec (Lane L) Global)) (served : Result (Left A D L) (Unserved A D L)) → IfOk served (λ left. left.ending ≢ Ending.OutOfMemory → left.workers ≡ length lanes)
+    → IfOk served (λ left. left.ending ≢ Ending.OutOfMemory → left.workers ≡ length (lists_of lanes))
+all_lists lanes (Ok left) as_many = λ other. as_many other ∙ sym (length-map lanes (λ (v : Vec (Lane L) Global). v.items))
+all_lists lanes (Err left) as_many = as_many
+
 -- ---- the day of a roster
 
 module _ {A I O D L : Type 0} (a : acceptors.Ghosts A I O) (s : sources.Ghosts I) (k : sinks.Ghosts O) (d : disks.Ghosts D) (l : links.Ghosts L) (IsMoment : ℕ → Type 0)
@@ -121,24 +129,26 @@ module _ {A I O D L : Type 0} (a : acceptors.Ghosts A I O) (s : sources.Ghosts I
   pub opened_ends : (opened : OnDisk D) (lanes : Vec (Vec (Lane L) Global) Global) (served : Result (Left A D L) (Unserved A D L)) → KeepsHistory d roster opened.desk.history disk opened.disk
       → opened.since ≡ record { count = d.faults opened.disk; tells = is_some (d.reads disk) } → d.faults opened.disk ≡ d.faults disk
       → IfOk served (λ left. ServesDay d l IsMoment roster workers opened left.disk (told_by a s k acceptor) (told_by a s k left.acceptor) post left.post left.ending)
+      → IfOk served (λ left. left.ending ≢ Ending.OutOfMemory → left.workers ≡ length workers)
       → IfErr served (λ left. GivesDayBack l roster opened acceptor lanes post left)
       → GivesServed served back → EndsOpening a s k d l IsMoment acceptor disk post back roster workers
-  opened_ends opened lanes (Ok left) opens since same serves left_over gives = inl (record {
+  opened_ends opened lanes (Ok left) opens since same serves as_many left_over (gives, counted) = inl (record {
     opened = opened;
     opens = opens;
     since = subst (λ (n : ℕ). opened.since ≡ record { count = n; tells = is_some (d.reads disk) }) same since;
     left = left;
     serves = serves;
+    as_many = λ other. counted ∙ as_many other;
     gives = gives;
   })
-  opened_ends opened lanes (Err (Unserved.Unbegun desk acceptor_now lanes_now post_now)) opens since same serves (desk_is, acceptor_is, lanes_are, post_is) gives =
+  opened_ends opened lanes (Err (Unserved.Unbegun desk acceptor_now lanes_now post_now)) opens since same serves as_many (desk_is, acceptor_is, lanes_are, post_is) gives =
       inr (inr (all_left desk (subst (λ (o : OnDisk D). KeepsHistory d roster o.desk.history disk o.disk) (sym desk_is) opens)
       (subst (λ (x : A). GivesBack 12 (Some x) (Some desk.disk) post None back) acceptor_is
       (subst (λ (p : L). GivesBack 12 (Some acceptor_now) (Some desk.disk) p None back) post_is gives))))
-  opened_ends opened lanes (Err (Unserved.Unshared acceptor_now lanes_now post_now)) opens since same serves (acceptor_is, lanes_are, post_is) gives =
+  opened_ends opened lanes (Err (Unserved.Unshared acceptor_now lanes_now post_now)) opens since same serves as_many (acceptor_is, lanes_are, post_is) gives =
       inr (inr (no_disk_left (subst (λ (x : A). GivesBack 12 (Some x) None post None back) acceptor_is
       (subst (λ (p : L). GivesBack 12 (Some acceptor_now) None p None back) post_is gives))))
-  opened_ends opened lanes (Err (Unserved.Lost post_now)) opens since same serves tried gives = inr (inr (post_left post_now tried gives))
+  opened_ends opened lanes (Err (Unserved.Lost post_now)) opens since same serves as_many tried gives = inr (inr (post_left opened opens post_now tried gives))
 
   -- it wasn't
   pub unopened_ends : (why : DeskFault) (now : D) → DeskGivesUp d (desk_terms roster) disk now why → HasDiskCause (d.faults disk) (d.faults now) why
@@ -197,12 +207,12 @@ module _ {A I O D L : Type 0} (a : acceptors.Ghosts A I O) (s : sources.Ghosts I
   lost_causes : (roster : Roster) → LosesDay a s k d l IsMoment given.acceptor given.disk given.post back roster → HasCauses a d given back
   lost_causes roster (all_left opened keeps g) = lost_with (Some given.acceptor) (Some opened.disk) given.post g
   lost_causes roster (no_disk_left g) = lost_with (Some given.acceptor) None given.post g
-  lost_causes roster (post_left post_now tried g) = lost_with None None post_now g
+  lost_causes roster (post_left opened opens post_now tried g) = lost_with None None post_now g
 
   lost_status : (roster : Roster) → LosesDay a s k d l IsMoment given.acceptor given.disk given.post back roster → back.status ≡ 12
   lost_status roster (all_left opened keeps g) = g.status_is
   lost_status roster (no_disk_left g) = g.status_is
-  lost_status roster (post_left post_now tried g) = g.status_is
+  lost_status roster (post_left opened opens post_now tried g) = g.status_is
 
   pub serving_causes : (document : List ℕ) (workers : ℕ) → RunsServing a s k d l IsMoment given back document workers → HasCauses a d given back
   serving_causes document workers (serving fits r) = by_end r.ends

@@ -1,5 +1,5 @@
 -- How serving connections as an exchange ended, over the objects that were given. This project's own.
-use Rattle.std.specs.Prelude.{◌≡◌, ◌⊎◌, ℕ, List, length, All, Option, Some, None, is_some, Result, Ok, Err}
+use Rattle.std.specs.Prelude.{◌≡◌, ◌≢◌, ◌⊎◌, ℕ, List, length, All, Option, Some, None, is_some, Result, Ok, Err}
 use Rattle.adx_links.specs.Told.{told_by}
 use Rattle.adx_links.specs.declared.acceptor.Acceptor as acceptors
 use Rattle.adx_desk.specs.Calls.{DeskGivesUp}
@@ -69,7 +69,8 @@ pub record GivesBack {A D L : Type 0} (status : ℕ) (acceptor : Option A) (disk
 
 -- What is given back of a run that served, and of one that no desk was left for. Private clauses alone cite this.
 abbrev pub GivesServed : {A D L : Type 0} → Result (Left A D L) (Unserved A D L) → Served A D L → Type 0
-GivesServed (Ok left) back = GivesBack (status_by left.ending) (Some left.acceptor) (Some left.disk) left.post None back
+GivesServed (Ok left) back =
+    GivesBack (status_by left.ending) (Some left.acceptor) (Some left.disk) left.post None back × (back.workers ≡ left.workers)
 GivesServed (Err (Unserved.Unbegun desk acceptor lanes post)) back = GivesBack 12 (Some acceptor) (Some desk.disk) post None back
 GivesServed (Err (Unserved.Unshared acceptor lanes post)) back = GivesBack 12 (Some acceptor) None post None back
 GivesServed (Err (Unserved.Lost post)) back = GivesBack 12 None None post None back
@@ -84,16 +85,19 @@ module _ {A I O D L : Type 0} (a : acceptors.Ghosts A I O) (s : sources.Ghosts I
     pub since : opened.since ≡ record { count = d.faults disk; tells = is_some (d.reads disk) }
     pub left : Left A D L
     pub serves : ServesDay d l IsMoment roster workers opened left.disk (told_by a s k acceptor) (told_by a s k left.acceptor) post left.post left.ending
+    -- as many workers shared the connections as there are lists of lanes, unless memory was refused for them
+    pub as_many : left.ending ≢ Ending.OutOfMemory → back.workers ≡ length workers
     pub gives : GivesBack (status_by left.ending) (Some left.acceptor) (Some left.disk) left.post None back
 
   -- The day was opened so, and memory was refused before a worker began: all is given back, the disk as the opening left
-  -- it; or all but the disk. Or it was refused for the workers: the post link alone is given back, over which posts of some
-  -- history of the day were tried.
+  -- it; or all but the disk. Or it was refused for the workers: the post link alone is given back, over which posts of a
+  -- history that begins with the opened one were tried.
   pub data LosesDay : Type 0 where
     all_left : (opened : OnDisk D) → KeepsHistory d roster opened.desk.history disk opened.disk
         → GivesBack 12 (Some acceptor) (Some opened.disk) post None back → LosesDay
     no_disk_left : GivesBack 12 (Some acceptor) None post None back → LosesDay
-    post_left : (post_now : L) → LeavesPost l roster post post_now → GivesBack 12 None None post_now None back → LosesDay
+    post_left : (opened : OnDisk D) → KeepsHistory d roster opened.desk.history disk opened.disk
+        → (post_now : L) → LeavesPost l roster opened.desk.history post post_now → GivesBack 12 None None post_now None back → LosesDay
 
   -- The day wasn't opened for a cause; acceptor and post link are as they were.
   pub record OpensNot : Type 0 where

@@ -33,6 +33,7 @@ pub(crate) fn give_back<A: Drop, D: Drop, L: Drop>(
         acceptor: Some(objects.acceptor),
         disk: Some(objects.disk),
         post: Some(objects.post),
+        workers: 0,
         why,
     }
 }

@@ -37,6 +37,7 @@ pub(crate) fn run_post<A: Acceptor + Drop, D: Disk + Drop, L: Link + Drop>(
         acceptor: Some(objects.acceptor),
         disk: Some(disk),
         post: Some(post),
+        workers: 0,
         why: post_not_begun(end),
     }
 }
@@ -62,6 +63,7 @@ pub(crate) fn run_bid<R: Wait, A: Acceptor + Drop, D: Disk + Drop, L: Drop>(
         acceptor: Some(acceptor),
         disk: Some(objects.disk),
         post: Some(objects.post),
+        workers: 0,
         why: bid_not_begun(end),
     }
 }

@@ -12,6 +12,8 @@ pub struct Served<A, D, L> {
     pub disk: Option<D>,
     /// The link that notices are sent over.
     pub post: Option<L>,
+    /// How many workers shared the connections; none of `post` and `bid`, which have no workers.
+    pub workers: usize,
     /// Why it didn't begin, where the status alone doesn't say it.
     pub why: Option<NotBegun>,
 }

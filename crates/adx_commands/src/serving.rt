@@ -74,6 +74,7 @@ fn unserved_by<A: Drop, D: Disk + Drop, L: Drop>(unserved: Unserved<A, D, L>) ->
             acceptor: Some(acceptor),
             disk: Some(desk.close()),
             post: Some(post),
+            workers: 0,
             why: None,
         },
         Unserved::Unshared {
@@ -85,6 +86,7 @@ fn unserved_by<A: Drop, D: Disk + Drop, L: Drop>(unserved: Unserved<A, D, L>) ->
             acceptor: Some(acceptor),
             disk: None,
             post: Some(post),
+            workers: 0,
             why: None,
         },
         Unserved::Lost { post } => Served {
@@ -92,6 +94,7 @@ fn unserved_by<A: Drop, D: Disk + Drop, L: Drop>(unserved: Unserved<A, D, L>) ->
             acceptor: None,
             disk: None,
             post: Some(post),
+            workers: 0,
             why: None,
         },
     }
@@ -109,6 +112,7 @@ fn served_by<A: Drop, D: Disk + Drop, L: Drop>(
             acceptor: Some(served.acceptor),
             disk: Some(served.disk),
             post: Some(served.post),
+            workers: served.workers,
             why: None,
         },
         Err(unserved) => unserved_by(unserved),
@@ -149,6 +153,7 @@ fn serve_day<
                 acceptor: Some(acceptor),
                 disk: Some(disk),
                 post: Some(post),
+                workers: 0,
                 why: Some(NotBegun::Journal { fault }),
             }
         }
@@ -186,6 +191,7 @@ fn serve_roster<
         acceptor: Some(acceptor),
         disk: Some(disk),
         post: Some(post),
+        workers: 0,
         why: None,
     }
 }
