@@ -18,7 +18,7 @@ use std::thread::Threads;
 /// The name of a journal where there is none.
 const NO_JOURNAL: &str = "no journal";
 
-/// Serves the bidder of a price line's document over an acceptor that tells no pairs.
+/// Serves the bidder of a price line's document over an acceptor that reports no pairs.
 fn bid_over<'a, 'b, W: Threads + Wait + Sync>(
     rt: &'a HostRuntime,
     waits: &W,
@@ -54,7 +54,7 @@ fn bid_at<'a, W: Threads + Wait + Sync>(
     let listening = Listening::new(rt.alloc(), None, 1);
     let calls = Calls::new(reports);
     let acceptor = WatchedAcceptor::new(port, &listening, reports, None);
-    let post = WatchedLink::new(&calls, Purpose::Tells);
+    let post = WatchedLink::new(&calls, Purpose::Notifies);
     let status = bid_over(rt, waits, words, document, acceptor, post);
     say_network(reports, rt, words, NO_JOURNAL, &Heard::new(), status);
     status

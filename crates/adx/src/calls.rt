@@ -53,7 +53,7 @@ impl Outcome {
         }
     }
 
-    /// Whether it is the number of an outcome that only reading an answer tells.
+    /// Whether it is the number of an outcome that is known only once an answer was read.
     pub(crate) fn is_of_a_body(code: u64) -> bool {
         code == Outcome::NoHttp.code()
             || code == Outcome::NoJson.code()

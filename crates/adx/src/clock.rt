@@ -7,7 +7,7 @@ use std::time::{SystemTime, UNIX_EPOCH};
 /// The greatest moment that a clock may give.
 const LAST: u64 = (1 << 63) - 1;
 
-/// The system's clock, in seconds since the beginning of 1970. It tells no moment, since no contract can know one. Where the
+/// The system's clock, in seconds since the beginning of 1970. It reports no moment, since no contract can know one. Where the
 /// system has none it gives 0.
 #[derive(Clone, Copy)]
 pub(crate) struct SystemClock<'a> {

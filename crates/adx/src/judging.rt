@@ -17,7 +17,7 @@ pub(crate) struct Sample {
     heard: Vec<u8>,
 }
 
-/// Where the body begins, behind the empty line that ends a head.
+/// Where the body begins, after the empty line that ends a head.
 fn body_at(bytes: &[u8]) -> Option<usize> {
     for at in 4..=bytes.len() {
         if bytes[..at].ends_with(b"\r\n\r\n") {

@@ -3,10 +3,9 @@
 //! The call `adx` of the crate `adx_commands` does what the program does between its standard streams, from the words of its
 //! command line and the bytes of a source to those of a sink, and `adx_serve` of `adx_commands` what it does over the
 //! network; their contracts are the program's. This crate opens what the words name: the file of a journal, of a roster or of
-//! a price line, a port, or by `sql_archive` the file of an archive of closed days; over `bounded_network`, so that no peer keeps
-//! it waiting. It says on standard error what failed. Stands on these, `command_words`, `command_runs`, `command_bidder`,
-//! `command_notices`, `adx_desk`, `fan_out`, `adx_http`, `rtb_response`, `adx_json`, `deal_floor`, `script_lines`, `adx_links`,
-//! `day_archive`, `noted_streams`, `adx_io` and `adx_units`.
+//! a price line, a port over `bounded_network`, so that no peer keeps it waiting, or by `sql_archive` the file of an archive of
+//! closed days. It says on standard error what failed; for that it reads a sample of the bidders' answers by `adx_http`,
+//! `adx_json` and `rtb_response`.
 #![tactic(auto)]
 
 mod archive;

@@ -101,7 +101,7 @@ fn post_on_file<'a, W: Threads + Wait + Sync>(
     calls.keep_outside(roster);
     let heard = Heard::new();
     let disk = FileDisk::new(Noting::new(file, &heard.file));
-    let post = WatchedLink::new(&calls, Purpose::TellsPatiently);
+    let post = WatchedLink::new(&calls, Purpose::NotifiesPatiently);
     let Served {
         status,
         acceptor: _,

@@ -21,7 +21,7 @@ use std::marker::Sync;
 use std::sync::Wait;
 use std::thread::Threads;
 
-/// What stands for the name of a journal that has no file.
+/// What is said in place of the name of a journal that has no file.
 const NO_FILE: &str = "the journal in memory";
 
 /// Runs the command between the standard streams, with its journal in memory and over this keeper of closed days.

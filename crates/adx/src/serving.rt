@@ -102,7 +102,7 @@ fn say_totals(reports: &Reports<'_>, connections: (u64, u64), notices: (u64, u64
     );
 }
 
-/// Serves connections on the day on a disk, by a roster's document, over an acceptor that tells no pairs, and says at the end how
+/// Serves connections on the day on a disk, by a roster's document, over an acceptor that reports no pairs, and says at the end how
 /// much came to be done.
 fn serve_over<'a, 'b, W: Threads + Wait + Sync, D: Disk + Drop + Send>(
     reports: &'a Reports<'a>,
@@ -193,7 +193,7 @@ fn serve_on_file<'a, W: Threads + Wait + Sync>(
     let heard = Heard::new();
     let acceptor = WatchedAcceptor::new(asked.port, &listening, reports, Some(serves));
     let disk = FileDisk::new(WatchedFile::new(file, &heard.file, asked.journal, reports));
-    let post = WatchedLink::new(&notices, Purpose::Tells);
+    let post = WatchedLink::new(&notices, Purpose::Notifies);
     let (status, disk) = serve_over(reports, waits, words, document, acceptor, disk, links, post);
     say_end(reports, words, roster, asked.journal, &heard, status, disk);
     status

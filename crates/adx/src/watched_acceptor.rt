@@ -96,7 +96,7 @@ pub(crate) struct Serves<'a> {
 }
 
 /// A listener of std's sockets as an acceptor that counts connections, and says of those that ended by a fault. It listens from
-/// its first call on, and says where. It tells no pairs. No more connections come once its file is there.
+/// its first call on, and says where. It reports no pairs. No more connections come once its file is there.
 #[derive(Drop)]
 pub(crate) struct WatchedAcceptor<'a, 'b> {
     inner: TcpAcceptor<BoundedAccepts<'b, &'a HostRuntime>>,

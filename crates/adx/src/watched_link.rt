@@ -37,10 +37,10 @@ const WHILE: u64 = 1_000;
 pub(crate) enum Purpose<'a> {
     /// This bidder is asked: an answer is an answer, whatever its status.
     Asks(&'a Bidder<'a>),
-    /// Notices are told: an answer with a status outside 200 to 299 doesn't take one.
-    Tells,
+    /// Notices are sent: an answer with a status outside 200 to 299 doesn't take one.
+    Notifies,
     /// So they are, and a host that isn't called yet is waited for.
-    TellsPatiently,
+    NotifiesPatiently,
 }
 
 /// A host of notices, and what came of the last one that it didn't take.
@@ -101,7 +101,7 @@ pub(crate) struct WatchedLink<'a> {
     inner: TcpLink<BoundedCalls<'a, HostRuntime>>,
     calls_of: &'a Calls<'a>,
     purpose: Purpose<'a>,
-    /// The host of the notice that is told, as long as its end isn't known.
+    /// The host of the notice that is sent, as long as its end isn't known.
     host: Option<(Text, u16)>,
     /// When the call began, and when a piece of its answer came last.
     begun: u64,
@@ -154,7 +154,7 @@ impl<'a> WatchedLink<'a> {
 
     /// Says what came of a host's notices. What a patient link saw is said at its end.
     fn say(&self, host: &str, port: u16, outcome: Outcome) {
-        if matches!(self.purpose, Purpose::TellsPatiently) {
+        if matches!(self.purpose, Purpose::NotifiesPatiently) {
             return;
         }
         if outcome == Outcome::Well {
@@ -193,7 +193,7 @@ impl<'a> WatchedLink<'a> {
         false
     }
 
-    /// The notice that is told isn't taken; `fails` says that its host counts as one that fails.
+    /// The notice that is sent isn't taken; `fails` says that its host counts as one that fails.
     fn refuse(&mut self, outcome: Outcome, fails: bool)
         ensures { self.new.inner ≡ self.old.inner }
     {
@@ -224,7 +224,7 @@ impl<'a> WatchedLink<'a> {
         self.failed = self.failed.saturating_add(1);
         match self.purpose {
             Purpose::Asks(bidder) => bidder.fail(self.calls_of, outcome, self.now()),
-            Purpose::Tells | Purpose::TellsPatiently => self.refuse(outcome, true),
+            Purpose::Notifies | Purpose::NotifiesPatiently => self.refuse(outcome, true),
         }
     }
 
@@ -284,7 +284,7 @@ impl<'a> WatchedLink<'a> {
         ensures { self.new.inner ≡ self.old.inner }
     {
         let wait = self.calls_of.hosts.wait(host, port, self.begun);
-        if wait == 0 || wait > PATIENCE || !matches!(self.purpose, Purpose::TellsPatiently) {
+        if wait == 0 || wait > PATIENCE || !matches!(self.purpose, Purpose::NotifiesPatiently) {
             return wait;
         }
         thread::sleep(self.calls_of.reports.rt(), Duration::from_millis(wait));
@@ -330,7 +330,7 @@ impl<'a> WatchedLink<'a> {
     fn lets(&mut self, host: &str, port: u16) -> bool
         ensures { self.new.inner ≡ self.old.inner }
     {
-        if matches!(self.purpose, Purpose::TellsPatiently) {
+        if matches!(self.purpose, Purpose::NotifiesPatiently) {
             return true;
         }
         for noted in self.noted.iter_mut() {
@@ -438,11 +438,11 @@ impl<'a> WatchedLink<'a> {
         }
         match self.purpose {
             Purpose::Asks(bidder) => self.read_whole(bidder, bytes),
-            Purpose::Tells | Purpose::TellsPatiently => self.came = self.now(),
+            Purpose::Notifies | Purpose::NotifiesPatiently => self.came = self.now(),
         }
     }
 
-    /// How many notices were tried, and how many of them weren't taken, once no more are told.
+    /// How many notices were tried, and how many of them weren't taken, once no more are sent.
     pub(crate) fn totals(&mut self) -> (u64, u64) {
         self.end();
         (self.calls, self.failed)
