@@ -2,12 +2,12 @@
 
 use crate::calls::Calls;
 use crate::clock::SystemClock;
-use crate::documents::{prices_in, status_of_error};
-use crate::messages::{Heard, say_network, say_not_bound};
+use crate::documents::{read_document, status_of_error};
+use crate::messages::{Files, Heard, say_network, say_not_bound};
 use crate::reports::Reports;
 use crate::watched_acceptor::{WatchedAcceptor, listener_at};
 use crate::watched_link::{Purpose, WatchedLink};
-use adx_commands::adx_serve;
+use adx_commands::{NotBegun, adx_serve};
 use adx_units::Text;
 use bounded_network::Listening;
 use day_journal::ByteDisk;
@@ -26,7 +26,7 @@ fn bid_over<'a, 'b, W: Threads + Wait + Sync>(
     document: &[u8],
     acceptor: WatchedAcceptor<'a, 'b>,
     post: WatchedLink<'b>,
-) -> u8 {
+) -> (u8, Option<NotBegun>) {
     let links: Vec<Vec<WatchedLink<'b>>> = Vec::new(rt.alloc());
     let served = adx_serve(
         waits,
@@ -39,14 +39,15 @@ fn bid_over<'a, 'b, W: Threads + Wait + Sync>(
         post,
         &SystemClock::new(rt),
     );
-    served.status
+    (served.status, served.why)
 }
 
-/// Serves the bidder of a price line's document at a port.
+/// Serves the bidder of the price line's document that is in a file, at a port.
 fn bid_at<'a, W: Threads + Wait + Sync>(
     reports: &'a Reports<'a>,
     waits: &W,
     words: &[Text],
+    prices: &str,
     document: &[u8],
     port: u16,
 ) -> u8 {
@@ -55,8 +56,13 @@ fn bid_at<'a, W: Threads + Wait + Sync>(
     let calls = Calls::new(reports);
     let acceptor = WatchedAcceptor::new(port, &listening, reports, None);
     let post = WatchedLink::new(&calls, Purpose::Notifies);
-    let status = bid_over(rt, waits, words, document, acceptor, post);
-    say_network(reports, rt, words, NO_JOURNAL, &Heard::new(), status);
+    let (status, why) = bid_over(rt, waits, words, document, acceptor, post);
+    let files = Files {
+        document: prices,
+        first: "a price line",
+        journal: NO_JOURNAL,
+    };
+    say_network(reports, rt, words, files, &Heard::new(), status, why);
     status
 }
 
@@ -68,7 +74,7 @@ pub(crate) fn run_bid<W: Threads + Wait + Sync>(
     prices: &str,
     port: u16,
 ) -> u8 {
-    let document = match prices_in(rt, prices) {
+    let document = match read_document(rt, prices) {
         Ok(document) => document,
         Err(status) => return status,
     };
@@ -81,5 +87,5 @@ pub(crate) fn run_bid<W: Threads + Wait + Sync>(
         }
     }
     let reports = Reports::without_waiting(rt);
-    bid_at(&reports, waits, words, document.as_slice(), port)
+    bid_at(&reports, waits, words, prices, document.as_slice(), port)
 }

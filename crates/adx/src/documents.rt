@@ -2,7 +2,6 @@
 
 use crate::messages::{say_memory, say_not_opened, say_refused};
 use adx_commands::{OUT_OF_MEMORY, READ_FAULT, REFUSED};
-use command_bidder::{PricesFault, first_prices};
 use command_notices::first_roster;
 use command_runs::LINE_LIMIT;
 use deal_floor::Roster;
@@ -29,7 +28,7 @@ pub(crate) fn status_of_error(error: &io::Error) -> u8 {
 }
 
 /// The document in a file; the status where it can't be read, which is said.
-fn read_document(rt: &HostRuntime, path: &str) -> Result<Vec<u8>, u8> {
+pub(crate) fn read_document(rt: &HostRuntime, path: &str) -> Result<Vec<u8>, u8> {
     match document_of(rt, path) {
         Ok(document) => Ok(document),
         Err(error) => {
@@ -49,22 +48,6 @@ pub(crate) fn roster_in(rt: &HostRuntime, path: &str) -> Result<(Vec<u8>, Roster
             Err(REFUSED)
         }
         Err(RosterLineFault::OutOfMemory) => {
-            say_memory(rt);
-            Err(OUT_OF_MEMORY)
-        }
-    }
-}
-
-/// The document in a file whose first line is a price line; the status where it is none, which is said.
-pub(crate) fn prices_in(rt: &HostRuntime, path: &str) -> Result<Vec<u8>, u8> {
-    let document = read_document(rt, path)?;
-    match first_prices(rt.alloc(), document.as_slice()) {
-        Ok(_bidder) => Ok(document),
-        Err(PricesFault::Refused { why }) => {
-            say_refused(rt, path, "a price line", why);
-            Err(REFUSED)
-        }
-        Err(PricesFault::OutOfMemory) => {
             say_memory(rt);
             Err(OUT_OF_MEMORY)
         }

@@ -24,7 +24,6 @@ mod reports;
 mod run;
 mod serving;
 mod streams;
-mod unopened;
 mod watched_acceptor;
 mod watched_link;
 

@@ -1,7 +1,7 @@
 //! What a run that failed says on standard error: one line.
 use adx_commands::{
-    DISK_FAULT, DONE, KEEPER_FAULT, NO_COMMAND, NO_HISTORY, NOT_ACCEPTED, NOT_KEPT, OUT_OF_MEMORY,
-    PENDING, READ_FAULT, REFUSED, WRITE_FAULT,
+    DISK_FAULT, DONE, KEEPER_FAULT, NO_COMMAND, NO_HISTORY, NOT_ACCEPTED, NOT_KEPT, NotBegun,
+    OUT_OF_MEMORY, PENDING, READ_FAULT, REFUSED, WRITE_FAULT,
 };
 use adx_units::Text;
 use command_words::complaint_of;
@@ -75,28 +75,41 @@ pub(crate) fn say_not_bound<T: Display + Drop>(rt: &HostRuntime, port: u16, faul
     let _ = eprintln!(rt; "adx: port {port}: {fault}");
 }
 
-/// Says why a run over the network ended with a status other than 0, where that wasn't said before. Its journal is in the file
-/// with this path.
+/// The files of a run over the network.
+#[derive(Clone, Copy)]
+pub(crate) struct Files<'a> {
+    /// Its document.
+    pub(crate) document: &'a str,
+    /// What the document's first line is to be.
+    pub(crate) first: &'a str,
+    /// Its journal.
+    pub(crate) journal: &'a str,
+}
+
+/// Says why a run over the network ended with a status other than 0; `why` is why it didn't begin, where the status alone doesn't
+/// say that.
 pub(crate) fn say_network<E: Eprint>(
     lines: &E,
     rt: &HostRuntime,
     words: &[Text],
-    journal: &str,
+    files: Files<'_>,
     heard: &Heard,
     status: u8,
+    why: Option<NotBegun>,
 ) {
+    let journal = files.journal;
     let written = match status {
         DONE => Ok(()),
         NO_COMMAND => {
             say_of_words(rt, words);
             Ok(())
         }
-        REFUSED => eprintln!(lines; "adx: the first line isn't of its form, or is too long"),
+        REFUSED | NO_HISTORY => {
+            say_not_begun(lines, rt, files, why);
+            Ok(())
+        }
         READ_FAULT => eprintln!(lines; "adx: no connection can be taken"),
         DISK_FAULT => eprintln!(lines; "adx: {journal}: {}", Reason(&heard.file)),
-        NO_HISTORY => {
-            eprintln!(lines; "adx: {journal}: holds another roster's day, or isn't a journal")
-        }
         PENDING => {
             eprintln!(lines;
                 "adx: notices are pending: their hosts weren't reached, or answered with a status outside 200 to 299"
@@ -106,6 +119,20 @@ pub(crate) fn say_network<E: Eprint>(
         _ => Ok(()),
     };
     let _ = written;
+}
+
+/// Says why a run over the network didn't begin.
+fn say_not_begun<E: Eprint>(lines: &E, rt: &HostRuntime, files: Files<'_>, why: Option<NotBegun>) {
+    let (document, journal) = (files.document, files.journal);
+    let _ = match why {
+        Some(NotBegun::Line { why }) => {
+            say_refused(rt, document, files.first, why);
+            Ok(())
+        }
+        Some(NotBegun::Journal { fault }) => eprintln!(lines; "adx: {journal}: {fault}"),
+        // The lists of links don't fit: the status is REFUSED, and nothing else is known.
+        None => eprintln!(lines; "adx: {document}: doesn't fit the number of workers"),
+    };
 }
 
 /// Says why a run ended with a status other than 0. The journal or the archive is in the file with this path, or the journal

@@ -5,12 +5,11 @@ use crate::calls::Calls;
 use crate::clock::SystemClock;
 use crate::documents::roster_in;
 use crate::journal_file::open_journal;
-use crate::messages::{Heard, say_memory, say_network, say_not_opened};
+use crate::messages::{Files, Heard, say_memory, say_network, say_not_opened};
 use crate::reports::Reports;
 use crate::run::status_of_fault;
-use crate::unopened::say_unopened;
 use crate::watched_link::{Noted, Purpose, WatchedLink};
-use adx_commands::{NO_HISTORY, OUT_OF_MEMORY, PENDING, Served, adx_serve};
+use adx_commands::{OUT_OF_MEMORY, PENDING, Served, adx_serve};
 use adx_links::MemoryAcceptor;
 use adx_units::Text;
 use day_journal::{Disk, FileDisk};
@@ -89,7 +88,7 @@ fn post_on_file<'a, W: Threads + Wait + Sync>(
     words: &[Text],
     document: &[u8],
     roster: &Roster,
-    journal: &str,
+    files: Files<'_>,
     file: File,
 ) -> u8 {
     let rt = reports.rt();
@@ -105,13 +104,13 @@ fn post_on_file<'a, W: Threads + Wait + Sync>(
     let Served {
         status,
         acceptor: _,
-        disk,
+        disk: _,
         post,
+        why,
     } = post_over(rt, waits, words, document, acceptor, disk, post);
     match (status, post) {
         (PENDING, Some(mut post)) => say_pending(reports, &mut post),
-        (NO_HISTORY, _) => say_unopened(reports, journal, roster, disk),
-        _ => say_network(reports, rt, words, journal, &heard, status),
+        _ => say_network(reports, rt, words, files, &heard, status, why),
     }
     status
 }
@@ -124,6 +123,11 @@ pub(crate) fn run_post<W: Threads + Wait + Sync>(
     roster: &str,
     journal: &str,
 ) -> u8 {
+    let files = Files {
+        document: roster,
+        first: "a roster",
+        journal,
+    };
     let (document, roster) = match roster_in(rt, roster) {
         Ok(found) => found,
         Err(status) => return status,
@@ -137,7 +141,7 @@ pub(crate) fn run_post<W: Threads + Wait + Sync>(
                 words,
                 document.as_slice(),
                 &roster,
-                journal,
+                files,
                 file,
             )
         }

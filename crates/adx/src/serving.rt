@@ -7,13 +7,12 @@ use crate::documents::{roster_in, status_of_error};
 use crate::journal_file::open_journal;
 use crate::journal_watch::WatchedFile;
 use crate::limits::descriptors;
-use crate::messages::{Heard, say_memory, say_network, say_not_bound, say_not_opened};
+use crate::messages::{Files, Heard, say_memory, say_network, say_not_bound, say_not_opened};
 use crate::reports::Reports;
 use crate::run::status_of_fault;
-use crate::unopened::say_unopened;
 use crate::watched_acceptor::{Serves, WatchedAcceptor, listener_at};
 use crate::watched_link::{Purpose, WatchedLink};
-use adx_commands::{NO_HISTORY, OUT_OF_MEMORY, Served, adx_serve};
+use adx_commands::{NotBegun, OUT_OF_MEMORY, Served, adx_serve};
 use adx_units::{OutOfMemory, Text};
 use bounded_network::Listening;
 use day_journal::{Disk, FileDisk};
@@ -113,13 +112,14 @@ fn serve_over<'a, 'b, W: Threads + Wait + Sync, D: Disk + Drop + Send>(
     disk: D,
     links: WatchedLinks<'b>,
     post: WatchedLink<'b>,
-) -> (u8, Option<D>) {
+) -> (u8, Option<NotBegun>) {
     let rt = reports.rt();
     let Served {
         status,
         acceptor,
-        disk,
+        disk: _,
         post,
+        why,
     } = adx_serve(
         waits,
         rt.alloc(),
@@ -137,24 +137,7 @@ fn serve_over<'a, 'b, W: Threads + Wait + Sync, D: Disk + Drop + Send>(
             say_totals(reports, connections, post.totals());
         }
     }
-    (status, disk)
-}
-
-/// Says how a run ended.
-fn say_end<D: Disk + Drop>(
-    reports: &Reports<'_>,
-    words: &[Text],
-    roster: &Roster,
-    journal: &str,
-    heard: &Heard,
-    status: u8,
-    disk: Option<D>,
-) {
-    if status == NO_HISTORY {
-        say_unopened(reports, journal, roster, disk);
-    } else {
-        say_network(reports, reports.rt(), words, journal, heard, status);
-    }
+    (status, why)
 }
 
 /// Serves connections on the day in the file of a journal, over links to these bidders.
@@ -194,8 +177,13 @@ fn serve_on_file<'a, W: Threads + Wait + Sync>(
     let acceptor = WatchedAcceptor::new(asked.port, &listening, reports, Some(serves));
     let disk = FileDisk::new(WatchedFile::new(file, &heard.file, asked.journal, reports));
     let post = WatchedLink::new(&notices, Purpose::Notifies);
-    let (status, disk) = serve_over(reports, waits, words, document, acceptor, disk, links, post);
-    say_end(reports, words, roster, asked.journal, &heard, status, disk);
+    let (status, why) = serve_over(reports, waits, words, document, acceptor, disk, links, post);
+    let files = Files {
+        document: asked.roster,
+        first: "a roster",
+        journal: asked.journal,
+    };
+    say_network(reports, rt, words, files, &heard, status, why);
     status
 }
 
