@@ -59,7 +59,7 @@ fn open_or_make(rt: &HostRuntime, path: &str) -> Result<File, FileFault> {
     }
 }
 
-/// The same file behind the standard streams: where one of them is closed, a file may take its place, and what is
+/// The same file after the standard streams: where one of them is closed, a file may take its place, and what is
 /// meant for the stream would land in the file.
 fn off_the_streams(file: File) -> io::Result<File> {
     if file.as_raw_fd() > 2 {

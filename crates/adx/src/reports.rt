@@ -22,7 +22,7 @@ pub(crate) enum Kind {
     Connection,
     /// The journal's file failed.
     Journal,
-    /// A connection ended without a reply, for want of memory.
+    /// A connection ended without a reply, for lack of memory.
     Memory,
     /// The system had no connection to give, for a cause that passes.
     System,

@@ -1,4 +1,4 @@
--- An empty file stands for no entry, and so a day on it begins with none.
+-- An empty file represents no entry, and so a day on it begins with none.
 use Rattle.std.proofs.Common.{◌≡◌, inl, inr, refl, sym, ap, subst, ◌∙◌, ℕ, List, [], ◌∷◌, length, length-append, arith, Option, Some, None, Ok, Result}
 use Rattle.day_journal.specs.ByteDisks.{ByteDiskState}
 use Rattle.adx_io.specs.declared.sink.Sink as sinks
@@ -19,7 +19,7 @@ use Rattle.adx_commands.specs.Anew.{NothingStandsForNothing, RunsAnew, RunsGener
 use Rattle.adx_commands.specs.Commands.{RunsGenerated}
 use Rattle.adx_commands.proofs.Outcomes.{done_at}
 
--- no payload stands in an empty file
+-- no payload is in an empty file
 no_payload : (format : ℕ) (payloads : List (List ℕ)) → StandsFor format [] payloads → payloads ≡ []
 no_payload format payloads (inl unfinished) = unfinished.1
 no_payload format payloads (inr journal) =

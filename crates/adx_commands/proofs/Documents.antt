@@ -20,7 +20,7 @@ use Rattle.script_lines.specs.Rosters.{IsRosterLine, RefusesRosterLine}
 use Rattle.script_lines.specs.declared.refusal.RosterRefusal.{RosterRefusal}
 use Rattle.script_lines.proofs.OneMeaning.{one_roster, roster_not_refused}
 
--- the bytes behind a line's are those behind its newline
+-- the bytes after a line's are those after its newline
 behind : (line rest : List ℕ) → (line ++ 10 ∷ []) ++ rest ≡ line ++ 10 ∷ rest
 behind [] rest = refl
 behind (b ∷ line) rest = ap (λ bytes. b ∷ bytes) (behind line rest)

@@ -13,7 +13,7 @@ use Rattle.fan_out.specs.declared.lane.Lane.{Lane}
 use Rattle.adx_commands.specs.Lanes.{AreLanesOver, AreWorkersOver, Fit, links_in}
 
 module _ {X : Type 0} where
-  -- what stands behind a front, by the element that does
+  -- what comes after a front, by the element that does
   next : (front ahead all : List X) (x : X) → front ++ ahead ≡ all → slice_get all (length front) ≡ Some x → (rest : List X) × (ahead ≡ x ∷ rest)
   next front ahead all x is found = go front ahead (subst (λ (l : List X). slice_get l (length front) ≡ Some x) (sym is) found)
     where
@@ -36,7 +36,7 @@ module _ {X : Type 0} where
   no_items (x ∷ xs) none = absurd (omega (arith, none))
 
 module _ {X Y : Type 0} (f : X → Y) where
-  -- one more goes from what stands ahead
+  -- one more goes from what is ahead
   one_on : (xs : List X) (x : X) (y : Y) (ahead rest all : List Y) → map f xs ++ ahead ≡ all → ahead ≡ y ∷ rest → f x ≡ y → map f (xs ++ x ∷ []) ++ rest ≡ all
   one_on xs x y ahead rest all whole is same =
       ap (λ (l : List Y). l ++ rest) (map-append f xs (x ∷ [])) ∙ append_assoc (map f xs) (f x ∷ []) rest

@@ -39,7 +39,7 @@ use Rattle.adx_commands.proofs.Documents.{one_begun, roster_taken}
 use Rattle.adx_commands.proofs.Ends.{ended_causes, rises_one, says, there}
 use Rattle.adx_commands.proofs.LinkLanes.{all_fit}
 
--- ---- an acceptor that tells no pairs yet, by what its pairs tell
+-- ---- an acceptor that reports no pairs yet, by what its pairs report
 
 no_items : {X Y : Type 0} (f : X → Y) (xs : List X) → map f xs ≡ [] → xs ≡ []
 no_items f [] is = refl

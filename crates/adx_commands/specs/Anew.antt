@@ -18,7 +18,7 @@ use Rattle.history_runs.specs.Script.{terms_by}
 use Rattle.script_lines.specs.Rosters.{IsRosterLine}
 use Rattle.adx_commands.specs.Commands.{RunsGenerated}
 
--- an empty file stands for the history without an entry, and for no other
+-- an empty file represents the history without an entry, and no other
 abbrev pub NothingStandsForNothing : Type 0
 NothingStandsForNothing = (terms : DeskTerms) (history : List Entry) → IsHistoryOf terms [] history → history ≡ []
 
@@ -32,7 +32,7 @@ TookGenerated seed asks held held_now =
 abbrev pub new_disk : ByteDiskState
 new_disk = record { past = []; bytes = []; faults = 0 }
 
--- what such a disk tells: its bytes, which a crash leaves, and what it held before each write
+-- what such a disk reports: its bytes, which a crash leaves, and what it held before each write
 abbrev pub byte_disk : disks.Ghosts ByteDiskState
 byte_disk = record {
   faults = λ d. d.faults;

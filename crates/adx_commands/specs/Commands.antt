@@ -1,4 +1,4 @@
--- What comes of a command, and what words that aren't one write. How words ask for a command stands in `command_words`.
+-- What comes of a command, and what words that aren't one write. How words ask for a command is in `command_words`.
 -- This project's own.
 -- Example: the words `day`, `--journal`, `a` serve a day in plain spelling; `day`, `--journal=a` aren't in plain
 -- spelling, and do what `clap` reads of them.
@@ -133,7 +133,7 @@ KeepsDay d old new course ended = EndsAs course ended × CourseOn d.faults d.rea
 abbrev pub EndsDay : Unit {0} → Unit {0} → Course → Result Outcome Stop → Type 0
 EndsDay nothing still course ended = EndsAs course ended
 
--- What became of the disk of the roster that the first line told, by what came of its day, where a line told one.
+-- What became of the disk of the roster that the first line reported, by what came of its day, where a line reported one.
 abbrev pub KeepsRoster : {D Day : Type 0} → (Roster → Day → D → D → Result Outcome Stop → Type 0) → D → D → Option (Roster × Day)
     → Result Outcome Stop → Type 0
 KeepsRoster leaves = LeavesFirst (λ old new r day. leaves r day old new)
@@ -150,7 +150,7 @@ EndsExchange r (was_served start lanes course) nothing still ended =
 abbrev pub EndsBidder : Unit {0} → Unit {0} → Option (BidderState × BidderState) → Result Outcome Stop → Type 0
 EndsBidder nothing still course ended = MayEnd course ended
 
--- A generated day ended so over a sink and a disk, told by the exit status.
+-- A generated day ended so over a sink and a disk, by the exit status.
 pub record RunsGenerated {D : Type 0} (d : disks.Ghosts D) (seed asks : ℕ) (held held_now : Option (List ℕ))
     (old new : D) (status : ℕ) : Type 0 where
   pub ended : Result Outcome Stop
@@ -164,8 +164,8 @@ Tells text done held held_now status =
     ((status ≡ done) × Took held held_now text)
     ⊎ (((status ≡ 5) × TookPrefix held held_now text) ⊎ ((status ≡ 12) × (held_now ≡ held)))
 
--- What a run of the program stands between: a source, a sink, a disk and a keeper of closed days, as they were and as they
--- are behind the run.
+-- What a run of the program is between: a source, a sink, a disk and a keeper of closed days, as they were and as they
+-- are after the run.
 pub record Outside (S K D P : Type 0) : Type 0 where
   pub source : S
   pub source_now : S

@@ -11,7 +11,7 @@ use Rattle.exchange_serving.specs.Lanes.{lists_of}
 abbrev pub Fit : {L : Type 0} → List Place → List L → Type 0
 Fit places links = length links ≡ length places
 
--- there is a lane to each of these places, in their order, over the link that stands there
+-- there is a lane to each of these places, in their order, over the link that is there
 pub record AreLanesOver {L : Type 0} (places : List Place) (links : List L) (lanes : List (Lane L)) : Type 0 where
   pub places_are : map (λ (l : Lane L). l.place) lanes ≡ places
   pub limits : All (λ (l : Lane L). l.conn.limit ≡ ANSWER_LIMIT) lanes

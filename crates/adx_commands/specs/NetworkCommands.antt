@@ -47,7 +47,7 @@ IsNoServe words = (IsPost words ⊎ IsBid words) ⊎ (IsReadAsServe words → �
 abbrev pub IsNetworkCommand : List (List ℕ) → Type 0
 IsNetworkCommand words = (command : NetworkCommand) × IsPlainNetwork command words
 
--- The notices of the day of a document's roster were tried over the disk and the post link, told by the exit status. The
+-- The notices of the day of a document's roster were tried over the disk and the post link, by the exit status. The
 -- acceptor is as it was.
 pub record PostsNotices {A D L : Type 0} (l : links.Ghosts L) (d : disks.Ghosts D) (document : List ℕ)
     (given : Objects A D L) (back : Served A D L) : Type 0 where
@@ -62,7 +62,7 @@ pub record PostsNotices {A D L : Type 0} (l : links.Ghosts L) (d : disks.Ghosts 
   pub why_is : back.why ≡ why_no_post end
   pub lasts : d.lasts given.disk disk
 
--- The bidder of a document's price line served the acceptor's connections, told by the exit status. The disk and the post
+-- The bidder of a document's price line served the acceptor's connections, by the exit status. The disk and the post
 -- link are as they were.
 pub record ServesBidder {A I O D L : Type 0} (a : acceptors.Ghosts A I O) (s : sources.Ghosts I) (k : sinks.Ghosts O)
     (document : List ℕ) (given : Objects A D L) (back : Served A D L) : Type 0 where
@@ -79,6 +79,7 @@ pub record ServesBidder {A I O D L : Type 0} (a : acceptors.Ghosts A I O) (s : s
 abbrev pub RunsPost : {A D L : Type 0} → links.Ghosts L → disks.Ghosts D → List ℕ → Objects A D L → Served A D L → Type 0
 RunsPost l d document given back = RunsUnlinked given back (PostsNotices l d document given back)
 
+-- what `bid` does: it serves the bidder of a price line, or can't begin
 abbrev pub RunsBid : {A I O D L : Type 0} → acceptors.Ghosts A I O → sources.Ghosts I → sinks.Ghosts O
     → List ℕ → Objects A D L → Served A D L → Type 0
 RunsBid a s k document given back = RunsUnlinked given back (ServesBidder a s k document given back)

@@ -227,7 +227,7 @@ fn run_words<S: Source, K: Sink, D: Disk, P: Keeper>(
 ///
 /// The command `archive-put` reads a document as `check` does, and keeps the day's rows in the keeper where the certificate is
 /// accepted; it writes one line. The command `archive-list` reads nothing, and writes the kept days of a campaign, in order of
-/// day. Either upgrades the keeper before it asks anything else of it, `archive-put` only behind an accepted certificate. All
+/// day. Either upgrades the keeper before it asks anything else of it, `archive-put` only after an accepted certificate. All
 /// other commands leave the keeper as it is.
 ///
 /// The command `reconcile` reads a roster line and then the lines of a bidder's ledger, as `bidder` answers them at `/ledger`.

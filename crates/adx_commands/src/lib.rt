@@ -8,7 +8,7 @@
 //! for, over an acceptor, a disk, links and a document, and gives these objects back with the exit status; its contract
 //! is that of the program's commands that talk over the network.
 //!
-//! Stands on `command_words`, which reads the words, and on the crates of the commands.
+//! Uses `command_words`, which reads the words, and the crates of the commands.
 #![tactic(auto)]
 
 mod anew;

@@ -96,8 +96,8 @@ fn run<
 ///
 /// The command `serve` takes the document's first line as a roster, opens the roster's day on the disk, and serves the
 /// acceptor's connections on it, until no more come or the acceptor fails: as many at the same time as there are lists of
-/// links, each over a list of its own, which has a link for each of the roster's bidders. Behind each connection, and once
-/// behind the last, each notice that the day owes and that wasn't taken yet is tried once over the post link.
+/// links, each over a list of its own, which has a link for each of the roster's bidders. After each connection, and once
+/// after the last, each notice that the day owes and that wasn't taken yet is tried once over the post link.
 ///
 /// The command `post` takes the document's first line as a roster, opens the roster's day on the disk, and tries each notice
 /// that the day's history owes its bidders once over the post link, in the order of the entries that ask for them. Nothing
@@ -118,7 +118,7 @@ fn run<
 /// the acceptor failed; 6 where the disk failed, while the day was opened or in a call of a connection; 7 where the disk's
 /// file isn't a journal of the roster's day; 11 where notices are pending, of which the last try met a fault of the link or
 /// an answer outside 200 to 299; 12 where memory was refused, also within a connection: of a `serve` that ends so the
-/// post link alone need be given back. Of several that hold behind the last connection 12 is told, and else the least. At 2 and 3 all
+/// post link alone need be given back. Of several that hold after the last connection 12 is answered, and else the least. At 2 and 3 all
 /// objects are as they were.
 ///
 /// It waits for connections, and need not return.

@@ -59,7 +59,7 @@ fn status_of_fault(fault: &DeskFault) -> u8
     }
 }
 
-/// What is given back where no desk was left, for want of memory.
+/// What is given back where no desk was left, for lack of memory.
 fn unserved_by<A: Drop, D: Disk + Drop, L: Drop>(unserved: Unserved<A, D, L>) -> Served<A, D, L>
     ensures { GivesServed (Err unserved) result }
 {

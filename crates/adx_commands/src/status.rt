@@ -23,7 +23,7 @@ pub const WRITE_FAULT: u8 = 5;
 /// The status where the disk failed.
 pub const DISK_FAULT: u8 = 6;
 
-/// The status where the disk's file stands for no history of the roster.
+/// The status where the disk's file represents no history of the roster.
 pub const NO_HISTORY: u8 = 7;
 
 /// The status where the certificate isn't accepted.

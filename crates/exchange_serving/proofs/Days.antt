@@ -194,7 +194,7 @@ module _ {L : Type 0} (l : links.Ghosts L) where
       let same : t.before ≡ post = ap (λ (o : Option L). unwrap_or o post) (sym t.before_is ∙ is) in
       subst (λ (k : L). ArePosted l history k post_now ending) same (posts t.history t.before (prefix_on t.history seen history t.begins p) t.has)
 
-  -- what the lobby left, by the names of the day and by what they stand for
+  -- what the lobby left, by the names of the day and by what they represent
   pub left_named : (moment told : Option ℕ) (roster : Option Roster) (workers came : List (List (Lane L))) (first was : DeskPass) (faults before : ℕ) (a b : AcceptorTold) (p : DeskPass) (intake : Intake) (short : Bool) →
       moment ≡ told → workers ≡ came → first ≡ was → faults ≡ before → a ≡ b → AllServed (IsServedIn l moment roster workers first.seen) first 2 faults a p intake short →
       AllServed (IsServedIn l told roster came was.seen) was 2 before b p intake short

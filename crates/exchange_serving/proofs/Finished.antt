@@ -1,4 +1,4 @@
--- What the ending of serving tells, and what became of the posts.
+-- What the ending of serving reports, and what became of the posts.
 use Rattle.std.proofs.Common.{◌≡◌, ◌≢◌, ⊎_elim, ℕ, ◌<◌, List, [], ◌∷◌, ◌++◌, length, drop, Bool, true, false, ◌||◌, ◌==◌, if◌then◌else◌, Result, Ok, Err, OnOk, refl, sym, ap, ◌∙◌, subst, arith, append_assoc}
 use Rattle.std.proofs.lemmas.Bool.{eqb-true, eqb-false, ltb-true, ltb-false}
 use Rattle.std.specs.Prelude.{nat_lt}
@@ -114,7 +114,7 @@ pending_some false Intake.Over faults none e = go (nat_lt 0 faults) none e
     go false false x = refl
 
 module _ {A : Type 0} where
-  -- what is behind a front
+  -- what is after a front
   behind_front : (front all : List A) → IsPrefix front all → front ++ drop (length front) all ≡ all
   behind_front front all p = subst (λ (l : List A). front ++ drop (length front) l ≡ l) p.1 (ap (λ (l : List A). front ++ l) (dropped front p.0))
     where
@@ -122,7 +122,7 @@ module _ {A : Type 0} where
       dropped [] ys = refl
       dropped (x ∷ xs) ys = dropped xs ys
 
-  -- some of what is behind it
+  -- some of what is after it
   front_on : (front more all : List A) → IsPrefix front all → IsPrefix more (drop (length front) all) → IsPrefix (front ++ more) all
   front_on front more all p q = (q.0, append_assoc front more q.0 ∙ (ap (λ (l : List A). front ++ l) q.1 ∙ behind_front front all p))
 

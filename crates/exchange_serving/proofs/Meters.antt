@@ -1,4 +1,4 @@
--- The meters that a connection was told, as those of fronts of the history.
+-- The meters that a connection was shown, as those of fronts of the history.
 use Rattle.std.proofs.Common.{◌≡◌, ℕ, ◌≤◌, List, [], ◌∷◌, length, take, drop, sym, ap, ◌∙◌, subst, arith}
 use Rattle.std.proofs.Math.Seq.{take-append_seam}
 use Rattle.std.proofs.lemmas.List.{take-append-drop, take-append-le}

@@ -42,7 +42,7 @@ use Rattle.exchange_serving.specs.Served.{AreServedOver, Connection, IsServed, I
 use Rattle.exchange_serving.specs.Rounds.{AreOwn, IsRound, IsWhole, bytes_of, is_out_of_memory}
 use Rattle.exchange_serving.proofs.Meters.{meters_longer, meters_read_in, read_on}
 
--- a longer history behind some steps
+-- a longer history after some steps
 pub steps_longer : (terms : DeskTerms) (seen now more : List Entry) (steps : List Step) → AreSteps shared terms seen steps now → IsPrefix now more → AreSteps shared terms seen steps more
 steps_longer terms seen now more steps are p = subst (λ (l : List Step). AreSteps shared terms seen l more) (append-nil steps) (steps_join shared shared_on terms seen now more steps [] are p)
 
@@ -175,7 +175,7 @@ module _ {L : Type 0} (l : links.Ghosts L) (IsMoment : ℕ → Type 0) (r : Rost
   took_some before now lanes course ConnEnd.Spent e = (e.1.out, e.1.took)
   took_some before now lanes course ConnEnd.OutOfMemory e = (e.2.out, e.2.took)
 
-  -- the pair told so when it came
+  -- the pair reported so when it came
   tape_new : (before now : Option Tape) → IfSome before (λ t. t.taken ≡ []) → IsWhole before now → before ≡ option_map untaken now
   tape_new None None new whole = refl
   tape_new None (Some n) new whole = absurd (cc whole)

@@ -1,4 +1,4 @@
--- Private, cited by the end of serving alone: how the passes are joined and the desk is closed, and what the ending is told
+-- Private, cited by the end of serving alone: how the passes are joined and the desk is closed, and what the ending is reported
 -- by.
 use Rattle.std.specs.Prelude.{◌≡◌, ◌≢◌, ◌⊎◌, ℕ, ◌<◌, ◌≤◌, List, ◌++◌, length, Bool, true, false, nat_lt, if◌then◌else◌}
 use mathlib.Core.List.{IsPrefix}
@@ -27,7 +27,7 @@ ending_at Intake.Over faults none = if nat_lt 0 faults then Ending.DiskFault els
 abbrev pub ending_by : Bool → Intake → ℕ → Bool → Ending
 ending_by short intake faults none = if short then Ending.OutOfMemory else ending_at intake faults none
 
--- what an ending tells
+-- what an ending says
 pub record Tells (short : Bool) (intake : Intake) (faults : ℕ) (ending : Ending) : Type 0 where
   pub short_is : short ≡ true → ending ≡ Ending.OutOfMemory
   pub failed : ending ≡ Ending.AcceptorFault → intake ≡ Intake.Failed
@@ -49,7 +49,7 @@ pub record Closes (opened : OpenedWith) (first one other : DeskPass) (history : 
   pub counted : faults < LAST_COUNT → faults_noted (λ (t : Turn). is_disk_fault t.ended) last.turns ≤ faults
 
 -- An outbox that had followed a front of this whole history was brought up to it; all of it was followed, and each post that
--- was due tried, unless this was missed for want of memory.
+-- was due tried, unless this was missed for lack of memory.
 pub record IsTendedAll {L : Type 0} (l : links.Ghosts L) (whole history : List Entry) (link : L) (old new : Mail L) (missed : Bool) : Type 0 where
   pub more : List Entry
   pub begins : IsPrefix (history ++ more) whole

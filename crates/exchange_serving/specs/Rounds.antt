@@ -27,7 +27,7 @@ use Rattle.turnstile.specs.Passes.{IsOf, IsSamePass, TurnstileState}
 use Rattle.turnstile.specs.declared.noted.Noted.{Noted}
 use Rattle.exchange_serving.specs.Served.{AreMetersIn, AreServedOver, Connection, IsServed, shown_by, talk_of}
 
--- all bytes of a tape, where it is told
+-- all bytes of a tape, where it is reported
 abbrev pub bytes_of : Option Tape → Option (List ℕ)
 bytes_of tape = option_map (λ (t : Tape). t.taken ++ t.left) tape
 
@@ -51,7 +51,7 @@ abbrev pub IsServedIn : {L : Type 0} → links.Ghosts L → Option ℕ → Optio
 IsServedIn l moment roster workers opened history s =
     (r : Roster) × (roster ≡ Some r) × IsServed l (IsMomentOf moment) r opened workers history s
 
--- One round: a connection was served, by a pass that was p and became q, over a pair that told so before and now, between
+-- One round: a connection was served, by a pass that was p and became q, over a pair that reported so before and now, between
 -- two looks at the meters: a reader that had been shown so many entries has been shown so many now.
 pub record IsRound {L : Type 0} (l : links.Ghosts L) (IsMoment : ℕ → Type 0) (r : Roster) (p q : DeskPass) (before now : PairTold)
     (lanes lanes_now : List (Lane L)) (known known_now : ℕ) (short : Bool) : Type 0 where

@@ -1,6 +1,6 @@
 -- What serving the connections of an acceptor on one desk leaves. This project's own.
 -- Example: two connections of one bill each, of different awards, opened at a history of one ask: there are two
--- rows, each with one turn; the history has three entries, and which bill stands first is by the order of the
+-- rows, each with one turn; the history has three entries, and which bill comes first is by the order of the
 -- turns.
 use Rattle.std.specs.Prelude.{◌≡◌, ◌≢◌, ◌⊎◌, ℕ, ◌<◌, ◌≤◌, List, [], ◌∷◌, ◌++◌, length, map, take, All, true, false, Some, IfSome, if◌then◌else◌, option_map, slice_get}
 use Rattle.std.specs.List.{AllZip, flat_map}
@@ -40,7 +40,7 @@ use Rattle.exchange_serving.specs.declared.ending.Ending.{Ending}
 abbrev pub untaken : Tape → Tape
 untaken t = record { taken = []; left = t.taken ++ t.left }
 
--- what a pair told when it came, by what it tells now: nothing was taken, put or failed
+-- what a pair reported when it came, by what it reports now: nothing was taken, put or failed
 abbrev pub as_new : PairTold → PairTold
 as_new p = record {
   tape = option_map untaken p.tape;
@@ -60,7 +60,7 @@ AreMetersIn history least [] = Unit {0}
 AreMetersIn history least (m ∷ ms) =
     (n : ℕ) × (least ≤ n) × (n ≤ length history) × (m ≡ meters_after (take n history)) × AreMetersIn history n ms
 
--- a connection that was served: its pair as it was given back, the history that was seen behind it, what its messages made,
+-- a connection that was served: its pair as it was given back, the history that was seen after it, what its messages made,
 -- and how it ended
 pub record Connection (L : Type 0) : Type 0 where
   pub pair : ServedPair Turn
@@ -68,19 +68,19 @@ pub record Connection (L : Type 0) : Type 0 where
   pub course : Course L
   pub end : ConnEnd
 
--- How many entries a worker was shown the meters of once it has served a connection: all that were seen behind it, unless
+-- How many entries a worker was shown the meters of once it has served a connection: all that were seen after it, unless
 -- memory was wanting for it.
--- Example: behind connections that ended at 5 entries, at 7, and at 9 with memory wanting, it was shown 7.
+-- Example: after connections that ended at 5 entries, at 7, and at 9 with memory wanting, it was shown 7.
 abbrev pub shown_after : {L : Type 0} → ℕ → Connection L → ℕ
 shown_after known c = if c.pair.wanting then known else length c.seen
 
--- the same of one connection behind another
+-- the same of one connection after another
 abbrev pub shown_by : {L : Type 0} → ℕ → List (Connection L) → ℕ
 shown_by known [] = known
 shown_by known (c ∷ cs) = shown_by (shown_after known c) cs
 
 module _ {L : Type 0} (l : links.Ghosts L) (IsMoment : ℕ → Type 0) (r : Roster) (opened : List Entry) where
-  -- A pair was served over these lanes, on a desk whose history began with `opened` and was `history` behind it, by a worker
+  -- A pair was served over these lanes, on a desk whose history began with `opened` and was `history` after it, by a worker
   -- that had been shown the meters of so many entries.
   pub record IsServedOver (known : ℕ) (history : List Entry) (s : ServedPair Turn) (lanes : List (Lane L)) (course : Course L) (end : ConnEnd) : Type 0 where
     -- which messages its source brought, what its sink took for them by its steps, and why no more were read
@@ -94,12 +94,12 @@ module _ {L : Type 0} (l : links.Ghosts L) (IsMoment : ℕ → Type 0) (r : Rost
     pub along : AreSteps shared (desk_terms r) from course.steps history
     -- its turns are the calls among them
     pub turns : AllZip IsNotedAs s.turns (calls_of course.steps)
-    -- the meters that it was told are of fronts of the history, none shorter than what was seen when it began
+    -- the meters that it was shown are of fronts of the history, none shorter than what was seen when it began
     pub meters : s.wanting ≡ false → AreMetersIn history (length from) (meters_read course.steps)
-    -- it is told where memory was wanting for it
+    -- it is said where memory was refused for it
     pub wanting : end ≡ ConnEnd.OutOfMemory → s.wanting ≡ true
 
-  -- Connections were served over lanes by a worker that had been shown so many entries, one behind another: each over those
+  -- Connections were served over lanes by a worker that had been shown so many entries, one after another: each over those
   -- lanes that the one before it left, from a history no shorter than what the worker was shown then, and each on a legal
   -- history of the day.
   abbrev pub AreServedOver : ℕ → List (Lane L) → List (Connection L) → List (Lane L) → Type 0
@@ -121,7 +121,7 @@ module _ {L : Type 0} (l : links.Ghosts L) (IsMoment : ℕ → Type 0) (r : Rost
     pub end : ConnEnd
     pub served : IsServedOver (shown_by 0 earlier) history s lanes course end
 
--- all turns of these pairs, one pair's behind another's
+-- all turns of these pairs, one pair's after another's
 abbrev pub turns_in : List (ServedPair Turn) → List (Noted Turn)
 turns_in rows = flat_map (λ (s : ServedPair Turn). s.turns) rows
 
@@ -135,7 +135,7 @@ pub record AreServed {L : Type 0} (l : links.Ghosts L) (IsMoment : ℕ → Type 
   pub each : All (IsServed l IsMoment r opened workers history) rows
   pub wanting : All (λ (s : ServedPair Turn). s.wanting ≡ true → ending ≡ Ending.OutOfMemory) rows
   -- each turn is one of the day at the front of the history that is as long as it was at the turn's call; its entry, if it
-  -- has one, stands there
+  -- has one, is there
   pub right : AreAllRight (IsTurnAt (desk_terms r)) history (turns_in rows)
   pub stand : Stand entry_of history (turns_in rows)
   -- what a run over it leaves there: its call taken once, within the budgets, each ask as its choice was
@@ -143,7 +143,7 @@ pub record AreServed {L : Type 0} (l : links.Ghosts L) (IsMoment : ℕ → Type 
   -- each entry past the opening is of exactly one of these turns
   pub own : AreAllOnce (length opened) (length history) (places_of entry_of (turns_in rows))
 
--- What an acceptor tells, by what it told and the pairs that were given back.
+-- What an acceptor reports, by what it reported and the pairs that were given back.
 pub record HasBack (before now : AcceptorTold) (rows : List (ServedPair Turn)) (ending : Ending) : Type 0 where
   pub back : IfSome now.pairs (λ t. t.back ≡ map (λ (s : ServedPair Turn). s.told) rows)
   pub all_back : IfSome now.pairs (λ t. length t.out ≡ length t.back)
@@ -160,7 +160,7 @@ pub record ArePosted {L : Type 0} (l : links.Ghosts L) (history : List Entry) (p
   pub waiting : List Post
   pub between : L
   pub earlier : AreTended l followed waiting post between
-  -- in it, and behind it
+  -- in it, and after it
   pub more : List Entry
   pub begins : IsPrefix (followed ++ more) history
   pub pending : List Post
@@ -183,7 +183,7 @@ pub record ServesDay {D L : Type 0} (d : disk.Ghosts D) (l : links.Ghosts L) (Is
   -- How many calls met a fault of the disk: at most what its count rose by since the opening.
   pub faults : ℕ
   pub risen : IsWithinRise opened.since.count faults (d.faults disk_now)
-  -- Where the disk told at the opening what it read, a crash now leaves the history, or it and one record in doubt of a call
+  -- Where the disk reported at the opening what it read, a crash now leaves the history, or it and one record in doubt of a call
   -- that met such a fault; and no record is in doubt where none did, as where serving ended well.
   pub on_disk : opened.since.tells ≡ true → StandsInDoubt (d.may_leave disk_now) (desk_terms r) history faults
   pub sound : (ending ≡ Ending.Done) ⊎ (ending ≡ Ending.Pending) → faults ≡ 0

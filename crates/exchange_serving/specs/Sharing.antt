@@ -17,7 +17,7 @@ use Rattle.shared_desk.specs.Callers.{DeskPass}
 pub record ServesLent {Y L : Type 0} (y : DeskGhosts Y) (l : LinkGhosts L) (IsMoment : ℕ → Type 0) (r : Roster) (before now : Talked)
     (lanes lanes_now : List (Lane L)) (old new : Y) (end : ConnEnd) : Type 0 where
   pub steps : List Step
-  -- the desk tells this of its steps,
+  -- the desk reports this of its steps,
   pub ran : y.runs old new steps
   -- and by them the messages were replied
   pub ends : EndsSo l IsMoment r before now lanes (record { steps = steps; lanes = lanes_now }) end

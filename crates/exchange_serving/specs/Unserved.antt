@@ -1,4 +1,4 @@
--- What is given back where no desk is left, for want of memory. This project's own.
+-- What is given back where no desk is left, for lack of memory. This project's own.
 use Rattle.std.specs.Prelude.{◌≡◌, List, Vec}
 use mathlib.Core.List.{IsPrefix}
 use Rattle.std.proofs.Common.{Global}

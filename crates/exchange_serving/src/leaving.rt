@@ -19,7 +19,7 @@ pub struct Served<A, D, L> {
     pub post: L,
 }
 
-/// What is given back where no desk is left, for want of memory.
+/// What is given back where no desk is left, for lack of memory.
 #[derive(Drop)]
 pub enum Unserved<A, D: Disk, L> {
     /// Memory was refused before the desk was shared: all is given back as it came.

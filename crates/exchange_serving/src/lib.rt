@@ -1,16 +1,16 @@
 //! The connections of an acceptor, served by many threads on one desk.
 //!
 //! `serve_connections` lets workers serve connections at the same time on one desk
-//! that they share, and tries the posts of its history behind each connection. Its contract says that all pairs were
-//! given back, what each was replied and by which turns, that these turns made the history that the disk stands for,
-//! which posts were delivered, and what is given back where no desk is left for want of memory.
+//! that they share, and tries the posts of its history after each connection. Its contract says that all pairs were
+//! given back, what each was replied and by which turns, that these turns made the history that the disk represents,
+//! which posts were delivered, and what is given back where no desk is left for lack of memory.
 //!
 //! The exchange on a connection, on a desk that threads share. `serve_shared` serves a connection as `exchange_http`
 //! does, by a pass of a shared desk: its contract names the messages, the steps that they made by the pass, what each
 //! was replied by the history of its own steps, and why no more were read. `serve_gathering` does so too, and is given
 //! how bidders are asked.
 //!
-//! Stands on `adx_links` for connections and the threads, on `exchange_http` for a connection, and on `desk_board` for
+//! Uses `adx_links` for connections and the threads, `exchange_http` for a connection, and `desk_board` for
 //! board and posts.
 #![tactic(auto)]
 

@@ -30,7 +30,7 @@ pub trait DayNames<L> {
     // The roster of the day.
     ghost roster: { Option Roster };
 
-    // The moment that the clock tells.
+    // The moment that the clock reports.
     ghost moment: { Option ℕ };
 
     // The lanes that each worker came with.

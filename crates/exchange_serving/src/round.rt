@@ -26,7 +26,7 @@ use std::alloc::Global;
 use std::sync::{Mutex, Wait};
 use turnstile::Pass;
 
-/// The board of a day, behind its lock.
+/// The board of a day, under its lock.
 pub(crate) type Boards<'a, R, D, L, J> = Mutex<SharedBoard<&'a R, D, Day<L, J>>>;
 
 /// Memory was refused to the connection.
@@ -44,8 +44,8 @@ fn is_short(end: ConnEnd) -> bool
     }
 }
 
-/// Serves a pair by a pass, and says whether memory was refused for it. Before the connection and behind it what the pass
-/// has seen is published, and the reader is told; where that is refused before, the connection isn't begun.
+/// Serves a pair by a pass, and says whether memory was refused for it. Before the connection and after it what the pass
+/// has seen is published, and the reader learns of it; where that is refused before, the connection isn't begun.
 pub(crate) fn serve_pair<
     'a,
     R: Wait,

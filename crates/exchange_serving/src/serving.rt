@@ -197,10 +197,10 @@ fn serve_shared_desk<
 
 /// Serves the connections that the acceptor gives, on the desk that the roster's day was opened with, until no more come or
 /// the acceptor fails. Each list of lanes is a worker's, who serves one connection at a time in a thread of its own; each
-/// has a lane for every bidder of the roster. Behind each connection its worker tries the posts of what is new in the history
-/// over `post`, and pending ones again: all of them once, or some where they are many; the caller tries each behind the last.
+/// has a lane for every bidder of the roster. After each connection its worker tries the posts of what is new in the history
+/// over `post`, and pending ones again: all of them once, or some where they are many; the caller tries each after the last.
 ///
-/// A connection ends alone, whatever its end, and a fault of the disk is answered by its reply. The ending is told once no
+/// A connection ends alone, whatever its end, and a fault of the disk is answered by its reply. The ending is reported once no
 /// connection is served any more: `OutOfMemory` where memory was refused for some of it, then `AcceptorFault`, `DiskFault`,
 /// `Pending`, the first of them that holds, and else `Done`.
 ///

@@ -28,7 +28,7 @@ use std::marker::{Brand, PhantomData};
 use std::sync::Wait;
 use turnstile::Pass;
 
-/// Serves a connection over a source that told this.
+/// Serves a connection over a source that reported this.
 fn talk_over<
     R: Wait,
     S: Source,

@@ -5,7 +5,7 @@ ghost use Rattle.exchange_serving.specs.Rounds.{IsWhole};
 use adx_io::{Failed, Source};
 use std::marker::{Brand, PhantomData};
 
-/// What a source told when it was lent. A call picks it.
+/// What a source reported when it was lent. A call picks it.
 pub trait TapeNames {
     ghost use Rattle.std.specs.Prelude.{Option};
     ghost use Rattle.adx_io.specs.Streams.{Tape};

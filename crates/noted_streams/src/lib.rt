@@ -1,8 +1,8 @@
-//! Streams and files that keep the last error which the system told.
+//! Streams and files that keep the last error which the system reported.
 //!
-//! A program's sources, sinks and disks answer that they failed, and no more. `Noting` stands between them and the system, hands
+//! A program's sources, sinks and disks answer that they failed, and no more. `Noting` is between them and the system, hands
 //! every call on, and keeps the error of one that fails in a place that threads may share (`Told`); `Reason` writes it for a
-//! person. Stands on `std` alone.
+//! person. Uses `std` alone.
 #![tactic(auto)]
 
 mod noting;

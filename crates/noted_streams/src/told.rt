@@ -6,14 +6,14 @@ use std::sync::atomic::{AtomicI64, Ordering};
 /// Stands for no error; no number of an error of the system's is so small.
 const NONE: i64 = i64::MIN;
 
-/// The last error that the system told, if it told one, by the system's number of it. Threads may share it.
+/// The last error that the system reported, if it reported one, by the system's number of it. Threads may share it.
 #[derive(Drop)]
 pub struct Told {
     number: AtomicI64,
 }
 
 impl Told {
-    /// Nothing was told yet.
+    /// Nothing was reported yet.
     pub fn new() -> Told {
         Told {
             number: AtomicI64::new(NONE),

@@ -15,7 +15,7 @@ pub(crate) struct Counted<S: Alter> {
 }
 
 impl<S: Alter> Counted<S> {
-    /// A connection, which nothing else uses, behind so many faults.
+    /// A connection, which nothing else uses, after so many faults.
     pub(crate) fn new(conn: Connection<S>, faults: u64) -> Counted<S>
         ensures { result.faults ≡ faults }
     {
@@ -67,7 +67,7 @@ impl<S: Alter> Counted<S> {
         }
     }
 
-    /// Begins a transaction: what is run behind it is kept where it is `ended` by an answer, or not at all.
+    /// Begins a transaction: what is run after it is kept where it is `ended` by an answer, or not at all.
     pub(crate) fn begin(&mut self) -> Result<(), Broken>
         ensures { IsCounted self.old.faults self.new.faults result }
     {
@@ -101,7 +101,7 @@ impl<S: Alter> Counted<S> {
         }
     }
 
-    /// Ends a transaction in which this was answered: what was run in it is kept, or, behind a refusal, which was counted,
+    /// Ends a transaction in which this was answered: what was run in it is kept, or, after a refusal, which was counted,
     /// undone.
     pub(crate) fn ended<T: Drop>(&mut self, answer: Result<T, Broken>) -> Result<T, Broken>
         ensures { HasEnded answer self.old.faults self.new.faults result }

@@ -71,7 +71,7 @@ fn named(alloc: Global, name: &str) -> Result<Id, Broken> {
     }
 }
 
-/// A campaign's row as it stands in the tables, beside what it has in common with others of its day.
+/// A campaign's row as it is in the tables, beside what it has in common with others of its day.
 fn row_in(
     alloc: Global,
     seat: &str,
@@ -99,7 +99,7 @@ pub(crate) fn day_at(row: &Row) -> Result<String, Broken> {
     Ok(day)
 }
 
-/// A campaign's row as it stands in the tables.
+/// A campaign's row as it is in the tables.
 fn row_of<S: Alter>(
     alloc: Global,
     conn: &mut Counted<S>,

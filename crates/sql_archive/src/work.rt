@@ -17,7 +17,7 @@ pub struct Worked {
     pub status: u8,
     /// Why the file wasn't opened, where the work asked for it and it wasn't.
     pub unopened: Option<Unopened>,
-    /// Whether the file was closed. Where it wasn't, what was answered stands in it and in the log beside it.
+    /// Whether the file was closed. Where it wasn't, what was answered is in it and in the log beside it.
     pub closed: Result<(), Error>,
 }
 

@@ -78,7 +78,7 @@ module _ (a : Ask) where
   abbrev Key : ℕ → ℕ
   Key imp = imp
 
-  -- offers behind others, with their places
+  -- offers after others, with their places
   offers_at : (n : ℕ) (os : List Offer) → ((k : ℕ) (o : Offer) → slice_get os k ≡ Some o → slice_get a.offers (n + k) ≡ Some o) → All (λ (p : ℕ × Offer). slice_get a.offers p.0 ≡ Some p.1) (enumerate_from n os)
   offers_at n [] here = All-nil (λ (p : ℕ × Offer). slice_get a.offers p.0 ≡ Some p.1)
   offers_at n (o ∷ os) here =

@@ -84,10 +84,10 @@ pub once_all : (n : ℕ) (rows : List LedgerRow) (ms : List Request) → AreOnce
 once_all n rows [] once = once
 once_all n rows (m ∷ ms) once = once_all n (carried_on n rows (notice_of m)) ms (once_on n rows (notice_of m) once)
 
--- ---- what a message tells
+-- ---- what a message reports
 
 module _ (base : List ℕ) (prices : ℕ) (history : List Entry) (plain_base : All IsUnmarked base) (few_prices : prices ≤ MOST_PRICES) where
-  -- a request tells no notice, or one that counts only where it is a bill of the history
+  -- a request reports no notice, or one that counts only where it is a bill of the history
   abbrev pub Adds : Request → Type 0
   Adds m = (notice_of m ≡ None) ⊎ ((row : LedgerRow) × (notice_of m ≡ Some row) × (is_kind NoticeKind.Bill row.kind ≡ true → IsBilled base history row))
 

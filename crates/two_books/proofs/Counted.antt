@@ -60,7 +60,7 @@ refusal status = record {
   body = lent [];
 }
 
--- how a reply ends behind what was answered
+-- how a reply ends after what was answered
 abbrev Ends : List ℕ → List ℕ → Type 0
 Ends reply out = (reply ≡ out) ⊎ ((fault : HttpFault) × (status : ℕ) × (fault_status fault ≡ Some status) × (reply ≡ out ++ refusal_bytes status))
 

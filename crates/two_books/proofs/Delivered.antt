@@ -33,7 +33,7 @@ told_rows : (o : Option LedgerRow) (b : BidderState) (a : Answer) (body : List �
 told_rows None b a body rows h = h.2
 told_rows (Some row) b a body rows h = h.2
 
--- a page that tells no notice leaves the ledger
+-- a page that reports no notice leaves the ledger
 books_rows : (t : Bool) (b : BidderState) (query bytes : List ℕ) (a : Answer) (body : List ℕ) (rows : List LedgerRow) → AnswersMethod t Page.Books b query bytes a body rows → rows ≡ b.rows
 books_rows true b query bytes a body rows h = h.2
 books_rows false b query bytes a body rows h = h.2
@@ -46,7 +46,7 @@ offer_rows : (t : Bool) (b : BidderState) (query bytes : List ℕ) (a : Answer) 
 offer_rows true b query bytes a body rows h = h.1
 offer_rows false b query bytes a body rows h = h.2
 
--- what a message leaves of the ledger is what the table of notices makes of the notice that it tells
+-- what a message leaves of the ledger is what the table of notices makes of the notice that it reports
 page_rows : (page : Option Page) (verb : Verb) (b : BidderState) (query bytes : List ℕ) (a : Answer) (body : List ℕ) (rows : List LedgerRow) → AnswersAt page verb b query bytes a body rows
     → rows ≡ carried_on (length b.line.prices) b.rows (notice_at page (is_get verb) query)
 page_rows None verb b query bytes a body rows h = h.2

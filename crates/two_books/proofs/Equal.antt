@@ -82,7 +82,7 @@ entry_is n (Entry.Loss m) is = absurd (true≢false (sym is))
 entry_is n (Entry.Expire now) is = absurd (true≢false (sym is))
 entry_is n (Entry.Budget campaign change budget) is = absurd (true≢false (sym is))
 
--- the entry of a bill, between those before and behind it
+-- the entry of a bill, between those before and after it
 abbrev Stands : List Entry → ℕ → Type 0
 Stands history n = (before after : List Entry) × (history ≡ before ++ Entry.Bill n ∷ after)
 

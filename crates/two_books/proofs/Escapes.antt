@@ -1,4 +1,4 @@
--- What stands escaped in a query is read as it was.
+-- What is escaped in a query is read as it was.
 use Rattle.std.proofs.Common.{◌≡◌, ◌≢◌, ⊎_elim, ℕ, ◌<◌, List, [], ◌∷◌, ◌++◌, ◌==◌, ◌||◌, ◌&&◌, nat_le, All, refl, sym, ap, subst, ◌∙◌, arith, Bool, true}
 use Rattle.std.proofs.lemmas.Bool.{cases_Bool, cond-true, cond-false}
 use Rattle.std.proofs.lemmas.Bool.Decides.{nat_tests}

@@ -1,4 +1,4 @@
--- What holds of an exchange holds behind each of its calls.
+-- What holds of an exchange holds after each of its calls.
 use Rattle.std.proofs.Common.{◌≡◌, ℕ, zero, suc, ◌+◌, ◌≤◌, List, ◌∷◌, [], ◌++◌, length, take, drop, refl, sym, ap, ◌∙◌, subst, arith, length-append, Option, Result, Ok, Err, length-drop, ◌-◌}
 use Rattle.std.proofs.lemmas.List.{length-map, length-take-le, take-append-le, take-append-drop}
 use Rattle.day_rules.specs.DayState.{DayState, IsDay}
@@ -15,12 +15,12 @@ use Rattle.adx_units.specs.declared.memory.OutOfMemory.{OutOfMemory}
 use Rattle.two_books.specs.Exchanges.{ExchangeState, FollowsOn, HasHistory, IsCalled, IsExchange, IsKept, day_terms, not_followed}
 use Rattle.two_books.proofs.Rosters.{roster_terms}
 
--- entries behind the front that was followed change nothing of it
+-- entries after the front that was followed change nothing of it
 pub followed_still : (n : ℕ) (history more : List Entry) (o : OutboxState) → n ≤ length history → HasFollowed (take n history) o → HasFollowed (take n (history ++ more)) o
 followed_still n history more o within followed =
     subst (λ (h : List Entry). HasFollowed h o) (sym (take-append-le n history more within)) followed
 
--- what is behind an entry, if there is one
+-- what is after an entry, if there is one
 pub exchange_on : (campaigns : List Campaign) (terms : Terms) (history : List Entry) (e : Entry) (o : OutboxState) → IsExchange campaigns terms history o → MayFollow terms history e
     → IsExchange campaigns terms (history ++ e ∷ []) o
 exchange_on campaigns terms history e o is follows = record {
@@ -30,7 +30,7 @@ exchange_on campaigns terms history e o is follows = record {
   followed = followed_still o.followed history (e ∷ []) o is.front is.followed;
 }
 
--- the day behind the entries that were followed is the whole day
+-- the day after the entries that were followed is the whole day
 pub whole_day : (terms : Terms) (n : ℕ) (history : List Entry) → IsDay terms history → IsDay terms (take n history ++ drop n history)
 whole_day terms n history day = subst (IsDay terms) (sym (take-append-drop n history)) day
 
@@ -118,7 +118,7 @@ follows_keep campaigns terms history r o o_now is f =
     within : (n k all rest : ℕ) → n ≤ all → rest ≡ all - n → k ≤ rest → n + k ≤ all
     within n k all rest front is few = omega (arith, front, is, few)
 
--- what an outbox followed that was lent the entries behind those that it had
+-- what an outbox followed that was lent the entries after those that it had
 pub followed_day : (r : Result (Unit {0}) OutOfMemory) (day : DayState) (o o_now : OutboxState) (later : List Entry) (m : ℕ) (es : List Entry) → later ≡ drop m es → m ≡ o.followed → es ≡ day.history
     → IsDay day.terms day.history → HasFollowed (take o.followed day.history) o
     → ((terms : Terms) (history : List Entry) → HasFollowed history o → IsDay terms (history ++ later) → Follows history later r o o_now)

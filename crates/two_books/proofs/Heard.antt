@@ -113,7 +113,7 @@ own_page kind other path ends same =
     let is : path ≡ page_path other = (bytes_eq-Decides path (page_path other)).0 same in
     by_letter other kind (sym (last_page other) ∙ (ap last_of (sym is ∙ ends.1) ∙ last_word kind ends.0))
 
--- what stands at such a path: no page of notices, or that of the kind
+-- what is at such a path: no page of notices, or that of the kind
 picked : (kind : NoticeKind) (query : List ℕ) (offers win bill loss books ledger : Bool) → (win ≡ true → NoticeKind.Win ≡ kind) → (bill ≡ true → NoticeKind.Bill ≡ kind) → (loss ≡ true → NoticeKind.Loss ≡ kind)
     → (page : Option Page)
     → page ≡ cond offers (Some Page.Offers) (cond win (Some (Page.Notices NoticeKind.Win)) (cond bill (Some (Page.Notices NoticeKind.Bill)) (cond loss (Some (Page.Notices NoticeKind.Loss)) (cond books (Some Page.Books) (cond ledger (Some Page.Ledger) None)))))

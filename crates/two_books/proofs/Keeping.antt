@@ -1,4 +1,4 @@
--- What holds of a world holds behind each step, whichever way it ends.
+-- What holds of a world holds after each step, whichever way it ends.
 use Rattle.std.proofs.Common.{◌≡◌, ℕ, List, [], ◌++◌, length, refl, sym, ap, ◌∙◌, subst, All, Option, Some, None, Result, Ok, Err, arith}
 use Rattle.std.specs.Prelude.{IfSome}
 use Rattle.std.specs.List.{slice_get}

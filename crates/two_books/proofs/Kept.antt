@@ -56,7 +56,7 @@ module _ (line : PriceLine) (history : List Entry) (own : All (IsOwnEntry line.b
       all_tried ps (fates_behind (message_of p) fates) mid os now (All-tail (IsAsked history) p ps asked) (All-tail IsSendable p ps valid) rest
       (one_tried p (message_of p) refl (All-head IsSendable p ps valid) (All-head (IsAsked history) p ps asked) (first_fate fates) b o mid one kept)
 
-  -- what a pump that stopped had sent behind its front
+  -- what a pump that stopped had sent after its front
   pub cut_short : (fate : Fate) (back : List Post) (b : BidderState) (more : List Call) (now : BidderState) → All (IsAsked history) back → IsCutShort fate back b more now → Kept b → Kept now
   cut_short fate back b more now asked (inl (none, same)) kept = subst Kept (sym same) kept
   cut_short fate back b more now asked (inr (p, ps, c, is, message, one, valid, heard, stops)) kept =

@@ -1,4 +1,4 @@
--- A bill that stands in a history stands in a longer one, at the same place.
+-- A bill that is in a history is in a longer one, at the same place.
 use Rattle.std.proofs.Common.{◌≡◌, ℕ, List, ◌++◌, Some, sym, subst, All}
 use Rattle.std.specs.List.{slice_get}
 use Rattle.std.proofs.lemmas.List.Elements.{All-weaker}

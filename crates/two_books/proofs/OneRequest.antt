@@ -1,4 +1,4 @@
--- The bytes of a call are one request, a GET of its target, and nothing stands behind it.
+-- The bytes of a call are one request, a GET of its target, and nothing comes after it.
 use Rattle.std.proofs.Common.{◌≡◌, ◌≢◌, ◌⊎◌, ℕ, ◌+◌, List, [], ◌∷◌, ◌++◌, length, refl, sym, ap, ◌∙◌, subst, arith, append_assoc, append-nil, length-append, Bool, true, false, All, inl, inr}
 use Rattle.std.specs.Prelude.{codes, decimal, IsTrue, ◌||◌, ◌==◌}
 use Rattle.std.specs.List.{flat_map}
@@ -119,7 +119,7 @@ whole_head a b c d bytes head rest full_a full_b full_c lines are h =
 
 -- ---- one method and one target
 
--- what stands before the first such byte is cut in one way
+-- what comes before the first such byte is cut in one way
 cut_at : (s : ℕ) (a b p q : List ℕ) → All (λ x. x ≢ s) a → All (λ x. x ≢ s) b → a ++ s ∷ p ≡ b ++ s ∷ q → (a ≡ b) × (p ≡ q)
 cut_at s [] [] p q ones twos e = (refl, cc)
 cut_at s [] (y ∷ b) p q ones twos e = let h : s ≡ y = cc in absurd (All-head (λ x. x ≢ s) y b twos (sym h))
@@ -202,7 +202,7 @@ empty_tail : (xs ys : List ℕ) → [] ≡ xs ++ ys → ys ≡ []
 empty_tail [] ys e = sym e
 empty_tail (x ∷ xs) ys e = absurd (cc)
 
--- no body stands behind the last byte, and nothing behind it
+-- no body comes after the last byte, and nothing after it
 none_behind : (limit : ℕ) (body : Body) (bytes rest : List ℕ) → IsBodyThen limit body [] bytes rest → rest ≡ []
 none_behind limit Body.Absent bytes rest is = is.1
 none_behind limit (Body.Sized n) bytes rest is = empty_tail bytes rest is.1
@@ -212,7 +212,7 @@ none_behind limit Body.Chunked bytes rest is =
     empty_tail is.trailer rest (sym behind ∙ is.behind_is)
 none_behind limit Body.ToEnd bytes rest is = is.1
 
--- the request that a call's bytes begin with is a GET of its target, and nothing stands behind it
+-- the request that a call's bytes begin with is a GET of its target, and nothing comes after it
 one_request : (limit : ℕ) (host : List ℕ) (port : ℕ) (target : List ℕ) (m : Request) (rest : List ℕ) → IsClean host target
     → IsRequestThen limit (request_for host port target) m rest → IsGet target m × (rest ≡ [])
 unfolding print_request

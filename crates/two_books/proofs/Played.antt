@@ -16,7 +16,7 @@ use Rattle.two_books.specs.Worlds.{IsSendable, message_of}
 use Rattle.two_books.specs.declared.replay.Reply.{Reply}
 use Rattle.two_books.specs.declared.step.Fate.{Fate}
 
--- the fate behind the first is the next
+-- the fate after the first is the next
 pub next_fate : (fates : List Fate) (n : ℕ) → get_or fates (suc n) Fate.Through ≡ get_or (drop 1 fates) n Fate.Through
 next_fate [] zero = refl
 next_fate [] (suc n) = refl
@@ -181,7 +181,7 @@ pub plays_some : (url : List ℕ) (c : Call) (fate : Fate) (r : Result (Unit {0}
 plays_some url c fate r sent sent_now plan plan_now b now is valid sends =
     subst (λ (o : Option Call). PlaysPost url o fate r sent sent_now plan plan_now b now) is (sends, inr valid)
 
--- nothing was sent for want of memory
+-- nothing was sent for lack of memory
 pub plays_nothing : (url : List ℕ) (o : Option Call) (fate : Fate) (sent : List Call) (plan : List Reply) (b : BidderState) (wanting : OutOfMemory) → PlaysPost url o fate (Err wanting) sent sent plan plan b b
 plays_nothing url None fate sent plan b wanting = (refl, refl, refl)
 plays_nothing url (Some c) fate sent plan b wanting = ((refl, inl (refl, refl)), inl refl)

@@ -102,7 +102,7 @@ pumped fates e mid now messages messages_now plan b bidder done follows plays pu
       campaigns = pumps.campaigns ∙ follows.campaigns;
     }
 
--- ---- for want of memory
+-- ---- for lack of memory
 
 none_left : (ps : List Post) → ps ≡ left_of ps []
 none_left [] = refl

@@ -127,7 +127,7 @@ all_among : (ps : List Post) → All (λ p. Among p ps) ps
 all_among [] = All-nil (λ p. Among p [])
 all_among (p ∷ ps) = All-cons (λ q. Among q (p ∷ ps)) p ps (inl refl) (All-weaker (λ q. Among q ps) (λ q. Among q (p ∷ ps)) (λ q among. inr among) ps (all_among ps))
 
--- what was settled stays so behind a pump, and what came due is settled
+-- what was settled stays so after a pump, and what came due is settled
 pub settled_on : (line : PriceLine) (old_posts pending next pending_now : List Post) (given given_now : ℕ) (b now : BidderState)
     → ((p : Post) → Among p (pending ++ next) → IsSettled line pending_now given_now now.rows p) → (0 < given → 0 < given_now) → Grows b now
     → All (IsSettled line pending given b.rows) old_posts → All (IsSettled line pending_now given_now now.rows) (old_posts ++ next)

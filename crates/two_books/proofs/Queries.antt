@@ -68,11 +68,11 @@ letter_a name v = ap (λ t. bytes_eq t name) (plain_letter 97 refl (λ e. absurd
 pub letter_p : (name v : List ℕ) → has_name name (112 ∷ [], v) ≡ bytes_eq (112 ∷ []) name
 letter_p name v = ap (λ t. bytes_eq t name) (plain_letter 112 refl (λ e. absurd (omega arith)))
 
--- text that stands escaped is read as it was, and so is plain text
+-- text that is escaped is read as it was, and so is plain text
 pub escaped_text_read : (t : List ℕ) → All IsByte t → IsUtf8 t → decoded (escaped t) ≡ t
 escaped_text_read t bytes text = ap utf8_lossy (decoded_again t bytes) ∙ utf8_lossy-IsUtf8 t text
 
--- the value of a pair that stands first, and of one behind another
+-- the value of a pair that comes first, and of one after another
 pub value_first : (name : List ℕ) (p : List ℕ × List ℕ) (more : List (List ℕ × List ℕ)) → has_name name p ≡ true
     → option_map (λ (x : List ℕ × List ℕ). decoded x.1) (find (has_name name) (p ∷ more)) ≡ Some (decoded p.1)
 value_first name p more named = rw named refl

@@ -1,4 +1,4 @@
--- What is pending and what was sent are posts of the history, behind each step.
+-- What is pending and what was sent are posts of the history, after each step.
 use Rattle.std.proofs.Common.{◌≡◌, ℕ, List, [], ◌∷◌, ◌++◌, length, take, drop, Bool, true, false, cond, refl, sym, ap, ◌∙◌, subst, append_assoc, append-nil, Option, Some, None, Result, Ok, Err, inl, inr, All}
 use Rattle.std.specs.List.{cons_option, filter_map, slice_get}
 use Rattle.std.proofs.lemmas.List.{take-append-drop}
@@ -129,7 +129,7 @@ noticed : (auction : Option (List ℕ)) (c : List ℕ → DayCall) (old new : Wo
 noticed None c old new at are = grown [] old new (ap (λ (e : ExchangeState). e.day.history) at.exchange ∙ sym (append-nil old.exchange.day.history)) (ap (λ (e : ExchangeState). e.outbox.pending) at.exchange) at.messages are
 noticed (Some auction) c old new at are = called (reply old.exchange.day.terms old.exchange.day.history (c auction)).entry old new (record { exchange = at.exchange.has; messages = at.messages; bidder = at.bidder }) are
 
--- behind each step that was taken
+-- after each step that was taken
 pub takes_all : (s : Step) (old new : WorldState) → AreOfHistory old → Takes s old new → AreOfHistory new
 takes_all (Step.Ask request now) old new are (answer, reads, at) = called _ old new (record { exchange = at.exchange.has; messages = at.messages; bidder = at.bidder }) are
 takes_all (Step.Notice kind n) old new are at = noticed (auction_of old.exchange.day.history n) _ old new at are
@@ -151,7 +151,7 @@ takes_all Step.RestartExchange old new are at =
     }
 takes_all Step.RestartBidder old new are same = same_world old new same are
 
--- ---- behind each step that stopped for want of memory
+-- ---- after each step that stopped for lack of memory
 
 pub some_due : (n : ℕ) (e : ExchangeState) → All (IsAsked e.day.history) e.outbox.pending → All (IsAsked e.day.history) (e.outbox.pending ++ next_posts n e)
 some_due n e pending = All-append (IsAsked e.day.history) e.outbox.pending (next_posts n e) pending (next_asked n e)

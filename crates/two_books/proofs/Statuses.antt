@@ -31,13 +31,13 @@ three (x ∷ y ∷ []) a b c xs ys n e = absurd (omega (arith, n))
 three (x ∷ y ∷ z ∷ []) a b c xs ys n e = cc
 three (x ∷ y ∷ z ∷ w ∷ d) a b c xs ys n e = absurd (omega (arith, n))
 
--- the digits behind the version
+-- the digits after the version
 behind_version : (minor a b c : ℕ) (d xs ys : List ℕ) → length d ≡ 3 → print_version minor ++ (32 ∷ (d ++ xs)) ≡ codes "HTTP/1.1 " ++ (a ∷ b ∷ c ∷ ys) → d ≡ a ∷ b ∷ c ∷ []
 behind_version minor a b c d xs ys n e =
     let rest : d ++ xs ≡ a ∷ b ∷ c ∷ ys = cc in
     three d a b c xs ys n rest
 
--- no empty line stands before them
+-- no empty line comes before them
 no_blank : (blank : List LineEnd) (minor a b c : ℕ) (d xs ys : List ℕ) → length d ≡ 3 → print_blank blank ++ (print_version minor ++ (32 ∷ (d ++ xs))) ≡ codes "HTTP/1.1 " ++ (a ∷ b ∷ c ∷ ys) → d ≡ a ∷ b ∷ c ∷ []
 no_blank [] minor a b c d xs ys n e = behind_version minor a b c d xs ys n e
 no_blank (LineEnd.crlf ∷ blank) minor a b c d xs ys n e = absurd (cc)

@@ -27,7 +27,7 @@ pub ask_step : (request : BidRequest) (answer : Option BidAnswer) (now : ℕ) (r
 ask_step request answer now (Ok done) e e_now ms b reads did kept = (answer, reads, record { exchange = did; messages = refl; bidder = refl })
 ask_step request answer now (Err wanting) e e_now ms b reads did kept = record { exchange = kept; messages = refl; bidder = refl }
 
--- the answer couldn't be read for want of memory
+-- the answer couldn't be read for lack of memory
 pub ask_unread : (request : BidRequest) (now : ℕ) (wanting : OutOfMemory) (w : WorldState) → StepsTo (Step.Ask request now) (Err wanting) w w
 ask_unread request now wanting w = record { exchange = same_exchange w.exchange; messages = refl; bidder = refl }
 

@@ -33,7 +33,7 @@ differs test c fails b passes is = true≢false (sym passes ∙ (ap test is ∙ 
 all_differ : (test : ℕ → Bool) (c : ℕ) → test c ≡ false → (xs : List ℕ) → All (λ b. test b ≡ true) xs → All (λ b. b ≢ c) xs
 all_differ test c fails xs all = All-weaker (λ b. test b ≡ true) (λ b. b ≢ c) (differs test c fails) xs all
 
--- the query's bytes behind its question mark
+-- the query's bytes after its question mark
 query_differs : (c : ℕ) → 63 ≢ c → is_query_byte c ≡ false → (kind : SchemeType) (q : Option (List ℕ)) → IfSome q (All (IsKept (query_set kind))) → All (λ b. b ≢ c) (query_part q)
 query_differs c mark fails kind None kept = All-nil (λ b. b ≢ c)
 query_differs c mark fails kind (Some q) kept =

@@ -1,4 +1,4 @@
--- Each post of a history tells of a win, of the bill at its place, or of a loss.
+-- Each post of a history says of a win, of the bill at its place, or of a loss.
 use Rattle.std.proofs.Common.{◌≡◌, ℕ, zero, suc, List, [], ◌∷◌, ◌++◌, length, Bool, true, false, cond, refl, sym, ap, ◌∙◌, subst, append_assoc, All, Option, Some, None, inl, inr, ◌==◌}
 use Rattle.std.specs.Prelude.{slice_get, unwrap_or}
 use Rattle.std.specs.List.{flat_map, zip}
@@ -107,12 +107,12 @@ module _ (base : List ℕ) (prices : ℕ) where
           post_told (Tells base prices history) place PostKind.Lurl (url_expansion (values_of b None loss) b.texts.lurl)
           (inr (inr (record { bid = b; id = id; loss = loss; made = made; auction = own.auction; url = ap (url_expansion (values_of b None loss)) is })))
 
-  -- what a notice tells of its award
+  -- what a notice says of its award
   award_told : (P : Post → Type 0) (post : Bid → List Post) (o : Option Bid) → ((b : Bid) → o ≡ Some b → All P (post b)) → All P (option_map_or post o [])
   award_told P post None h = All-nil P
   award_told P post (Some b) h = h b refl
 
-  -- what an ask tells of the bids that it lost
+  -- what an ask says of the bids that it lost
   lost_told : (history : List Entry) (place : ℕ) (a : Ask) (k : Kept) → IsOwnAsk base prices a → AreOwnTexts base prices k → All (Tells base prices history) (lost_post place a k)
   lost_told history place a k own texts = offered (slice_get a.offers k.bid)
     where
@@ -133,7 +133,7 @@ module _ (base : List ℕ) (prices : ℕ) where
       All-append (Tells base prices history) (lost_post place a k) (flat_map (lost_post place a) kept) (lost_told history place a k own (All-head (AreOwnTexts base prices) k kept all))
       (lost_all history place a kept own (All-tail (AreOwnTexts base prices) k kept all))
 
-  -- what a moment tells of the awards that it ends
+  -- what a moment says of the awards that it ends
   due_told : (history : List Entry) (place now : ℕ) (b : Bid) (w : Award) → IsOwnBid base prices b → All (Tells base prices history) (due_post place now (b, w))
   due_told history place now b w own = by (is_due now w)
     where

@@ -1,4 +1,4 @@
--- The notice that a query tells is the one that was put into it.
+-- The notice that a query reports is the one that was put into it.
 use Rattle.std.proofs.Common.{append-nil, ◌≡◌, ℕ, ◌≤◌, List, ◌∷◌, ◌++◌, nat_le, All, length, refl, ap, ◌∙◌, true, Some, None, Ok}
 use Rattle.std.specs.Prelude.{codes, IsUtf8}
 use Rattle.std.proofs.lemmas.Bool.{and_from, cond-true, le-leb}

@@ -1,4 +1,4 @@
--- The query of a URL is what stands behind its first question mark.
+-- The query of a URL is what comes after its first question mark.
 use Rattle.std.proofs.Common.{suc, ◌≡◌, ⊎_elim, ℕ, ◌+◌, ◌-◌, List, [], ◌∷◌, ◌++◌, ◌&&◌, All, length, take, drop, refl, sym, ap, ap₂, subst, ◌∙◌, arith, Bool, true, false, not, cond, Option, Some, None, Ok, Err, append_assoc}
 use Rattle.std.proofs.lemmas.List.{reverse-append, take_all}
 use Rattle.std.specs.Prelude.{reverse, filter, unwrap_or}
@@ -72,7 +72,7 @@ url_has_query input body query parts text no_fragment first e =
     by_scheme (split_scheme body) body query parts refl
     (ap₂ (λ (q : List ℕ × Option (List ℕ)) (h : List ℕ × Option (List ℕ)). parse_by_scheme (split_scheme q.0) None q.0 q.1 h.1) (sym question) (sym hash) ∙ e)
 
--- trimming the front of a text with a visible byte within takes from what stands before it alone
+-- trimming the front of a text with a visible byte within takes from what comes before it alone
 pub record Behind (P : ℕ → Type 0) (tail result : List ℕ) : Type 0 where
   pub front : List ℕ
   pub is : result ≡ front ++ tail

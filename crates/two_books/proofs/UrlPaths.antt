@@ -29,7 +29,7 @@ EndsIn tail xs = (front : List ℕ) × (xs ≡ front ++ tail)
 
 -- ---- the last segment
 
--- what is behind the last slash is the last segment that is pushed
+-- what is after the last slash is the last segment that is pushed
 record LastIs (kind : SchemeType) (s result : List ℕ) : Type 0 where
   pub before : List ℕ
   pub pushed : result ≡ push_segment kind before s true
@@ -47,7 +47,7 @@ last_segment kind path segment (b ∷ xs) s whole slash =
     (λ e. subst (LastIs kind s) (sym (cond-false (is_slash kind b) (parse_segments kind (push_segment kind path segment false) [] (xs ++ 47 ∷ s)) (parse_segments kind path (segment ++ b ∷ []) (xs ++ 47 ∷ s)) e)) (last_segment kind path (segment ++ b ∷ []) xs s whole slash))
     (cases_Bool (is_slash kind b))
 
--- a segment of letters that is pushed last stands at the end of the path, behind a slash
+-- a segment of letters that is pushed last is at the end of the path, after a slash
 abbrev pub IsWord : List ℕ → Type 0
 IsWord s = (path : List ℕ) → push_segment SchemeType.SpecialNotFile path s true ≡ path ++ 47 ∷ s
 
@@ -66,9 +66,9 @@ word_loss path = refl
 ends_pushed : (s result : List ℕ) → IsWord s → LastIs SchemeType.SpecialNotFile s result → EndsIn (47 ∷ s) result
 ends_pushed s result word last = (last.before, last.pushed ∙ word last.before)
 
--- ---- the path behind the host
+-- ---- the path after the host
 
--- a text that is cut at its first slash, where a slash stands before its last segment
+-- a text that is cut at its first slash, where a slash comes before its last segment
 drop_to : (kind : SchemeType) (xs s : List ℕ) → is_slash kind 47 ≡ true → EndsIn (47 ∷ s) (drop (segment_len kind (xs ++ 47 ∷ s)) (xs ++ 47 ∷ s))
 drop_to kind [] s slash = ([], ap (λ t. drop (cond (not t) (1 + segment_len kind s) 0) (47 ∷ s)) slash)
 drop_to kind (b ∷ xs) s slash = by (is_slash kind b) refl (drop_to kind xs s slash)
@@ -84,7 +84,7 @@ and_false : (b : Bool) → (b && false) ≡ false
 and_false true = refl
 and_false false = refl
 
--- a special URL's path begins behind the first slash, or with the first byte
+-- a special URL's path begins after the first slash, or with the first byte
 abbrev begun : List ℕ → List ℕ
 begun bytes =
     cond (is_slash SchemeType.SpecialNotFile (slice_index bytes 0)) (parse_path SchemeType.SpecialNotFile [] (drop 1 bytes)) (parse_path SchemeType.SpecialNotFile [] bytes)
@@ -110,9 +110,9 @@ path_ends s bytes word whole ends =
     by [] = ends_pushed s _ word (last_alone kind [] s whole)
     by (x ∷ xs) = started x xs (is_slash kind x) refl
 
--- ---- what stands behind the slashes of the scheme
+-- ---- what comes after the slashes of the scheme
 
--- trimming the front of a text with a byte that stays takes from what stands before it alone
+-- trimming the front of a text with a byte that stays takes from what comes before it alone
 trimmed : (test : ℕ → Bool) (front : List ℕ) (c : ℕ) (tail : List ℕ) → test c ≡ false → EndsIn (c ∷ tail) (trim_start test (front ++ c ∷ tail))
 trimmed test [] c tail stop = ([], ap (λ b. drop (cond b (1 + prefix_len test tail) 0) (c ∷ tail)) stop)
 trimmed test (b ∷ front) c tail stop = by (test b) (trimmed test front c tail stop)
@@ -248,7 +248,7 @@ rest_ends front tail scheme rest none e =
     same : (a b : ℕ) → (a == b) ≡ true → a ≡ b
     same a b e = grind (arith, nat_tests)
 
--- ---- a word of letters behind `/n/`, and a query
+-- ---- a word of letters after `/n/`, and a query
 
 abbrev pub is_letter : ℕ → Bool
 is_letter b = leb 97 b && leb b 122

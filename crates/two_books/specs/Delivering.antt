@@ -39,11 +39,11 @@ pub record IsCarried (ms : List Request) (old new : BidderState) : Type 0 where
 abbrev pub IsDelivered : List ℕ → BidderState → BidderState → Type 0
 IsDelivered bytes old new = (ms : List Request) × IsHeard bytes ms × IsCarried ms old new
 
--- it was served some first of its requests, for want of memory
+-- it was served some first of its requests, for lack of memory
 abbrev pub StopsDelivering : List ℕ → BidderState → BidderState → Type 0
 StopsDelivering bytes old new = (ms : List Request) × BeginWith bytes ms × IsCarried ms old new
 
--- what the bidder replies to the requests of a message, and to what is refused behind them
+-- what the bidder replies to the requests of a message, and to what is refused after them
 abbrev pub IsReplied : List ℕ → BidderState → List ℕ → BidderState → Type 0
 IsReplied bytes old reply new =
     (ms : List Request) × (out : List ℕ) × IsHeard bytes ms × Replies BidderAnswers old ms out new

@@ -1,4 +1,4 @@
--- What holds of a world at every moment, whatever steps it took: the invariant of its type. Private: a caller is told what
+-- What holds of a world at every moment, whatever steps it took: the invariant of its type. Private: a caller is reported what
 -- follows of it, `BillsAgree`. This project's own.
 use Rattle.std.specs.Prelude.{◌≡◌, ◌⊎◌, ℕ, ◌≤◌, List, [], ◌∷◌, ◌++◌, length, All, true, Some, IfSome}
 use Rattle.adx_units.specs.declared.price.TheConstants.{PRICE_LIMIT}
@@ -56,13 +56,13 @@ pub record AreOfHistory (w : WorldState) : Type 0 where
   pub pending : All (IsAsked w.exchange.day.history) w.exchange.outbox.pending
   pub messages : All (IsSent w.exchange.day.history) w.messages
 
--- a counted bill stands in the history, under the bid's id
+-- a counted bill is in the history, under the bid's id
 pub record IsBilled (base : List ℕ) (history : List Entry) (r : LedgerRow) : Type 0 where
   pub place : ℕ
   pub at : IsBillAt history place r
   pub url : (IsBillAt.bid at).texts.burl ≡ notice_url base r.bid NoticeKind.Bill
 
--- what was counted stands in the history, each notice once
+-- what was counted is in the history, each notice once
 pub record IsLedgerOf (base : List ℕ) (history : List Entry) (rows : List LedgerRow) : Type 0 where
   pub once : AreOnce rows
   pub billed : All (IsBilled base history) (bills_in rows)

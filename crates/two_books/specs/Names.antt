@@ -3,7 +3,7 @@ use Rattle.std.specs.Prelude.{ℕ, ◌<◌, ◌≤◌, List, length, All, IsUtf8
 use Rattle.adx_units.specs.declared.id.TheConstants.{LONGEST_ID}
 use Rattle.two_books.specs.declared.step.Step.{Step}
 
--- an auction's id, which is told back in the notices: a text of 1 to 128 bytes
+-- an auction's id, which comes back in the notices: a text of 1 to 128 bytes
 pub record IsName (text : List ℕ) : Type 0 where
   pub utf8 : IsUtf8 text
   pub bytes : All (λ b. b < 256) text

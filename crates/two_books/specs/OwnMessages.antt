@@ -24,9 +24,9 @@ use Rattle.outbox.specs.Calls.{IsValidAs, call_of, target_of}
 use Rattle.outbox.specs.declared.calling.Call.{Call}
 use Rattle.two_books.specs.OwnNotices.{HasPrice, IsUnmarked, told_price}
 
--- the notice that a request tells: one that is got at a page of notices, and whose query tells it
--- Example: a GET of `/n/bill?a=a1&b=0-0&p=2.5` tells the bill of the bid `0-0` of auction `a1` at 2,500,000 units,
--- and a POST of it tells none.
+-- the notice that a request reports: one that is got at a page of notices, and whose query reports it
+-- Example: a GET of `/n/bill?a=a1&b=0-0&p=2.5` reports the bill of the bid `0-0` of auction `a1` at 2,500,000 units,
+-- and a POST of it reports none.
 abbrev pub notice_at : Option Page → Bool → List ℕ → Option LedgerRow
 notice_at None got query = None
 notice_at (Some Page.Offers) got query = None
@@ -49,7 +49,7 @@ pub record IsGet (target : List ℕ) (m : Request) : Type 0 where
   pub target_is : m.head.target ≡ target
 
 -- The bytes of a call of a valid URL begin with no request, where they are too long for one, or with just one, a GET of the
--- URL's path and query: no second request stands behind it.
+-- URL's path and query: no second request comes after it.
 abbrev pub CallsAreOneRequest : Type 0
 CallsAreOneRequest =
     (url : List ℕ) (c : Call) (ms : List Request)

@@ -18,18 +18,18 @@ use Rattle.bidder_core.specs.BidIds.{is_made}
 use Rattle.bidder_core.specs.declared.price_line.TheConstants.{MOST_PRICES}
 use Rattle.bidder_http.specs.Notices.{notice_in}
 
--- a value as it stands in a URL
+-- a value as it is in a URL
 -- Example: a bill of the bid `0-0` of auction `a 1` at 2,500,000 units has the query `a=a%201&b=0-0&p=2.5`.
 abbrev pub escaped : List ℕ → List ℕ
 escaped text = flat_map url_byte text
 
--- the path of a notice behind the bidder's base
+-- the path of a notice after the bidder's base
 abbrev pub page_path : NoticeKind → List ℕ
 page_path NoticeKind.Win = codes "/n/win"
 page_path NoticeKind.Bill = codes "/n/bill"
 page_path NoticeKind.Loss = codes "/n/loss"
 
--- what a notice tells of the price; a loss tells none
+-- what a notice says of the price; a loss reports none
 abbrev pub price_pair : NoticeKind → ℕ → List ℕ
 price_pair NoticeKind.Win price = codes "&p=" ++ escaped (price_text price)
 price_pair NoticeKind.Bill price = codes "&p=" ++ escaped (price_text price)
@@ -39,7 +39,7 @@ price_pair NoticeKind.Loss price = []
 abbrev pub notice_query : NoticeKind → List ℕ → List ℕ → ℕ → List ℕ
 notice_query kind auction bid price = codes "a=" ++ (escaped auction ++ (codes "&b=" ++ (bid ++ price_pair kind price)))
 
--- the price that a notice of that kind tells: a loss tells none, which counts as 0
+-- the price that a notice of that kind reports: a loss reports none, which counts as 0
 abbrev pub told_price : NoticeKind → ℕ → ℕ
 told_price NoticeKind.Win price = price
 told_price NoticeKind.Bill price = price
@@ -64,7 +64,7 @@ TemplatesBecomeUrls =
     → url_expansion values (notice_url base bid kind)
     ≡ url_expansion values base ++ (page_path kind ++ 63 ∷ notice_query kind values.auction.now bid price)
 
--- A URL with that query behind a front without `?` and `#` has just that query, whatever else the parser makes of it.
+-- A URL with that query after a front without `?` and `#` has just that query, whatever else the parser makes of it.
 abbrev pub UrlsKeepQueries : Type 0
 UrlsKeepQueries =
     (front : List ℕ) (kind : NoticeKind) (auction bid : List ℕ) (price : ℕ) (parts : Parts)

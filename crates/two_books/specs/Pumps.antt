@@ -26,7 +26,7 @@ abbrev pub AnswersAll : List Reply → Result Unit OutOfMemory → OutboxState �
 AnswersAll replies (Ok done) old new = (r : Report) × PumpsOver (map planned_of replies) (Ok r) old new
 AnswersAll replies (Err wanting) old new = PumpsOver (map planned_of replies) (Err wanting) old new
 
--- the pending posts were tried so; the link has no more failures than its count of faults can tell apart
+-- the pending posts were tried so; the link has no more failures than its count of faults can distinguish
 pub record PumpsPlan (replies : List Reply) (result : Result Unit OutOfMemory) (old new : ExchangeState) : Type 0 where
   pub day : new.day ≡ old.day
   pub campaigns : new.campaigns ≡ old.campaigns

@@ -19,7 +19,7 @@ abbrev pub planned_of : Reply → Planned
 planned_of Reply.Lost = unanswered
 planned_of (Reply.Came bytes) = replying bytes
 
--- a start behind the last of the list answers no byte
+-- a start after the last of the list answers no byte
 abbrev pub silent : Planned
 silent = replying []
 

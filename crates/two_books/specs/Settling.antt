@@ -35,7 +35,7 @@ burls kept = map (λ (k : Kept). k.burl) kept
 abbrev pub IsApartEntry : Entry → Type 0
 IsApartEntry e = IfSome (asked e) (λ (a : Ask). Distinct AreApart (burls a.kept))
 
--- a post that tells a bill of a bid of the bidder's own
+-- a post that reports a bill of a bid of the bidder's own
 pub record NamesBill (line : PriceLine) (p : Post) : Type 0 where
   pub bid : Bid
   pub id : List ℕ
@@ -44,7 +44,7 @@ pub record NamesBill (line : PriceLine) (p : Post) : Type 0 where
   pub charge : IsCharge bid
   pub url : p.url ≡ url_expansion (values_of bid (Some bid.charge) 0) (notice_url line.base id NoticeKind.Bill)
 
--- a bill that the post tells was counted
+-- a bill that the post reports was counted
 abbrev pub IsCounted : PriceLine → List LedgerRow → Post → Type 0
 IsCounted line rows p = (t : NamesBill line p) → was_counted NoticeKind.Bill (NamesBill.bid t).auction (NamesBill.id t) rows ≡ true
 

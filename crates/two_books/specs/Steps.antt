@@ -54,7 +54,7 @@ Befalls Fate.Through bytes b o now =
     (reply : List ℕ) × IsDelivered bytes b now × IsReplied bytes b reply now
     × (o ≢ Outcome.Failed) × ComesTo ANSWER_LIMIT reply o
 
--- the first of the fates; a message behind the last of them goes through
+-- the first of the fates; a message after the last of them goes through
 abbrev pub first_fate : List Fate → Fate
 first_fate fates = get_or fates 0 Fate.Through
 
@@ -63,7 +63,7 @@ abbrev pub TriesPost : Option Call → Fate → BidderState → Outcome → Bidd
 TriesPost None fate b o now = (o ≡ Outcome.Undeliverable) × (now ≡ b)
 TriesPost (Some c) fate b o now = Befalls fate c.request b o now
 
--- the fates of the messages behind it; a post that can't be sent takes none
+-- the fates of the messages after it; a post that can't be sent takes none
 abbrev pub fates_behind : Option Call → List Fate → List Fate
 fates_behind None fates = fates
 fates_behind (Some c) fates = drop 1 fates
@@ -93,7 +93,7 @@ pub record IsPumped (fates : List Fate) (old new : WorldState) : Type 0 where
   pub day : new.exchange.day ≡ old.exchange.day
   pub campaigns : new.exchange.campaigns ≡ old.exchange.campaigns
 
--- what a pump that stopped had sent behind these posts: nothing, or the message of the next of them, of which the bidder
+-- what a pump that stopped had sent after these posts: nothing, or the message of the next of them, of which the bidder
 -- may have heard some first requests unless it was to be held
 abbrev pub IsCutShort : Fate → List Post → BidderState → List Call → BidderState → Type 0
 IsCutShort fate back b more now =
@@ -105,8 +105,8 @@ IsCutShort fate back b more now =
 abbrev pub IsAsGiven : Fate → Fate → Type 0
 IsAsGiven given fate = (fate ≡ given) ⊎ ((given ≡ Fate.Through) × (fate ≡ Fate.Mute))
 
--- A pump that stopped for want of memory: so many entries were followed, and a front of the posts was tried, with the fates
--- that were given, but for replies that are lost. What became of the first so many of them stands; all others stay pending.
+-- A pump that stopped for lack of memory: so many entries were followed, and a front of the posts was tried, with the fates
+-- that were given, but for replies that are lost. What became of the first so many of them is; all others stay pending.
 -- So a message that is to be held is never heard.
 pub record StopsPumping (given : List Fate) (old new : WorldState) : Type 0 where
   pub entries : ℕ
@@ -164,7 +164,7 @@ IsTimely (Step.Again n) = ⊤
 IsTimely Step.RestartExchange = ⊤
 IsTimely Step.RestartBidder = ⊤
 
--- what a step leaves that stops for want of memory
+-- what a step leaves that stops for lack of memory
 abbrev pub Stops : Step → WorldState → WorldState → Type 0
 Stops (Step.Ask request now) old new = AtExchange IsKept old new
 Stops (Step.Notice kind n) old new = AtExchange IsKept old new

@@ -1,4 +1,4 @@
--- Private, cited by lemmas alone: what a post of a history tells, where all bids are a bidder's own.
+-- Private, cited by lemmas alone: what a post of a history reports, where all bids are a bidder's own.
 use Rattle.std.specs.Prelude.{◌≡◌, ◌⊎◌, ℕ, List, Some, None, true, slice_get}
 use Rattle.bidder_core.specs.Answers.{notice_url}
 use Rattle.bidder_core.specs.BidIds.{is_made}
@@ -11,7 +11,7 @@ use Rattle.outbox.specs.declared.post.Post.{Post}
 use Rattle.two_books.specs.Holding.{IsCharge}
 use Rattle.two_books.specs.Names.{IsName}
 
--- it tells of a win, with the charge
+-- it says of a win, with the charge
 pub record TellsWin (base : List ℕ) (prices : ℕ) (p : Post) : Type 0 where
   pub bid : Bid
   pub id : List ℕ
@@ -20,7 +20,7 @@ pub record TellsWin (base : List ℕ) (prices : ℕ) (p : Post) : Type 0 where
   pub charge : IsCharge bid
   pub url : p.url ≡ url_expansion (values_of bid (Some bid.charge) 0) (notice_url base id NoticeKind.Win)
 
--- it tells of the bill at a place of the history
+-- it says of the bill at a place of the history
 pub record TellsBill (base : List ℕ) (prices : ℕ) (history : List Entry) (p : Post) : Type 0 where
   pub place : ℕ
   pub award : ℕ
@@ -34,7 +34,7 @@ pub record TellsBill (base : List ℕ) (prices : ℕ) (history : List Entry) (p 
   pub template : bid.texts.burl ≡ notice_url base id NoticeKind.Bill
   pub url : p.url ≡ url_expansion (values_of bid (Some bid.charge) 0) (notice_url base id NoticeKind.Bill)
 
--- it tells of a loss
+-- it says of a loss
 pub record TellsLoss (base : List ℕ) (prices : ℕ) (p : Post) : Type 0 where
   pub bid : Bid
   pub id : List ℕ

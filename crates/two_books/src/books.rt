@@ -85,14 +85,14 @@ impl Books {
         self.exchange.pending()
     }
 
-    /// How many posts couldn't be sent since the exchange's last restart. The count stands still at its last value.
+    /// How many posts couldn't be sent since the exchange's last restart. The count stays at its last value.
     pub(crate) fn undeliverable(&self) -> u32
         ensures { result ≡ self.now.exchange.outbox.undeliverable }
     {
         self.exchange.undeliverable()
     }
 
-    /// Takes a step. Where memory is wanting some first of what the step does is done.
+    /// Takes a step. Where memory is refused some first of what the step does is done.
     pub(crate) fn step(&mut self, step: &Step) -> Result<(), OutOfMemory>
         requires { IsTimely step.now }
         ensures does { StepsTo step.now result self.old self.new }
@@ -120,7 +120,7 @@ impl Books {
         ensures does { StepsTo (StepValue.Ask request.entry.now now) result self.old self.new }
         ensures named { IsName request.entry.now.id }
     {
-        // The request's id is a name, which its notices tell back.
+        // The request's id is a name, which its notices bring back.
         note_name(request.id.as_bytes());
         match answer_of(self.alloc, &self.bidder, request) {
             Ok(answer) => self.exchange.ask(request, answer, now),

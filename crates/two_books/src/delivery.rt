@@ -20,7 +20,7 @@ fn copy_of(alloc: Global, bytes: &[u8]) -> Result<Sequence<u8>, OutOfMemory>
     }
 }
 
-/// Whether a connection ended by what it brought, and not by want of memory.
+/// Whether a connection ended by what it brought, and not by lack of memory.
 fn is_whole(end: ConnEnd) -> bool
     ensures { result ≡ completes end }
 {
@@ -63,7 +63,7 @@ fn serve(
     }
 }
 
-/// Serves a message to the bidder over a connection of its own; its reply. Where memory is wanting the bidder may have
+/// Serves a message to the bidder over a connection of its own; its reply. Where memory is refused the bidder may have
 /// heard some of the requests in it.
 pub(crate) fn deliver(
     alloc: Global,

@@ -155,7 +155,7 @@ impl Exchange {
         }
     }
 
-    /// The exchange is told of an award, under its auction.
+    /// The exchange is given an award, under its auction.
     pub(crate) fn notice(&mut self, kind: NoticeKind, award: u32) -> Result<(), OutOfMemory>
         ensures called { OnOk result (IsNoticed (auction_in self.old.day.history award) (λ auction. notice_call kind auction award) self.old self.new) }
         ensures kept { OnErr result (IsKept self.old self.new) }
@@ -210,8 +210,7 @@ impl Exchange {
         self.outbox.pump(link)
     }
 
-    /// The exchange starts anew: it keeps its history, and its outbox begins again before the first entry. As before where
-    /// memory is wanting.
+    /// The exchange starts anew: it keeps its history, and its outbox begins again before the first entry. As before if memory is refused.
     pub(crate) fn restart(&mut self) -> Result<(), OutOfMemory>
         ensures restarted { OnOk result (IsRestarted self.old self.new) }
         ensures kept { OnErr result (self.new ≡ self.old) }

@@ -3,11 +3,11 @@
 //!
 //! A `World` goes from step to step: asks, notices, moments, changes of budgets, pumps whose messages are lost, delivered
 //! or delivered without their reply, late deliveries, and restarts of either side. Its contract says what each step does,
-//! also where memory is wanting; and that after every step each bill that the bidder counted is one of the exchange's,
+//! also if memory is refused; and that after every step each bill that the bidder counted is one of the exchange's,
 //! with the same auction and charge, and no two are the same. So the sum of the ledger's bills is at most the
 //! exchange's; where nothing of a bill is left over the two are equal; and where they are equal no bill is missing.
 //!
-//! Stands on `day_machine` for the day, on `outbox` for the posts, and on `bidder_http` for the bidder.
+//! Uses `day_machine` for the day, `outbox` for the posts, and `bidder_http` for the bidder.
 #![tactic(auto)]
 
 mod answering;

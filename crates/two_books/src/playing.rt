@@ -12,7 +12,7 @@ use bidder_core::Bidder;
 use outbox::{Call, Post, call_of};
 use std::alloc::Global;
 
-/// The fate in that place, from 0; what stands behind the last goes through.
+/// The fate in that place, from 0; what comes after the last goes through.
 fn fate_at(fates: &[Fate], place: usize) -> Fate
     ensures { result ≡ get_or fates.now place FateValue.Through }
 {
@@ -56,7 +56,7 @@ fn make_room(messages: &mut Vec<Call>, replies: &mut Vec<Reply>) -> Result<(), O
     Ok(())
 }
 
-/// Sends a message, and keeps what comes back of it. Where memory is wanting it may have been sent, and nothing kept.
+/// Sends a message, and keeps what comes back of it. Where memory is refused it may have been sent, and nothing kept.
 fn send(
     alloc: Global,
     bidder: &mut Bidder,
@@ -103,7 +103,7 @@ fn play(
     }
 }
 
-/// Sends the messages of posts, one after the other, each with the next fate. Where memory is wanting some first of them
+/// Sends the messages of posts, one after the other, each with the next fate. Where memory is refused some first of them
 /// were sent.
 pub(crate) fn play_all(
     alloc: Global,

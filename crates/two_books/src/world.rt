@@ -37,7 +37,7 @@ impl Model for World {
 }
 
 impl World {
-    /// A world before its first step: the exchange's roster has one bidder, which was told of nothing yet.
+    /// A world before its first step: the exchange's roster has one bidder, which heard of nothing yet.
     pub fn new(alloc: Global, roster: Roster, bidder: Bidder) -> Result<World, OutOfMemory>
         requires one { length roster.bidders ≡ 1 }
         requires none { bidder.rows ≡ [] }
@@ -77,14 +77,14 @@ impl World {
         self.books.pending()
     }
 
-    /// How many posts couldn't be sent since the exchange's last restart. The count stands still at its last value.
+    /// How many posts couldn't be sent since the exchange's last restart. The count stays at its last value.
     pub fn undeliverable(&self) -> u32
         ensures { result ≡ self.now.exchange.outbox.undeliverable }
     {
         self.books.undeliverable()
     }
 
-    /// Takes a step. Where memory is wanting some first of what the step does is done. Behind it, and so behind every list
+    /// Takes a step. Where memory is refused some first of what the step does is done. After it, and so after every list
     /// of steps, the bills of the bidder's ledger are bills of the exchange's history.
     pub fn step(&mut self, step: &Step) -> Result<(), OutOfMemory>
         requires { IsTimely step.now }

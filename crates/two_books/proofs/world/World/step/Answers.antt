@@ -1,4 +1,4 @@
--- What holds of a world holds behind each step.
+-- What holds of a world holds after each step.
 use Rattle.two_books.proofs.Equal.{each_bill, steps_both, sum_below, sums_equal}
 use Rattle.two_books.proofs.Agreeing.{bills_agree}
 use Rattle.two_books.proofs.world.World.step.Goals as goal
