@@ -1,5 +1,5 @@
 -- What a board that was published shows, and what a reader that was told of it has read.
-use Rattle.std.proofs.Common.{◌≡◌, ℕ, List, length, Bool, true, if◌then◌else◌, refl, sym, ap, ◌∙◌, arith}
+use Rattle.std.proofs.Common.{◌≡◌, ℕ, List, length, Bool, true, if◌then◌else◌, refl, subst, sym, ap, ◌∙◌, arith}
 use Rattle.std.proofs.lemmas.Bool.{le-leb}
 use mathlib.Core.List.{IsPrefix}
 use Rattle.logbook.specs.Pages.{Book}
