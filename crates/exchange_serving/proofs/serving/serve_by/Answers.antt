@@ -101,11 +101,9 @@ serve_all-requires-send-W g c κs within =
     ))) in
     of_arg 4 _ no _ w
 
-pub returns-in-Err : goal.returns-in-Err
-returns-in-Err g c =
+pub returns-in-Err-clause-left : goal.returns-in-Err-clause-left
+returns-in-Err-clause-left g c =
     let told = told_by g.A.Acceptor g.A.In.Source g.A.Out.Sink in
-    let t = starts g.A.Acceptor.faults g.A.Acceptor.is_over g.A.Acceptor.pairs (pair_by g.A.In.Source g.A.Out.Sink) c.args.acceptor g.J.DayNames.faults c.requires.faults c.requires.none in record {
-      left =
-          none_served g.L.Link g.J.DayNames.moment g.J.DayNames.roster g.J.DayNames.workers g.J.DayNames.first g.J.DayNames.faults (told c.args.acceptor) c.args.first
-          c.requires.first c.requires.is_first c.requires.out c.requires.turns t.0 t.1;
-    }
+    let t = starts g.A.Acceptor.faults g.A.Acceptor.is_over g.A.Acceptor.pairs (pair_by g.A.In.Source g.A.Out.Sink) c.args.acceptor g.J.DayNames.faults c.requires.faults c.requires.none in
+    none_served g.L.Link g.J.DayNames.moment g.J.DayNames.roster g.J.DayNames.workers g.J.DayNames.first g.J.DayNames.faults (told c.args.acceptor) c.args.first
+    c.requires.first c.requires.is_first c.requires.out c.requires.turns t.0 t.1
