@@ -291,6 +291,12 @@ module _ {L : Type 0} (l : links.Ghosts L) where
         tends = tends_none t.history entries t.before 0 0 mail mail (Ok (report_of [])) wanting (none_over mail) t.has;
       }
     where
+      none_given_up : (before : ℕ) → before ≡ given_up_with before []
+      none_given_up before = none before ((2 ^ 32 - 1) - before)
+        where
+          none : (a most : ℕ) → a ≡ a + min 0 most
+          none a most = omega arith
+
       none_over : (mail : Mail L) → GoesOver l 0 0 mail mail (Ok (report_of []))
       none_over mail = record {
         outcomes = [];
@@ -303,9 +309,3 @@ module _ {L : Type 0} (l : links.Ghosts L) where
         given_up = none_given_up mail.outbox.undeliverable;
         report = refl;
       }
-
-      none_given_up : (before : ℕ) → before ≡ given_up_with before []
-      none_given_up before = none before ((2 ^ 32 - 1) - before)
-        where
-          none : (a most : ℕ) → a ≡ a + min 0 most
-          none a most = omega arith

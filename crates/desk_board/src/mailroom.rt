@@ -70,6 +70,11 @@ fn gone(report: Report) -> usize {
     (report.delivered as usize).saturating_add(report.undeliverable as usize)
 }
 
+/// Whether so many posts are more than a piece, of which some went: then the next piece may be tried at once.
+fn may_go_on(pending: usize, gone: usize) -> bool {
+    PIECE < pending && 0 < gone
+}
+
 /// An outbox and its link, with a pass of the desk whose history it follows. It stands behind a lock, so all that is known of
 /// it is what it keeps: each post of what was followed is pending, or was settled by a try over the link.
 #[derive(Drop)]
@@ -136,7 +141,7 @@ impl<D: Disk + Drop, L: Link + Drop, J: MailNames<L>> Mailroom<D, L, J> {
                     Ok(report) => {
                         let gone = gone(report);
                         self.turn = self.turn.behind(piece, gone, now);
-                        Ok(PIECE < pending && 0 < gone)
+                        Ok(may_go_on(pending, gone))
                     }
                     Err(wanting) => Err(wanting),
                 }

@@ -12,17 +12,24 @@ invariant_of-self g c =
     (c.as_slice.ensures.value ∙ (c.in-Ok.ensures.copies ∙ ap (λ (n : ℕ). drop n p.seen) c.followed-followed.ensures)) c.recall.ensures.right c.tend.ensures
     (looked g.L.Link c.args.desk.now.fixed first link s.mail s.pass p c.copy_since.ensures.turn c.self.invariant)
 
+pub invariant_of-self-in-Err-tend : goal.invariant_of-self-in-Err-tend
+invariant_of-self-in-Err-tend g c =
+    let s = c.self.inside in let p = c.copy_since.new.pass in let first = g.J.MailNames.first in let link = g.J.MailNames.link in
+    tended_still g.L.Link c.args.desk.now.fixed first link c.as_slice.result.now c.piece-piece.result.first c.piece-piece.result.most s.mail c.tend.new.self p c.tend.result
+    (c.as_slice.ensures.value ∙ (c.in-Ok.ensures.copies ∙ ap (λ (n : ℕ). drop n p.seen) c.followed-followed.ensures)) c.recall.ensures.right c.tend.ensures
+    (looked g.L.Link c.args.desk.now.fixed first link s.mail s.pass p c.copy_since.ensures.turn c.self.invariant)
+
 pub returns-in-Ok-tend-clause-tended : goal.returns-in-Ok-tend-clause-tended
 returns-in-Ok-tend-clause-tended g c =
     let s = c.self.inside in let p = c.copy_since.new.pass in let first = g.J.MailNames.first in let link = g.J.MailNames.link in
-    subst (λ (m : Mail g.row.L.Denot × DeskPass). IsTended g.L.Link link p.seen m.0 c.tend.new.self (Ok _)) c.self.view_is
-    (told_else g.L.Link link p.seen s.mail c.tend.new.self c.tend.result (Ok _) (subst (λ r. OnErr r ⊥) (sym c.in-Ok-tend.is) tt)
+    subst (λ (m : Mail g.row.L.Denot × DeskPass). IsTended g.L.Link link p.seen m.0 c.tend.new.self (Ok c.may_go_on.result)) c.self.view_is
+    (told_else g.L.Link link p.seen s.mail c.tend.new.self c.tend.result (Ok c.may_go_on.result) (subst (λ r. OnErr r ⊥) (sym c.in-Ok-tend.is) tt)
     (is_tended g.L.Link c.args.desk.now.fixed first link c.as_slice.result.now c.piece-piece.result.first c.piece-piece.result.most s.mail c.tend.new.self p c.tend.result
     (c.as_slice.ensures.value ∙ (c.in-Ok.ensures.copies ∙ ap (λ (n : ℕ). drop n p.seen) c.followed-followed.ensures)) c.recall.ensures.right c.tend.ensures
     (looked g.L.Link c.args.desk.now.fixed first link s.mail s.pass p c.copy_since.ensures.turn c.self.invariant)))
 
-pub returns-in-Err-tend-clause-tended : goal.returns-in-Err-tend-clause-tended
-returns-in-Err-tend-clause-tended g c =
+pub returns-in-Ok-clause-tended : goal.returns-in-Ok-clause-tended
+returns-in-Ok-clause-tended g c =
     let s = c.self.inside in let p = c.copy_since.new.pass in let first = g.J.MailNames.first in let link = g.J.MailNames.link in
     subst (λ (m : Mail g.row.L.Denot × DeskPass). IsTended g.L.Link link p.seen m.0 c.tend.new.self (Err c.in-Err-tend.wanting)) c.self.view_is
     (told_else g.L.Link link p.seen s.mail c.tend.new.self c.tend.result (Err c.in-Err-tend.wanting) tt
@@ -30,8 +37,8 @@ returns-in-Err-tend-clause-tended g c =
     (c.as_slice.ensures.value ∙ (c.in-Ok.ensures.copies ∙ ap (λ (n : ℕ). drop n p.seen) c.followed-followed.ensures)) c.recall.ensures.right c.tend.ensures
     (looked g.L.Link c.args.desk.now.fixed first link s.mail s.pass p c.copy_since.ensures.turn c.self.invariant)))
 
-pub returns-in-Err-clause-tended : goal.returns-in-Err-clause-tended
-returns-in-Err-clause-tended g c =
+pub returns-clause-tended : goal.returns-clause-tended
+returns-clause-tended g c =
     let s = c.self.inside in let p = c.copy_since.new.pass in let first = g.J.MailNames.first in let link = g.J.MailNames.link in
     subst (λ (m : Mail g.row.L.Denot × DeskPass). IsTended g.L.Link link p.seen m.0 s.mail (Err c.in-Err.wanting)) c.self.view_is
     (not_tended g.L.Link c.args.desk.now.fixed first link s.mail s.pass p c.in-Err.wanting c.copy_since.ensures.turn c.self.invariant)
