@@ -17,6 +17,7 @@ use std::sync::{Mutex, Wait};
 const LOOKS: u64 = 100_000_000;
 
 /// Where two connections meet: whether the second has its reply.
+#[derive(Drop)]
 pub(crate) struct Meeting<'a, R> {
     pub(crate) rt: &'a R,
     pub(crate) met: &'a Mutex<bool>,
