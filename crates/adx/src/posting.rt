@@ -9,7 +9,7 @@ use crate::messages::{Files, Heard, say_memory, say_network, say_not_opened};
 use crate::reports::Reports;
 use crate::run::status_of_fault;
 use crate::watched_link::{Noted, Purpose, WatchedLink};
-use adx_commands::{OUT_OF_MEMORY, PENDING, Served, adx_serve};
+use adx_commands::{NotBegun, OUT_OF_MEMORY, PENDING, adx_serve};
 use adx_links::MemoryAcceptor;
 use adx_units::Text;
 use day_journal::{Disk, FileDisk};
@@ -30,11 +30,11 @@ fn post_over<'a, W: Threads + Wait + Sync, D: Disk + Drop + Send>(
     acceptor: MemoryAcceptor,
     disk: D,
     post: WatchedLink<'a>,
-) -> Served<MemoryAcceptor, D, WatchedLink<'a>>
+) -> (u8, Option<WatchedLink<'a>>, Option<NotBegun>)
     requires none { (acceptor.out ≡ []) × (acceptor.back ≡ []) }
 {
     let links: Vec<Vec<WatchedLink<'a>>> = Vec::new(rt.alloc());
-    adx_serve(
+    let served = adx_serve(
         waits,
         rt.alloc(),
         words,
@@ -44,7 +44,8 @@ fn post_over<'a, W: Threads + Wait + Sync, D: Disk + Drop + Send>(
         links,
         post,
         &SystemClock::new(rt),
-    )
+    );
+    (served.status, served.post, served.why)
 }
 
 /// Of how many hosts a line says what they did.
@@ -101,13 +102,7 @@ fn post_on_file<'a, W: Threads + Wait + Sync>(
     let heard = Heard::new();
     let disk = FileDisk::new(Noting::new(file, &heard.file));
     let post = WatchedLink::new(&calls, Purpose::NotifiesPatiently);
-    let Served {
-        status,
-        acceptor: _,
-        disk: _,
-        post,
-        why,
-    } = post_over(rt, waits, words, document, acceptor, disk, post);
+    let (status, post, why) = post_over(rt, waits, words, document, acceptor, disk, post);
     match (status, post) {
         (PENDING, Some(mut post)) => say_pending(reports, &mut post),
         _ => say_network(reports, rt, words, files, &heard, status, why),
