@@ -31,6 +31,7 @@ use Rattle.desk_board.specs.contracts.board.Board as shown_boards
 use Rattle.fan_out.specs.contracts.lane.Lane as lanes
 use Rattle.desk_board.specs.contracts.mailroom.Mailroom as rooms
 use Rattle.desk_board.specs.contracts.mailroom.Mailroom.TheInside as in_room
+use Rattle.desk_board.proofs.mailroom.Turn.TheSendSync as room_turns
 use Rattle.desk_board.specs.contracts.shared_board.SharedBoard as boards
 use Rattle.desk_board.specs.contracts.shared_board.SharedBoard.TheInside as in_board
 use Rattle.std.specs.contracts.sync.Mutex as mutex
@@ -70,7 +71,7 @@ serve_all-requires-send-W g c κs within =
     let board_sent : IsSend (boards.the_row (row_field (ShrRef (named 13) long.lft rt)).row disk day g.D.Disk shown) = view_send _ _ _ _ _ (recorded_send (in_board.the_field (row_field (ShrRef (named 13) long.lft rt)).row disk day g.D.Disk shown).row _ _ (in_board.the_type (row_field (ShrRef (named 13) long.lft rt)).row disk day g.D.Disk shown).to_one
     (struct_send (shape (in_board.the_type (row_field (ShrRef (named 13) long.lft rt)).row disk day g.D.Disk shown)) (struct_send (shape (shown_boards.the_type (row_field (ShrRef (named 13) long.lft rt)).row disk g.D.Disk)) (search (step_board.the_field_send, waits_sent) depth 8, (search (pass.the_send, desk, sendable) depth 12, tt)), (search (c.type_bounds, sendable) depth 12, tt)))) in
     let mail_sent : IsSend (rooms.the_row disk link day g.D.Disk g.L.Link posted) = view_send _ _ _ _ _ (recorded_send (in_room.the_field disk link day g.D.Disk g.L.Link posted).row _ _ (in_room.the_type disk link day g.D.Disk g.L.Link posted).to_one
-    (struct_send (shape (in_room.the_type disk link day g.D.Disk g.L.Link posted)) (search (mail.the_send, outbox.the_send, c.type_bounds.send-L, sendable) depth 20, (search (pass.the_send, desk, sendable) depth 12, (search (c.type_bounds, sendable) depth 12, tt))))) in
+    (struct_send (shape (in_room.the_type disk link day g.D.Disk g.L.Link posted)) (search (mail.the_send, outbox.the_send, c.type_bounds.send-L, sendable) depth 20, (search (pass.the_send, desk, sendable) depth 12, (search (c.type_bounds, sendable) depth 12, (room_turns.the_field_send, tt)))))) in
     let board_locked : IsSync (mutex.the_row (boards.the_row (row_field (ShrRef (named 13) long.lft rt)).row disk day g.D.Disk shown)) = search (board_sent, crosses) in
     let mail_locked : IsSync (mutex.the_row (rooms.the_row disk link day g.D.Disk g.L.Link posted)) = search (mail_sent, crosses) in
     let w : IsSend (worker.the_row short long rt disk link clock gathers names g.D.Disk g.L.Link g.C.Clock g.G.Gathers g.J.DayNames) = view_send _ _ _ _ _ (recorded_send (inside.the_field short long rt disk link clock gathers names g.D.Disk g.L.Link g.C.Clock g.G.Gathers g.J.DayNames).row _ _ (inside.the_type short long rt disk link clock gathers names g.D.Disk g.L.Link g.C.Clock g.G.Gathers g.J.DayNames).to_one

@@ -10,8 +10,8 @@ use Rattle.exchange_serving.proofs.serving.serve_shared_desk.Goals as goal
 pub open-requires-clause-named : goal.open-requires-clause-named
 open-requires-clause-named g c = c.requires.board
 
-pub open-2-requires-clause-tended : goal.open-2-requires-clause-tended
-open-2-requires-clause-tended g c = tended_to g.L.Link c.args.first g.J.DayNames.first c.args.mail_pass g.J.DayNames.link c.args.mail c.requires.first c.requires.mail_idle c.requires.link c.requires.mail
+pub open-requires-2-clause-tended : goal.open-requires-2-clause-tended
+open-requires-2-clause-tended g c = tended_to g.L.Link c.args.first g.J.DayNames.first c.args.mail_pass g.J.DayNames.link c.args.mail c.requires.first c.requires.mail_idle c.requires.link c.requires.mail
 
 pub close_desk-desk-requires-clause-first : goal.close_desk-desk-requires-clause-first
 close_desk-desk-requires-clause-first g c = let l = c.in-Some.ensures.left in (l.later.turnstile ∙ c.requires.of.0, l.later.fixed ∙ c.requires.of.1)
