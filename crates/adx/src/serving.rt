@@ -119,6 +119,7 @@ fn serve_over<'a, 'b, W: Threads + Wait + Sync, D: Disk + Drop + Send>(
         acceptor,
         disk: _,
         post,
+        workers: _,
         why,
     } = adx_serve(
         waits,
