@@ -117,10 +117,10 @@ fn serve_over<'a, 'b, W: Threads + Wait + Sync, D: Disk + Drop + Send>(
     let Served {
         status,
         acceptor,
-        disk: _,
         post,
         workers: _,
         why,
+        ..
     } = adx_serve(
         waits,
         rt.alloc(),
