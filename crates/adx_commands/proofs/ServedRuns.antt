@@ -118,7 +118,7 @@ cause_passed before now DeskFault.OutOfMemory other cause = cause
 
 pub all_lists : {A D L : Type 0} (lanes : List (Vec (Lane L) Global)) (served : Result (Left A D L) (Unserved A D L)) → IfOk served (λ left. left.ending ≢ Ending.OutOfMemory → left.workers ≡ length lanes)
     → IfOk served (λ left. left.ending ≢ Ending.OutOfMemory → left.workers ≡ length (lists_of lanes))
-all_lists lanes (Ok left) as_many = λ other. as_many other ∙ sym (length-map lanes (λ (v : Vec (Lane L) Global). v.items))
+all_lists {L = L} lanes (Ok left) as_many = λ other. as_many other ∙ sym (length-map lanes (λ (v : Vec (Lane L) Global). v.items))
 all_lists lanes (Err left) as_many = as_many
 
 -- ---- the day of a roster

@@ -2,7 +2,7 @@
 -- This project's own.
 -- Example: the words `day`, `--journal`, `a` serve a day in plain spelling; `day`, `--journal=a` aren't in plain
 -- spelling, and do what `clap` reads of them.
-use Rattle.std.specs.Prelude.{◌≡◌, ◌⊎◌, ℕ, ◌-◌, ◌^◌, List, codes, true, false, Option, Some, None, Result}
+use Rattle.std.specs.Prelude.{◌≡◌, ◌⊎◌, ℕ, ◌-◌, ◌^◌, List, codes, true, false, Option, Some, None, Result, Err}
 use Rattle.adx_io.specs.Streams.{Took}
 use Rattle.day_journal.specs.declared.disk.Disk as disks
 use Rattle.adx_io.specs.declared.stop.Stop.{Stop}

@@ -1,7 +1,9 @@
 -- The roster that the document begins with is served, or the document has none.
-use Rattle.std.proofs.Common.{◌≡◌, Err, ap, length, subst, arith}
+use Rattle.std.proofs.Common.{◌≡◌, ◌∙◌, Err, Some, ap, length, subst, arith}
 use Rattle.exchange_messages.specs.Floors.{IsMomentOf}
 use Rattle.command_notices.specs.Rosters.{FindsFirst}
+use Rattle.script_lines.specs.declared.refusal.RosterRefusal.{RosterRefusal}
+use Rattle.adx_commands.specs.declared.not_begun.NotBegun.{NotBegun}
 use Rattle.adx_commands.proofs.ServedRuns.{runs_by, runs_refused}
 use Rattle.adx_commands.proofs.serving.run_serve.Goals as goal
 
@@ -16,6 +18,6 @@ pub returns-in-Err-Refused : goal.returns-in-Err-Refused
 returns-in-Err-Refused g c =
     let refused = c.in-Err-Refused in let back = c.give_back-in-Err-Refused in record {
       runs = runs_refused g.A.Acceptor g.A.In.Source g.A.Out.Sink g.D.Disk g.L.Link (IsMomentOf (g.C.Clock.moment c.args.clock.now)) c.args.objects back.result c.args.document.now c.args.workers
-          refused.field-0-0 (subst (λ fault. FindsFirst c.args.document.now (Err fault)) refused.field-0-is refused.ensures.finds)
-          (record { status_is = back.ensures.status; untouched = back.ensures.untouched });
+          refused.why (subst (λ fault. FindsFirst c.args.document.now (Err fault)) refused.field-0-is refused.ensures.finds)
+          (record { status_is = back.ensures.status; untouched = back.ensures.untouched }) (back.ensures.why ∙ ap (λ (why : RosterRefusal). Some (NotBegun.Line why)) refused.why-is);
     }
