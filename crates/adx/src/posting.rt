@@ -57,16 +57,19 @@ struct Refusing<'a>(&'a [Noted]);
 
 impl<'a> fmt::Display for Refusing<'a> {
     fn fmt<W: fmt::Write>(&self, f: &mut fmt::Formatter<W>) -> fmt::Result {
-        let mut before = ": ";
-        for noted in self.0.iter().take(SAID) {
+        for (at, noted) in self.0.iter().take(SAID).enumerate() {
+            if at == 0 {
+                f.write_str(": ")?;
+            } else {
+                f.write_str("; ")?;
+            }
             let (host, port, last, failed) = (
                 noted.host.as_str(),
                 noted.port,
                 noted.last,
                 noted.failed,
             );
-            write!(f, "{before}{failed} to {host}:{port}, which {last}")?;
-            before = "; ";
+            write!(f, "{failed} to {host}:{port}, which {last}")?;
         }
         if self.0.len() > SAID {
             f.write_str("; and others")?;
