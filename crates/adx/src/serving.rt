@@ -118,7 +118,6 @@ fn serve_over<'a, 'b, W: Threads + Wait + Sync, D: Disk + Drop + Send>(
         status,
         acceptor,
         post,
-        workers: _,
         why,
         ..
     } = adx_serve(
