@@ -1,4 +1,5 @@
 //! The file of a journal, whose faults are said while the run goes on.
+ghost use Rattle.std.specs.Prelude.{◌≡◌};
 
 use crate::reports::{Kind, Reports};
 use noted_streams::{Noting, Told};
@@ -30,7 +31,9 @@ impl<'a, 'b> WatchedFile<'a, 'b> {
     }
 
     /// Says the error of an answer, and hands the answer on.
-    fn said<T>(&self, answer: io::Result<T>) -> io::Result<T> {
+    fn said<T>(&self, answer: io::Result<T>) -> io::Result<T>
+        ensures { result ≡ answer }
+    {
         if let Err(error) = &answer {
             let path = self.path;
             self.reports.say(
