@@ -3,7 +3,7 @@
 //! The text is a roster of one bidder, a price line and the steps, with ` ; ` between them: `ask NOW REQUEST`, `win N`, `bill N`
 //! and `loss N` of an award, `tick NOW`, `budget CAMPAIGN CHANGE UNITS`, `pump FATES` with a letter for each message (`H` held,
 //! `M` without its reply, `T` through), `again N` of a message, `restart` of the exchange and `wake` of the bidder.
-ghost use Rattle.std.specs.Prelude.{◌≡◌, ◌<◌, ◌≤◌, ◌^◌, [], IfOk, IfSome};
+ghost use Rattle.std.specs.Prelude.{◌≡◌, ◌<◌, ◌≤◌, ◌^◌, [], IfOk, IfSome, true};
 ghost use Rattle.campaign_book.specs.Accounts.{IsBudget};
 ghost use Rattle.two_books.specs.Steps.{IsTimely};
 
