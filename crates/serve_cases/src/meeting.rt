@@ -123,6 +123,7 @@ impl<'a, R> MeetingAcceptor<'a, R> {
     fn met(&mut self, pair: Pair) -> MetPair<'a, R>
         ensures source { result.0.inner ≡ pair.0 }
         ensures sink { result.1.inner ≡ pair.1 }
+        ensures over { self.new.over ≡ self.old.over }
     {
         let number = self.came;
         let meeting = self.meeting;
@@ -144,7 +145,8 @@ impl<'a, R> MeetingAcceptor<'a, R> {
 
     /// The next connection, as new; None where there is none.
     fn next(&mut self) -> Option<MetPair<'a, R>>
-        ensures { IfSome result (λ p. IsNew (pair_told (p.0.inner, p.1.inner))) }
+        ensures new { IfSome result (λ p. IsNew (pair_told (p.0.inner, p.1.inner))) }
+        ensures over { self.new.over ≡ self.old.over }
     {
         let group = *self.groups.get(self.came)?;
         let pair = pair_of(self.alloc, group).ok()?;

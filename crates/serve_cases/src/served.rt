@@ -107,11 +107,11 @@ fn meet<'a, R: Threads + Wait + Sync>(
 
 /// Adds what is seen of a row over two connections of which the first is silent until the second has its reply: the status, the
 /// pairs that were given back, and the statuses of the first replies of the first and of the second.
-pub(crate) fn push_met<R: Threads + Wait + Sync>(
+pub(crate) fn push_met<'a, R: Threads + Wait + Sync>(
     out: &mut String,
-    rt: &R,
+    rt: &'a R,
     alloc: Global,
-    row: Row<'_>,
+    row: Row<'a>,
     file: &[u8],
 ) -> Result<(), OutOfMemory> {
     let words = words_of(alloc, row.words)?;
