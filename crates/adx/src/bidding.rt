@@ -5,11 +5,11 @@ use crate::clock::SystemClock;
 use crate::documents::{read_document, status_of_error};
 use crate::messages::{Files, Heard, say_network, say_not_bound};
 use crate::reports::Reports;
-use crate::watched_acceptor::{Accepts, WatchedAcceptor, listener_at};
+use crate::watched_acceptor::{WatchedAcceptor, listener_at};
 use crate::watched_link::{Purpose, WatchedLink};
 use adx_commands::{NotBegun, adx_serve};
 use adx_units::Text;
-use bounded_network::{AcceptedListener, Listening};
+use bounded_network::Listening;
 use day_journal::ByteDisk;
 use std::marker::Sync;
 use std::sync::Wait;
@@ -24,7 +24,7 @@ fn bid_over<'a, 'b, W: Threads + Wait + Sync>(
     waits: &W,
     words: &[Text],
     document: &[u8],
-    acceptor: WatchedAcceptor<'a, 'b, Accepts<'a, 'b>>,
+    acceptor: WatchedAcceptor<'a, 'b, u8>,
     post: WatchedLink<'b>,
 ) -> (u8, Option<NotBegun>) {
     let links: Vec<Vec<WatchedLink<'b>>> = Vec::new(rt.alloc());
@@ -54,10 +54,7 @@ fn bid_at<'a, W: Threads + Wait + Sync>(
     let rt = reports.rt();
     let listening = Listening::new(rt.alloc(), None, 1);
     let calls = Calls::new(reports);
-    let accepted = AcceptedListener::new(rt, &listening);
-    let acceptor = WatchedAcceptor::<Accepts<'_, '_>>::new(
-        port, accepted, &listening, reports, None,
-    );
+    let acceptor = WatchedAcceptor::<u8>::new(port, &listening, reports, None);
     let post = WatchedLink::new(&calls, Purpose::Notifies);
     let (status, why) = bid_over(rt, waits, words, document, acceptor, post);
     let files = Files {

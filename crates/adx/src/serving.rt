@@ -10,11 +10,11 @@ use crate::limits::descriptors;
 use crate::messages::{Files, Heard, say_memory, say_network, say_not_bound, say_not_opened};
 use crate::reports::Reports;
 use crate::run::status_of_fault;
-use crate::watched_acceptor::{Accepts, Serves, WatchedAcceptor, listener_at};
+use crate::watched_acceptor::{Serves, WatchedAcceptor, listener_at};
 use crate::watched_link::{Purpose, WatchedLink};
 use adx_commands::{NotBegun, OUT_OF_MEMORY, Served, adx_serve};
 use adx_units::{OutOfMemory, Text};
-use bounded_network::{AcceptedListener, Listening};
+use bounded_network::Listening;
 use day_journal::{Disk, FileDisk};
 use deal_floor::Roster;
 use std::fs;
@@ -108,7 +108,7 @@ fn serve_over<'a, 'b, W: Threads + Wait + Sync, D: Disk + Drop + Send>(
     waits: &W,
     words: &[Text],
     document: &[u8],
-    acceptor: WatchedAcceptor<'a, 'b, Accepts<'a, 'b>>,
+    acceptor: WatchedAcceptor<'a, 'b, u8>,
     disk: D,
     links: WatchedLinks<'b>,
     post: WatchedLink<'b>,
@@ -174,14 +174,7 @@ fn serve_on_file<'a, W: Threads + Wait + Sync>(
         bytes,
     };
     let heard = Heard::new();
-    let accepted = AcceptedListener::new(rt, &listening);
-    let acceptor = WatchedAcceptor::<Accepts<'_, '_>>::new(
-        asked.port,
-        accepted,
-        &listening,
-        reports,
-        Some(serves),
-    );
+    let acceptor = WatchedAcceptor::<u8>::new(asked.port, &listening, reports, Some(serves));
     let disk = FileDisk::new(WatchedFile::new(file, &heard.file, asked.journal, reports));
     let post = WatchedLink::new(&notices, Purpose::Notifies);
     let (status, why) = serve_over(reports, waits, words, document, acceptor, disk, links, post);

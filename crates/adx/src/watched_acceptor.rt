@@ -8,10 +8,12 @@ ghost use Rattle.adx_io.specs.Streams.{HasCause};
 use crate::reports::{Kind, Reports};
 use adx_io::{Failed, Sink, Source, StdSource};
 use adx_links::{Acceptor, PeerSink, TcpAcceptor};
-use bounded_network::{BoundedAccepts, Listening, Waited, with_slices};
+use bounded_network::{
+    AcceptedListener, BoundedAccepts, Connection, Listening, Waited, with_slices,
+};
 use std::io;
-use std::marker::Send;
-use std::net::{Ipv4Addr, Net, OpenListener, SocketAddr, TcpListener};
+use std::marker::PhantomData;
+use std::net::{Ipv4Addr, OpenListener, SocketAddr, TcpListener};
 
 /// A source or a sink of a connection, which remembers whether a call of it failed.
 #[derive(Drop)]
@@ -63,14 +65,14 @@ impl<K: Sink> Sink for Watched<K> {
     }
 }
 
-/// A connection whose faults are remembered.
-type Pair<N> = (
-    Watched<StdSource<<N as Net>::Stream>>,
-    Watched<PeerSink<<N as Net>::Stream>>,
-);
+/// A handle of a connection.
+type Handle<'a, 'b> = Connection<'b, &'a HostRuntime>;
 
-/// The network of the program's connections: its calls end in time.
-pub(crate) type Accepts<'a, 'b> = BoundedAccepts<'b, &'a HostRuntime>;
+/// A connection whose faults are remembered.
+type Pair<'a, 'b> = (
+    Watched<StdSource<Handle<'a, 'b>>>,
+    Watched<PeerSink<Handle<'a, 'b>>>,
+);
 
 /// A listener on this machine's own address.
 pub(crate) fn listener_at(rt: &HostRuntime, port: u16) -> io::Result<TcpListener> {
@@ -97,8 +99,10 @@ pub(crate) struct Serves<'a> {
 /// A listener of std's sockets as an acceptor that counts connections, and says of those that ended by a fault. It listens from
 /// its first call on, and says where. It reports no pairs. No more connections come once its file is there.
 #[derive(Drop)]
-pub(crate) struct WatchedAcceptor<'a, 'b, N: Net> {
-    inner: TcpAcceptor<N>,
+pub(crate) struct WatchedAcceptor<'a, 'b, T> {
+    inner: TcpAcceptor<BoundedAccepts<'b, &'a HostRuntime>>,
+    /// The command that the connections are for, as a name alone.
+    command: PhantomData<T>,
     port: u16,
     listener: Option<TcpListener>,
     listening: &'b Listening,
@@ -114,17 +118,20 @@ pub(crate) struct WatchedAcceptor<'a, 'b, N: Net> {
     pub(crate) failed: u64,
 }
 
-impl<'a, 'b, N: Net> WatchedAcceptor<'a, 'b, N> {
-    /// The acceptor at a port, over a listener of connections that were kept.
+impl<'a, 'b, T> WatchedAcceptor<'a, 'b, T> {
+    /// The acceptor at a port.
     pub(crate) fn new(
         port: u16,
-        accepted: N::Listener,
         listening: &'b Listening,
         reports: &'a Reports<'a>,
         serves: Option<Serves<'a>>,
-    ) -> WatchedAcceptor<'a, 'b, N> {
+    ) -> WatchedAcceptor<'a, 'b, T> {
         WatchedAcceptor {
-            inner: TcpAcceptor::<N>::new(accepted),
+            inner: TcpAcceptor::<BoundedAccepts<'b, &'a HostRuntime>>::new(AcceptedListener::new(
+                reports.rt(),
+                listening,
+            )),
+            command: PhantomData,
             port,
             listener: None,
             listening,
@@ -247,16 +254,13 @@ impl<'a, 'b, N: Net> WatchedAcceptor<'a, 'b, N> {
     }
 }
 
-impl<'a, 'b, N: Net> Acceptor for WatchedAcceptor<'a, 'b, N>
-where
-    N::Stream: Send,
-{
+impl<'a, 'b, T> Acceptor for WatchedAcceptor<'a, 'b, T> {
     ghost use Rattle.std.specs.Prelude.{None};
     ghost use Rattle.adx_links.specs.TcpAcceptors.{acceptor_faults, is_closed};
 
-    type In = Watched<StdSource<N::Stream>>;
+    type In = Watched<StdSource<Handle<'a, 'b>>>;
 
-    type Out = Watched<PeerSink<N::Stream>>;
+    type Out = Watched<PeerSink<Handle<'a, 'b>>>;
 
     ghost faults = { λ a. acceptor_faults a.inner };
 
@@ -266,7 +270,7 @@ where
 
     ghost is_finished = { λ p. is_closed p.1.inner };
 
-    fn accept(&mut self) -> Result<Option<Pair<N>>, Failed>
+    fn accept(&mut self) -> Result<Option<Pair<'a, 'b>>, Failed>
         ensures new { IfOk result (λ came. IfSome came (λ p. IsNew (record {
           tape = None;
           read_faults = source_faults p.0.inner;
@@ -296,7 +300,7 @@ where
         }
     }
 
-    fn finish(pair: &mut Pair<N>)
+    fn finish(pair: &mut Pair<'a, 'b>)
         ensures finished { is_closed pair.new.1.inner ≡ true }
         ensures same { ◌≡◌ {A = PairTold}
             (record { tape = None; read_faults = source_faults pair.new.0.inner; held = None; write_faults = peer_faults pair.new.1.inner })
@@ -305,7 +309,7 @@ where
         pair.1.inner.close();
     }
 
-    fn done(&mut self, pair: Pair<N>)
+    fn done(&mut self, pair: Pair<'a, 'b>)
         ensures over { self.new.over ≡ self.old.over }
         ensures faults { acceptor_faults self.new.inner ≡ acceptor_faults self.old.inner }
     {
