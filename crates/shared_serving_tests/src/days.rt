@@ -40,7 +40,7 @@ pub(crate) fn desk_of(
 }
 
 /// A message by its letter: requests for bids, notices, changes of a budget, and looks at the books.
-pub(crate) fn message(letter: u8) -> &'static str {
+fn message(letter: u8) -> &'static str {
     match letter {
         b'a' => {
             "POST /openrtb HTTP/1.1\r\nHost: x\r\nContent-Length: 41\r\n\r\n{\"id\":\"a1\",\"imp\":[{\"id\":\"1\"},{\"id\":\"2\"}]}"

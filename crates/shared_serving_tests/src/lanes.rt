@@ -23,7 +23,7 @@ const LOOKS: u64 = 4_000_000_000;
 const FEW: u64 = 1000;
 
 /// What these messages are replied on a desk of its own, with bidders whose starts look so often for each other.
-pub(crate) fn alone_on(
+fn alone_on(
     alloc: Global,
     roster: &Roster,
     desk: &mut Desk<MemoryDisk>,
@@ -31,7 +31,6 @@ pub(crate) fn alone_on(
     looks: u64,
 ) -> Result<MemorySink, OutOfMemory>
     requires { desk.old.desk.terms ≡ desk_terms roster.now }
-    ensures { desk.new.desk.terms ≡ desk.old.desk.terms }
 {
     let starts = Starts::new(looks);
     let mut lanes = lanes_of(alloc, roster, &starts)?;

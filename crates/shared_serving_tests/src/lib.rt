@@ -1,6 +1,5 @@
 //! Tests of connections on a desk that threads share: what each is replied is what the same messages are replied on a desk
-//! of their own, in the order in which they came; bidders are asked at the same time; and connections are served at the
-//! same time.
+//! of their own, in the order in which they came; and bidders are asked at the same time.
 #![tactic(auto)]
 
 #[cfg(test)]
@@ -13,8 +12,6 @@ mod failing;
 mod lanes;
 #[cfg(test)]
 mod links;
-#[cfg(test)]
-mod meetings;
 #[cfg(test)]
 mod serving;
 #[cfg(test)]

@@ -127,16 +127,6 @@ fn lane_of<'a>(
     })
 }
 
-/// A link that posts may go over.
-pub(crate) fn post_link<'a>(starts: &'a Starts) -> Waiting<'a> {
-    Waiting {
-        starts,
-        is_first: false,
-        left: b"",
-        faults: 0,
-    }
-}
-
 /// The link to the bidder of a place.
 fn link_to<'a>(place: &Place, starts: &'a Starts) -> Waiting<'a> {
     Waiting {
