@@ -5,7 +5,6 @@
 //! their letters are in `row` and in `objects`; what is seen, in `served`.
 #![tactic(auto)]
 
-mod meeting;
 mod objects;
 mod row;
 mod served;

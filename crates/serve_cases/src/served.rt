@@ -1,7 +1,6 @@
 //! One run of the words over objects in memory, and what is seen of it.
 ghost use Rattle.std.specs.Prelude.{◌≡◌, []};
 
-use crate::meeting::{Meeting, MeetingAcceptor};
 use crate::objects::{Bids, Pair, bytes_of, link_of, lists_of, pairs_of, words_of};
 use adx_commands::{Served, adx_serve};
 use adx_links::{MemoryAcceptor, MemoryLink};
@@ -11,7 +10,7 @@ use exchange_messages::FixedClock;
 use std::alloc::Global;
 use std::fmt::Write;
 use std::marker::Sync;
-use std::sync::{Mutex, Wait};
+use std::sync::Wait;
 use std::thread::Threads;
 
 /// What a run is made of, by the letters of a row.
@@ -81,67 +80,8 @@ pub(crate) fn served_on<R: Threads + Wait + Sync>(
     Ok(run(rt, alloc, &words, &document, acceptor, disk, lists, post))
 }
 
-/// Runs words over connections that meet.
-fn meet<'a, R: Threads + Wait + Sync>(
-    rt: &'a R,
-    alloc: Global,
-    words: &[Text],
-    document: &[u8],
-    acceptor: MeetingAcceptor<'a, R>,
-    disk: MemoryDisk,
-    lists: Vec<Vec<MemoryLink>>,
-    post: MemoryLink,
-) -> Served<MeetingAcceptor<'a, R>, MemoryDisk, MemoryLink> {
-    adx_serve(
-        rt,
-        alloc,
-        words,
-        document,
-        acceptor,
-        disk,
-        lists,
-        post,
-        &FixedClock::new(10),
-    )
-}
-
-/// Adds what is seen of a row over two connections of which the first is silent until the second has its reply: the status, the
-/// pairs that were given back, and the statuses of the first replies of the first and of the second.
-pub(crate) fn push_met<'a, R: Threads + Wait + Sync>(
-    out: &mut String,
-    rt: &'a R,
-    alloc: Global,
-    row: Row<'a>,
-    file: &[u8],
-) -> Result<(), OutOfMemory> {
-    let words = words_of(alloc, row.words)?;
-    let document = bytes_of(alloc, row.document)?;
-    let (first, second) = row
-        .connections
-        .split_once('|')
-        .unwrap_or((row.connections, ""));
-    let met = Mutex::new(false);
-    let meeting = Meeting { rt, met: &met };
-    let acceptor = MeetingAcceptor::new(alloc, &meeting, [first, second]);
-    let disk = MemoryDisk::new(alloc, file, row.disk_fails, None)?;
-    let lists = lists_of(alloc, row.lists, row.bids)?;
-    let post = link_of(alloc, row.plan, row.bids)?;
-    let back = meet(rt, alloc, &words, &document, acceptor, disk, lists, post);
-    let written = match &back.acceptor {
-        Some(acceptor) => {
-            let [first, second] = acceptor.codes;
-            write!(out, "{} {} {first} {second}", back.status, acceptor.back)
-        }
-        None => write!(out, "{} -", back.status),
-    };
-    match written {
-        Ok(()) => Ok(()),
-        Err(_) => Err(OutOfMemory),
-    }
-}
-
 /// The status of a reply, by its first line; 0 where there is none.
-pub(crate) fn code_of(reply: &[u8]) -> u64 {
+fn code_of(reply: &[u8]) -> u64 {
     let mut code: u64 = 0;
     for byte in reply.iter().skip(9).take(3) {
         code = code
