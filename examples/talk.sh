@@ -97,7 +97,7 @@ for name in north south; do
     call "http://127.0.0.1:${!name}/ledger" | tee "$folder/$name.ledger" | show "$name"
 done
 
-echo "# The exchange is killed (nothing else ends it), and its journal has all that it answered. The bills of both sides, compared"
+echo "# The exchange is killed, and its journal has all that it answered. The bills of both sides, compared"
 end -9 "$serving"
 for name in north south; do
     cat "$folder/roster" "$folder/$name.ledger" | "$adx" reconcile --journal "$folder/journal" --bidder "$name" | show "$name"
