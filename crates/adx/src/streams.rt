@@ -65,17 +65,28 @@ impl Hasty {
     }
 }
 
-/// Opens `/dev/null` in place of each standard stream that is closed, so that what is opened later doesn't get its number.
+/// Opens `/dev/null` in place of each standard stream that is closed, so that what is opened later doesn't get its number: to be
+/// written in place of standard input and to be read in place of the others, so that whoever uses a closed stream still fails
+/// (as gnulib's `stdopen` does it).
 pub(crate) fn fill_the_streams(rt: &HostRuntime) {
     for _stream in 0..3u8 {
         let mut options = OpenOptions::new();
-        options.read(true).write(true);
-        let Ok(file) = options.open(rt, NOTHING) else {
+        options.write(true);
+        let Ok(written) = options.open(rt, NOTHING) else {
             return;
         };
-        if file.as_raw_fd() > 2 {
+        if written.as_raw_fd() == 0 {
+            let _ = written.into_raw_fd();
+            continue;
+        }
+        // the number is another stream's, or none's
+        drop(written);
+        let Ok(read) = File::open(rt, NOTHING) else {
+            return;
+        };
+        if read.as_raw_fd() > 2 {
             return;
         }
-        let _ = file.into_raw_fd();
+        let _ = read.into_raw_fd();
     }
 }

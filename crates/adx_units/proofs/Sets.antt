@@ -61,3 +61,24 @@ any_same f g h (n ∷ ns) = ap₂ (λ a b. a || b) (h n) (any_same f g h ns)
 pub all_same : (f g : List ℕ → Bool) → ((q : List ℕ) → f q ≡ g q) → (ns : List (List ℕ)) → list_all f ns ≡ list_all g ns
 all_same f g h [] = refl
 all_same f g h (n ∷ ns) = ap₂ (λ a b. a && b) (h n) (all_same f g h ns)
+
+none_any : (ys : List (List ℕ)) → list_any (is_among []) ys ≡ false
+none_any [] = refl
+none_any (y ∷ ys) = none_any ys
+
+or_swap : (a b c d : Bool) → ((a || b) || (c || d)) ≡ ((a || c) || (b || d))
+or_swap true b c d = refl
+or_swap false true true d = refl
+or_swap false true false d = refl
+or_swap false false c d = refl
+
+any_or : (f g : List ℕ → Bool) (ys : List (List ℕ)) → list_any (λ y. f y || g y) ys ≡ (list_any f ys || list_any g ys)
+any_or f g [] = refl
+any_or f g (y ∷ ys) = ap (λ x. (f y || g y) || x) (any_or f g ys) ∙ or_swap (f y) (g y) (list_any f ys) (list_any g ys)
+
+-- one of the first is among the others where one of the others is among the first
+pub any_either_way : (xs ys : List (List ℕ)) → list_any (is_among ys) xs ≡ list_any (is_among xs) ys
+any_either_way [] ys = sym (none_any ys)
+any_either_way (x ∷ xs) ys =
+    ap₂ (λ a b. a || b) (any_same (λ n. bytes_eq n x) (λ n. bytes_eq x n) (λ n. same_both n x) ys) (any_either_way xs ys)
+    ∙ sym (any_or (λ y. bytes_eq x y) (is_among xs) ys)

@@ -17,13 +17,17 @@ pub fn is_among(names: &[Text], name: &[u8]) -> bool
     names.iter().any(|other| other.as_bytes() == name)
 }
 
-/// Whether one of the first names is one of the others. Memory is taken where both are many, and given back; where it is
-/// refused, each is compared with each.
+/// Whether one of the first names is one of the others. Where both are many, memory is taken for the shorter list, and
+/// given back; where it is refused, each is compared with each.
 pub fn any_among(alloc: Global, names: &[Text], others: &[Text]) -> bool
     ensures { result ≡ list_any (is_among_by others.now) names.now }
 {
     if names.len() <= FEW {
         return is_any_of_few_among(names, others);
+    }
+    if names.len() < others.len() {
+        let ready = Names::of(alloc, names);
+        return ready.has_any(others);
     }
     let ready = Names::of(alloc, others);
     ready.has_any(names)
