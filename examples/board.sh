@@ -2,7 +2,7 @@
 # A day to look at, by plain commands: an exchange and two bidders on this machine, traffic of a few asks a second, of which some are billed and
 # some lost, and tools/board and tools/metrics over it. In the end the day is closed, and tools/report makes its page. tools/demo shows more of it.
 #
-#     examples/board.sh                     for a minute; needs the program that ./adx proved and built, curl and python3
+#     examples/board.sh                     for a minute; needs curl and python3
 #     BOARD_SECONDS=600 examples/board.sh   for so long (at most 3,600)
 #     REPORT=day.html examples/board.sh     keeps the report there
 #
