@@ -5,6 +5,7 @@
 //! their letters are in `row` and in `objects`; what is seen, in `served`.
 #![tactic(auto)]
 
+mod meeting;
 mod objects;
 mod row;
 mod served;

@@ -99,7 +99,7 @@ fn brought(alloc: Global, group: &str) -> Result<Vec<u8>, OutOfMemory> {
 
 /// A new connection that brings what a group says. Where that begins with `r` the source fails at its first call, and with `x`
 /// the sink.
-fn pair_of(alloc: Global, group: &str) -> Result<Pair, OutOfMemory>
+pub(crate) fn pair_of(alloc: Global, group: &str) -> Result<Pair, OutOfMemory>
     ensures { IfOk result (λ p. IsNew (pair_told p)) }
 {
     let read_fails = first_where(group.starts_with('r'));

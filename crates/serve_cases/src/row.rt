@@ -1,6 +1,6 @@
 //! Rows: what a run is over, in fields, and what is said of it.
 use crate::objects::{BIDS, Bids, ROSTER, TOLD_OF_ALL};
-use crate::served::{Row, file_of, push_seen, push_shown, served_on};
+use crate::served::{Row, file_of, met_on, push_met, push_seen, push_shown, served_on};
 use adx_units::OutOfMemory;
 use std::alloc::Global;
 use std::marker::Sync;
@@ -95,7 +95,8 @@ fn file_in<R: Threads + Wait + Sync>(
 }
 
 /// What is said of the run of a row: words / document / connections / lists of links / plan of the posts / the acceptor's call
-/// that fails / the disk's / file. Where `show ` is before the words, replies and posts are written too.
+/// that fails / the disk's / file. Where `show ` is before the words, replies and posts are written too; where `meet ` is, two
+/// connections are served of which the first is silent until the second has its reply.
 pub(crate) fn said_of<R: Threads + Wait + Sync>(
     rt: &R,
     alloc: Global,
@@ -103,6 +104,7 @@ pub(crate) fn said_of<R: Threads + Wait + Sync>(
 ) -> Result<String, OutOfMemory> {
     let (words, rest) = next_of(fields);
     let shown = words.strip_prefix("show ");
+    let meets = words.strip_prefix("meet ");
     let (document, rest) = next_of(rest);
     let (connections, rest) = next_of(rest);
     let (lists, rest) = next_of(rest);
@@ -113,7 +115,7 @@ pub(crate) fn said_of<R: Threads + Wait + Sync>(
     let disk_fails = calls_of(alloc, disk)?;
     let file = file_in(rt, alloc, file)?;
     let row = Row {
-        words: words_of(shown.unwrap_or(words)),
+        words: words_of(shown.or(meets).unwrap_or(words)),
         document: document_of(document),
         connections: text_of(connections),
         lists: text_of(lists),
@@ -122,8 +124,13 @@ pub(crate) fn said_of<R: Threads + Wait + Sync>(
         acceptor_fails: acceptor_fails.as_slice(),
         disk_fails: disk_fails.as_slice(),
     };
-    let back = served_on(rt, alloc, row, file.as_slice())?;
     let mut out = String::new(alloc);
+    if meets.is_some() {
+        let met = met_on(rt, alloc, row, file.as_slice())?;
+        push_met(&mut out, &met)?;
+        return Ok(out);
+    }
+    let back = served_on(rt, alloc, row, file.as_slice())?;
     match shown {
         Some(_) => push_shown(&mut out, &back)?,
         None => push_seen(&mut out, &back)?,

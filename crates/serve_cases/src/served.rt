@@ -1,6 +1,7 @@
 //! One run of the words over objects in memory, and what is seen of it.
 ghost use Rattle.std.specs.Prelude.{◌≡◌, []};
 
+use crate::meeting::MeetingAcceptor;
 use crate::objects::{Bids, Pair, bytes_of, link_of, lists_of, pairs_of, words_of};
 use adx_commands::{Served, adx_serve};
 use adx_links::{MemoryAcceptor, MemoryLink};
@@ -36,6 +37,9 @@ pub(crate) struct Row<'a> {
 
 /// What a run gives back.
 pub(crate) type Back = Served<MemoryAcceptor, MemoryDisk, MemoryLink>;
+
+/// What a run over connections that meet gives back.
+pub(crate) type Met = Served<MeetingAcceptor, MemoryDisk, MemoryLink>;
 
 /// Runs words over the connections of an acceptor.
 fn run<R: Threads + Wait + Sync>(
@@ -80,8 +84,69 @@ pub(crate) fn served_on<R: Threads + Wait + Sync>(
     Ok(run(rt, alloc, &words, &document, acceptor, disk, lists, post))
 }
 
+/// Runs words over connections that meet.
+fn meet<R: Threads + Wait + Sync>(
+    rt: &R,
+    alloc: Global,
+    words: &[Text],
+    document: &[u8],
+    acceptor: MeetingAcceptor,
+    disk: MemoryDisk,
+    lists: Vec<Vec<MemoryLink>>,
+    post: MemoryLink,
+) -> Met {
+    adx_serve(
+        rt,
+        alloc,
+        words,
+        document,
+        acceptor,
+        disk,
+        lists,
+        post,
+        &FixedClock::new(10),
+    )
+}
+
+/// What comes of a row over two connections of which the first is silent until the second has its reply, and a disk with this file.
+pub(crate) fn met_on<R: Threads + Wait + Sync>(
+    rt: &R,
+    alloc: Global,
+    row: Row<'_>,
+    file: &[u8],
+) -> Result<Met, OutOfMemory> {
+    let words = words_of(alloc, row.words)?;
+    let document = bytes_of(alloc, row.document)?;
+    let (first, second) = row
+        .connections
+        .split_once('|')
+        .unwrap_or((row.connections, ""));
+    let brings = [Text::of(alloc, first)?, Text::of(alloc, second)?];
+    let acceptor = MeetingAcceptor::new(alloc, brings)?;
+    let disk = MemoryDisk::new(alloc, file, row.disk_fails, None)?;
+    let lists = lists_of(alloc, row.lists, row.bids)?;
+    let post = link_of(alloc, row.plan, row.bids)?;
+    Ok(meet(rt, alloc, &words, &document, acceptor, disk, lists, post))
+}
+
+/// Adds what is seen of connections that met: the status, the pairs that were given back, and the statuses of the first replies of the
+/// first and of the second.
+pub(crate) fn push_met(out: &mut String, met: &Met) -> Result<(), OutOfMemory> {
+    let written = match &met.acceptor {
+        Some(acceptor) => {
+            let [first, second] = acceptor.codes;
+            write!(out, "{} {} {first} {second}", met.status, acceptor.back)
+        }
+        None => write!(out, "{} -", met.status),
+    };
+    match written {
+        Ok(()) => Ok(()),
+        Err(_) => Err(OutOfMemory),
+    }
+}
+
 /// The status of a reply, by its first line; 0 where there is none.
-fn code_of(reply: &[u8]) -> u64 {
+pub(crate) fn code_of(reply: &[u8]) -> u64 {
     let mut code: u64 = 0;
     for byte in reply.iter().skip(9).take(3) {
         code = code
