@@ -248,7 +248,9 @@ class Following(Folder):
 
     def follow(self):
         self.write(self.w.bytes)
-        process = subprocess.Popen([sys.executable, TOOLS + '/read-journal', self.path, '--follow'], stdout=subprocess.PIPE, stderr=subprocess.PIPE)
+        # A shell has its background commands ignore this signal, and theirs do so, too.
+        process = subprocess.Popen([sys.executable, TOOLS + '/read-journal', self.path, '--follow'], stdout=subprocess.PIPE, stderr=subprocess.PIPE,
+                                   preexec_fn=lambda: signal.signal(signal.SIGINT, signal.SIG_DFL))
         self.assertEqual([json.loads(process.stdout.readline())['entry'] for _ in range(2)], ['roster', 'ask'])
         return process
 
