@@ -62,7 +62,7 @@ class Bidder:
 class World:
     def __init__(self, roster, prices):
         self.day, self.bidder = Day(Roster(roster.encode())), Bidder(prices)
-        self.messages = []
+        self.messages, self.replies = [], []
         self.begin()
 
     def begin(self):
@@ -108,7 +108,13 @@ class World:
         elif name == 'pump':
             self.pump(rest)
         elif name == 'again' and int(rest) < len(self.messages):
-            self.bidder.hears(self.messages[int(rest)])
+            url = self.messages[int(rest)]
+            self.replies.append((url, self.bidder.hears(url)))
+        elif name == 'ack' and int(rest) < len(self.replies):
+            url, status = self.replies[int(rest)]
+            at = next((k for k, post in enumerate(self.pending) if post[2] == url), None)
+            if at is not None and status == 204:
+                del self.pending[at]
         elif name == 'restart':
             self.begin()
 

@@ -9,7 +9,7 @@ use crate::watched_acceptor::{WatchedAcceptor, listener_at};
 use crate::watched_link::{Purpose, WatchedLink};
 use adx_commands::{NotBegun, adx_serve};
 use adx_units::Text;
-use bounded_network::Listening;
+use bounded_network::{Listening, Names};
 use day_journal::ByteDisk;
 use std::marker::Sync;
 use std::sync::Wait;
@@ -45,6 +45,7 @@ fn bid_over<'a, 'b, W: Threads + Wait + Sync>(
 /// Serves the bidder of the price line's document that is in a file, at a port.
 fn bid_at<'a, W: Threads + Wait + Sync>(
     reports: &'a Reports<'a>,
+    names: &'a Names,
     waits: &W,
     words: &[Text],
     prices: &str,
@@ -53,7 +54,7 @@ fn bid_at<'a, W: Threads + Wait + Sync>(
 ) -> u8 {
     let rt = reports.rt();
     let listening = Listening::new(rt.alloc(), None, 1);
-    let calls = Calls::new(reports);
+    let calls = Calls::new(reports, names);
     let acceptor = WatchedAcceptor::<u8>::new(port, &listening, reports, None);
     let post = WatchedLink::new(&calls, Purpose::Notifies);
     let (status, why) = bid_over(rt, waits, words, document, acceptor, post);
@@ -87,5 +88,6 @@ pub(crate) fn run_bid<W: Threads + Wait + Sync>(
         }
     }
     let reports = Reports::without_waiting(rt);
-    bid_at(&reports, waits, words, prices, document.as_slice(), port)
+    let names = Names::new(rt.alloc());
+    bid_at(&reports, &names, waits, words, prices, document.as_slice(), port)
 }

@@ -83,11 +83,11 @@ impl fmt::Display for Outcome {
     }
 }
 
-/// What the links of a run share: the names that were looked up, the hosts that failed lately, which addresses are called, and
-/// where it is said what failed.
+/// What the links of a run share: the names that were looked up, which all calls of the run share, the hosts that failed lately,
+/// which addresses are called, and where it is said what failed.
 #[derive(Drop)]
 pub(crate) struct Calls<'a> {
-    pub(crate) names: Names,
+    pub(crate) names: &'a Names,
     pub(crate) hosts: Hosts,
     pub(crate) reach: Reach,
     pub(crate) reports: &'a Reports<'a>,
@@ -95,36 +95,26 @@ pub(crate) struct Calls<'a> {
 
 impl<'a> Calls<'a> {
     /// Nothing was called yet, and every address may be.
-    pub(crate) fn new(reports: &'a Reports<'a>) -> Calls<'a> {
-        let alloc = reports.rt().alloc();
+    pub(crate) fn new(reports: &'a Reports<'a>, names: &'a Names) -> Calls<'a> {
         Calls {
-            names: Names::new(alloc),
-            hosts: Hosts::new(alloc),
+            names,
+            hosts: Hosts::new(reports.rt().alloc()),
             reach: Reach::everywhere(),
             reports,
         }
     }
 
-    /// Looks up the names of a roster's hosts.
-    pub(crate) fn look_up(&self, roster: &Roster) {
-        let _ = self.reach_of(roster, Reach::everywhere());
-    }
-
-    /// These addresses, and those of the kinds that a roster's hosts have.
-    fn reach_of(&self, roster: &Roster, reach: Reach) -> Reach {
-        let mut reach = reach;
+    /// Calls no address of this machine or of its link, unless a host of the roster has such a one. The names of the roster's
+    /// hosts are looked up for it.
+    pub(crate) fn keep_outside(&mut self, roster: &Roster) {
+        let rt = self.reports.rt();
+        let mut reach = Reach::outside();
         for place in roster.bidders.as_slice() {
-            let host = place.host.as_str();
             reach = self
                 .names
-                .with_host(self.reports.rt(), host, place.port, reach);
+                .with_host(rt, place.host.as_str(), place.port, reach);
         }
-        reach
-    }
-
-    /// Calls no address of this machine or of its link, unless a host of the roster has such a one.
-    pub(crate) fn keep_outside(&mut self, roster: &Roster) {
-        self.reach = self.reach_of(roster, Reach::outside());
+        self.reach = reach;
     }
 
     /// Doesn't call a port of this machine.

@@ -18,6 +18,7 @@ mod journal_file;
 mod journal_watch;
 mod judging;
 mod limits;
+mod lines;
 mod messages;
 mod posting;
 mod reports;

@@ -1,4 +1,5 @@
 //! What a run that failed says on standard error: one line.
+use crate::lines::Lines;
 use adx_commands::{
     DISK_FAULT, DONE, KEEPER_FAULT, NO_COMMAND, NO_HISTORY, NOT_ACCEPTED, NOT_KEPT, NotBegun,
     OUT_OF_MEMORY, PENDING, READ_FAULT, REFUSED, WRITE_FAULT,
@@ -33,7 +34,7 @@ impl Heard {
 fn say_of_words(rt: &HostRuntime, words: &[Text]) {
     match complaint_of(rt.alloc(), words) {
         Ok(complaint) => {
-            let _ = eprintln!(rt; "adx: {}", complaint.as_str());
+            let _ = eprintln!(Lines::of(rt); "adx: {}", complaint.as_str());
         }
         Err(_) => say_memory(rt),
     }
@@ -41,22 +42,22 @@ fn say_of_words(rt: &HostRuntime, words: &[Text]) {
 
 /// Says that memory was refused.
 pub(crate) fn say_memory(rt: &HostRuntime) {
-    let _ = eprintln!(rt; "adx: out of memory");
+    let _ = eprintln!(Lines::of(rt); "adx: out of memory");
 }
 
 /// Says that a word isn't a text.
 pub(crate) fn say_no_text(rt: &HostRuntime) {
-    let _ = eprintln!(rt; "adx: a word of the command line isn't UTF-8");
+    let _ = eprintln!(Lines::of(rt); "adx: a word of the command line isn't UTF-8");
 }
 
 /// Says why a file wasn't opened.
 pub(crate) fn say_not_opened<T: Display + Drop>(rt: &HostRuntime, path: &str, fault: T) {
-    let _ = eprintln!(rt; "adx: {path}: {fault}");
+    let _ = eprintln!(Lines::of(rt); "adx: {path}: {fault}");
 }
 
 /// Says why the file of an archive wasn't closed.
 pub(crate) fn say_not_closed<T: Display + Drop>(rt: &HostRuntime, path: &str, fault: T) {
-    let _ = eprintln!(rt; "adx: {path}: not closed: {fault}");
+    let _ = eprintln!(Lines::of(rt); "adx: {path}: not closed: {fault}");
 }
 
 /// Says why the first line of a document isn't what it is to be.
@@ -67,12 +68,12 @@ pub(crate) fn say_refused(rt: &HostRuntime, path: &str, what: &str, why: RosterR
         return;
     }
     let why = text.as_str();
-    let _ = eprintln!(rt; "adx: {path}: the first line isn't {what}: {why}");
+    let _ = eprintln!(Lines::of(rt); "adx: {path}: the first line isn't {what}: {why}");
 }
 
 /// Says why no connections are taken at a port.
 pub(crate) fn say_not_bound<T: Display + Drop>(rt: &HostRuntime, port: u16, fault: T) {
-    let _ = eprintln!(rt; "adx: port {port}: {fault}");
+    let _ = eprintln!(Lines::of(rt); "adx: port {port}: {fault}");
 }
 
 /// The files of a run over the network.
@@ -138,6 +139,7 @@ fn say_not_begun<E: Eprint>(lines: &E, rt: &HostRuntime, files: Files<'_>, why: 
 /// Says why a run ended with a status other than 0. The journal or the archive is in the file with this path, or the journal
 /// in memory.
 pub(crate) fn say(rt: &HostRuntime, words: &[Text], path: &str, heard: &Heard, status: u8) {
+    let lines = Lines::of(rt);
     let written = match status {
         DONE => Ok(()),
         NO_COMMAND => {
@@ -145,28 +147,28 @@ pub(crate) fn say(rt: &HostRuntime, words: &[Text], path: &str, heard: &Heard, s
             Ok(())
         }
         REFUSED => {
-            eprintln!(rt;
+            eprintln!(lines;
                 "adx: standard input: isn't of its form, or is too long (standard output says why)"
             )
         }
-        READ_FAULT => eprintln!(rt; "adx: standard input: {}", Reason(&heard.input)),
-        WRITE_FAULT => eprintln!(rt; "adx: standard output: {}", Reason(&heard.output)),
-        DISK_FAULT => eprintln!(rt; "adx: {path}: {}", Reason(&heard.file)),
+        READ_FAULT => eprintln!(lines; "adx: standard input: {}", Reason(&heard.input)),
+        WRITE_FAULT => eprintln!(lines; "adx: standard output: {}", Reason(&heard.output)),
+        DISK_FAULT => eprintln!(lines; "adx: {path}: {}", Reason(&heard.file)),
         NO_HISTORY => {
-            eprintln!(rt;
+            eprintln!(lines;
                 "adx: {path}: holds another roster's day, or isn't a journal (standard output says which)"
             )
         }
         NOT_ACCEPTED => {
-            eprintln!(rt; "adx: the certificate isn't accepted (standard output says why)")
+            eprintln!(lines; "adx: the certificate isn't accepted (standard output says why)")
         }
-        KEEPER_FAULT => eprintln!(rt; "adx: {path}: the archive can't be read or written"),
+        KEEPER_FAULT => eprintln!(lines; "adx: {path}: the archive can't be read or written"),
         NOT_KEPT => {
-            eprintln!(rt;
+            eprintln!(lines;
                 "adx: the day isn't kept, or the days aren't listed (standard output says why)"
             )
         }
-        OUT_OF_MEMORY => eprintln!(rt; "adx: out of memory"),
+        OUT_OF_MEMORY => eprintln!(lines; "adx: out of memory"),
         _ => Ok(()),
     };
     let _ = written;

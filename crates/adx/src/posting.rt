@@ -12,6 +12,7 @@ use crate::watched_link::{Noted, Purpose, WatchedLink};
 use adx_commands::{NotBegun, OUT_OF_MEMORY, PENDING, adx_serve};
 use adx_links::MemoryAcceptor;
 use adx_units::Text;
+use bounded_network::Names;
 use day_journal::{Disk, FileDisk};
 use deal_floor::Roster;
 use noted_streams::Noting;
@@ -88,6 +89,7 @@ fn say_pending(reports: &Reports<'_>, post: &mut WatchedLink<'_>) {
 /// Sends the notices of the day in the file of a journal.
 fn post_on_file<'a, W: Threads + Wait + Sync>(
     reports: &'a Reports<'a>,
+    names: &'a Names,
     waits: &W,
     words: &[Text],
     document: &[u8],
@@ -100,7 +102,7 @@ fn post_on_file<'a, W: Threads + Wait + Sync>(
         say_memory(rt);
         return OUT_OF_MEMORY;
     };
-    let mut calls = Calls::new(reports);
+    let mut calls = Calls::new(reports, names);
     calls.keep_outside(roster);
     let heard = Heard::new();
     let disk = FileDisk::new(Noting::new(file, &heard.file));
@@ -133,8 +135,10 @@ pub(crate) fn run_post<W: Threads + Wait + Sync>(
     match open_journal(rt, journal, false) {
         Ok(file) => {
             let reports = Reports::with_waiting(rt);
+            let names = Names::new(rt.alloc());
             post_on_file(
                 &reports,
+                &names,
                 waits,
                 words,
                 document.as_slice(),

@@ -1,6 +1,7 @@
 //! What a run that goes on says on standard error: lines that wait for nobody, and few of a kind.
 
 use crate::clock::SystemClock;
+use crate::lines::{Lines, one_line};
 use crate::streams::Hasty;
 use bounded_network::millis;
 use exchange_messages::Clock;
@@ -155,7 +156,8 @@ impl<'a> Reports<'a> {
 
     /// Writes a line.
     fn put<D: Display + Drop>(&self, error: &Hasty, value: D) -> io::Result<()> {
-        let line = format!(in self.rt.alloc(); "{value}\n")?;
+        let mut line = one_line(self.rt, value)?;
+        line.push('\n')?;
         error.put(line.as_bytes())
     }
 
@@ -185,7 +187,7 @@ impl<'a> Eprint for Reports<'a> {
 
     fn eprintln<D: Display + Drop>(&self, value: D) -> io::Result<()> {
         let Some(error) = &self.error else {
-            return self.rt.eprintln(value);
+            return Lines::of(self.rt).eprintln(value);
         };
         if self.put(error, value).is_err() {
             self.dropped.fetch_add(1, Ordering::SeqCst);

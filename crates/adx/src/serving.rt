@@ -14,7 +14,7 @@ use crate::watched_acceptor::{Serves, WatchedAcceptor, listener_at};
 use crate::watched_link::{Purpose, WatchedLink};
 use adx_commands::{NotBegun, OUT_OF_MEMORY, Served, adx_serve};
 use adx_units::{OutOfMemory, Text};
-use bounded_network::Listening;
+use bounded_network::{Listening, Names};
 use day_journal::{Disk, FileDisk};
 use deal_floor::Roster;
 use std::fs;
@@ -143,6 +143,7 @@ fn serve_over<'a, 'b, W: Threads + Wait + Sync, D: Disk + Drop + Send>(
 /// Serves connections on the day in the file of a journal, over links to these bidders.
 fn serve_on_file<'a, W: Threads + Wait + Sync>(
     reports: &'a Reports<'a>,
+    names: &'a Names,
     waits: &W,
     words: &[Text],
     document: &[u8],
@@ -157,9 +158,8 @@ fn serve_on_file<'a, W: Threads + Wait + Sync>(
         Ok(found) => found.len(),
         Err(_) => 0,
     };
-    let calls = Calls::new(reports);
-    calls.look_up(roster);
-    let mut notices = Calls::new(reports);
+    let calls = Calls::new(reports, names);
+    let mut notices = Calls::new(reports, names);
     notices.keep_outside(roster);
     notices.leave_out(asked.port);
     let Ok(links) = links_for(&calls, asked.workers, bidders) else {
@@ -190,6 +190,7 @@ fn serve_on_file<'a, W: Threads + Wait + Sync>(
 /// Says what of the run is known before it begins, and serves connections on the day in the file of a journal.
 fn serve_bidders<'a, W: Threads + Wait + Sync>(
     reports: &'a Reports<'a>,
+    names: &'a Names,
     waits: &W,
     words: &[Text],
     document: &[u8],
@@ -208,6 +209,7 @@ fn serve_bidders<'a, W: Threads + Wait + Sync>(
     }
     serve_on_file(
         reports,
+        names,
         waits,
         words,
         document,
@@ -237,7 +239,9 @@ fn serve_roster<'a, W: Threads + Wait + Sync>(
     match open_journal(rt, asked.journal, true) {
         Ok(file) => {
             let reports = Reports::without_waiting(rt);
-            serve_bidders(&reports, waits, words, document, roster, asked, file)
+            // Each name of the roster is looked up once: bidders and notices share what is known of it.
+            let names = Names::new(rt.alloc());
+            serve_bidders(&reports, &names, waits, words, document, roster, asked, file)
         }
         Err(fault) => {
             say_not_opened(rt, asked.journal, fault);

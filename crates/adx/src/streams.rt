@@ -1,4 +1,5 @@
-//! The standard streams of a program that goes on: none is closed, and lines on standard error wait for nobody.
+//! The standard streams of a program that goes on: a closed one is opened on /dev/null, and lines on standard error wait
+//! for nobody.
 
 use std::fs::{File, OpenOptions};
 use std::io;

@@ -12,8 +12,8 @@ use Rattle.command_runs.specs.declared.outcome.Outcome.{Outcome}
 use Rattle.adx_desk.specs.Histories.{Spells}
 use Rattle.day_journal.specs.Places.{StandsFor, opened}
 use Rattle.day_rules.specs.declared.entry.Entry.{Entry}
-use Rattle.desk_calls.specs.Courses.{Course, given_up, served, unopened}
-use Rattle.desk_calls.specs.OnDisk.{CourseOn}
+use Rattle.adx_desk.specs.Courses.{Course, given_up, served, unopened}
+use Rattle.adx_desk.specs.OnDisk.{CourseOn}
 use Rattle.history_runs.specs.Unopened.{unopened_end}
 use Rattle.adx_commands.specs.Anew.{NothingStandsForNothing, RunsAnew, RunsGeneratedAnew, TookGenerated, byte_disk, new_disk}
 use Rattle.adx_commands.specs.Commands.{RunsGenerated}

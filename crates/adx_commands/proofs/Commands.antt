@@ -10,7 +10,7 @@ use Rattle.command_archive.proofs.Unbegun.{unkept, unlisted_days}
 use Rattle.command_check.proofs.Ended.{unbegun as unchecked}
 use Rattle.command_close.specs.ClosedDays.{IsClosedDay}
 use Rattle.command_close.specs.Guarantees.{IsGuarantee}
-use Rattle.command_conn.specs.Exchanges.{LeavesDay as LeavesExchange, conn_command}
+use Rattle.adx_commands.specs.Exchanges.{LeavesDay as LeavesExchange, conn_command}
 use Rattle.command_day.specs.Days.{day_command}
 use Rattle.command_notices.specs.PostLines.{AreNotices}
 use Rattle.command_reconcile.specs.Reconciling.{LeavesDisk as LeavesLedgerDay}
@@ -28,7 +28,7 @@ use Rattle.day_archive.specs.declared.keeper.Keeper as keepers
 use Rattle.history_runs.specs.Histories.{LeavesDay, Prints}
 use Rattle.history_runs.specs.Rosters.{roster_heads}
 use Rattle.history_runs.specs.Runs.{history_command}
-use Rattle.desk_calls.specs.Courses.{unopened}
+use Rattle.adx_desk.specs.Courses.{unopened}
 use Rattle.command_gen.specs.GeneratedEnds.{GeneratedRuns}
 use Rattle.adx_commands.specs.Commands.{Does, DoesAsRead, EndsBidder, IsCommand, KeepsDay, KeepsRoster, Outside, Runs}
 

@@ -1,13 +1,13 @@
 -- A document that begins with a roster, or with a price line, isn't refused.
-use Rattle.std.proofs.Common.{◌≡◌, ◌≢◌, ◌∙◌, inl, inr, sym, ap, subst, refl, ℕ, ◌≤◌, List, [], ◌∷◌, ◌++◌, length, Result, Ok, Err, arith}
+use Rattle.std.proofs.Common.{◌≡◌, ◌≢◌, ◌∙◌, inl, inr, sym, ap, subst, refl, ℕ, ◌≤◌, List, [], ◌∷◌, ◌++◌, length, Some, None, arith}
 use Rattle.adx_io.specs.Lines.{HasNoNewline}
 use Rattle.adx_json.specs.Faults.{IsFault}
 use Rattle.adx_json.specs.Grammar.{IsJson}
 use Rattle.adx_json.specs.Tree.{Tree}
 use Rattle.adx_json.specs.declared.fault.JsonFault.{JsonFault}
 use Rattle.adx_json.proofs.OneTree.{one_json}
-use Rattle.bidder_core.specs.PriceLines.{price_line_in}
-use Rattle.bidder_core.specs.Seen.{BidderState, seen_line}
+use Rattle.bidder_core.specs.PriceLines.{line_fault}
+use Rattle.bidder_core.specs.Seen.{BidderState}
 use Rattle.command_runs.specs.declared.first.NoLine.{NoLine}
 use Rattle.command_runs.specs.Limits.{line_limit}
 use Rattle.deal_floor.specs.declared.roster.Roster.{Roster}
@@ -60,13 +60,10 @@ json_no_fault line t (JsonFault.Utf8 at) is other fault = fault.0.none t is
 json_no_fault line t (JsonFault.Depth at) is other fault = fault.0.none t is
 json_no_fault line t JsonFault.OutOfMemory is other fault = other refl
 
-never_both : {X F : Type 0} (r : Result X F) (x : X) (f : F) → r ≡ Ok x → r ≡ Err f → ⊥
-never_both r x f a b = cc (sym a ∙ b)
-
 -- a price line isn't refused, nor is its document
 line_taken : (line : List ℕ) (b : BidderState) (why : RosterRefusal) → IsPriceLine line b → RefusesPriceLine line why → ⊥
 line_taken line b why (t, is, prices) (inl (u, is', (f, faulty, e))) =
-    never_both (price_line_in t) (seen_line b.line) f prices.0 (ap price_line_in (one_json line t u is is') ∙ faulty)
+    let e : None ≡ Some f = sym prices.0.0 ∙ (ap line_fault (one_json line t u is is') ∙ faulty) in cc e
 line_taken line b why (t, is, prices) (inr (f, other, fault, e)) = json_no_fault line t f is other fault
 
 pub prices_taken : (document : List ℕ) (b : BidderState) (why : RosterRefusal) → BeginsWithPrices document b → LacksPrices document why → ⊥

@@ -211,7 +211,7 @@ module _ {A I O D L : Type 0} (a : acceptors.Ghosts A I O) (d : disks.Ghosts D) 
             subst (λ (n : ℕ). (n ≡ 3) ⊎ (n ≡ 12)) (sym p.told) (post_refuses l d document given.disk p.disk given.post p.post p.end lacks p.ends)
       ],
     )
-    post_refused (linked some e) = (λ is. inl some, λ why. inl e.status_is)
+    post_refused (linked some e none) = (λ is. inl some, λ why. inl e.status_is)
     post_refused (unbegun e) = (λ is. absurd (omega (arith, e.status_is, is)), λ why. inr e.status_is)
 
   module _ (s : sources.Ghosts I) (k : sinks.Ghosts O) (document : List ℕ) where
@@ -246,5 +246,5 @@ module _ {A I O D L : Type 0} (a : acceptors.Ghosts A I O) (d : disks.Ghosts D) 
             | inr lacks ↦ subst (λ (n : ℕ). (n ≡ 3) ⊎ (n ≡ 12)) (sym b.told) (bid_refuses document (tells given.acceptor) (tells b.acceptor) b.end lacks b.ends)
           ],
         )
-    bid_refused (linked some e) = (λ is. inl some, λ why. inl e.status_is)
+    bid_refused (linked some e none) = (λ is. inl some, λ why. inl e.status_is)
     bid_refused (unbegun e) = (λ is. absurd (omega (arith, e.status_is, is)), λ why. inr e.status_is)

@@ -1,3 +1,9 @@
+pub mod ConnDisks
+pub mod ConnEnds
+pub mod Connected
+pub mod ConnCounts
+pub mod ConnOutputs
+pub mod LanesTo
 pub mod Outcomes
 pub mod Commands
 pub mod Beginnings

@@ -53,10 +53,10 @@ module _ {A I O D L : Type 0} (a : acceptors.Ghosts A I O) (s : sources.Ghosts I
   never_two : (command : NetworkCommand) → Runs a s k d l IsMoment document given back (Some command) → back.status ≡ 2 → ⊥
   never_two (NetworkCommand.Serve roster journal port workers) runs is = serving_not_two a s k d l IsMoment given back document workers runs is
   never_two (NetworkCommand.Post roster journal) (ran none p) is = post_not_two p.end (sym p.told ∙ is)
-  never_two (NetworkCommand.Post roster journal) (linked some e) is = omega (arith, e.status_is, is)
+  never_two (NetworkCommand.Post roster journal) (linked some e none) is = omega (arith, e.status_is, is)
   never_two (NetworkCommand.Post roster journal) (unbegun e) is = omega (arith, e.status_is, is)
   never_two (NetworkCommand.Bid prices port) (ran none b) is = bid_not_two b.end (sym b.told ∙ is)
-  never_two (NetworkCommand.Bid prices port) (linked some e) is = omega (arith, e.status_is, is)
+  never_two (NetworkCommand.Bid prices port) (linked some e none) is = omega (arith, e.status_is, is)
   never_two (NetworkCommand.Bid prices port) (unbegun e) is = omega (arith, e.status_is, is)
 
 module _ {A I O D L : Type 0} {a : acceptors.Ghosts A I O} {s : sources.Ghosts I} {k : sinks.Ghosts O} {d : disks.Ghosts D} {l : links.Ghosts L} {IsMoment : ℕ → Type 0} {document : List ℕ}

@@ -6,8 +6,8 @@ use Rattle.adx_io.specs.declared.stop.Stop.{Stop}
 use Rattle.bidder_core.specs.Seen.{BidderState}
 use Rattle.command_bidder.specs.Bidders.{MayEnd}
 use Rattle.command_bidder.proofs.Bidders.{no_disk_fault}
-use Rattle.command_conn.specs.Exchanges.{Day}
-use Rattle.command_conn.proofs.DiskCounts.{IsLeft as IsConnLeft, disk_later as conn_later, disk_rises as conn_rises, disk_stays as conn_stays}
+use Rattle.adx_commands.specs.Exchanges.{Day}
+use Rattle.adx_commands.proofs.ConnCounts.{IsLeft as IsConnLeft, disk_later as conn_later, disk_rises as conn_rises, disk_stays as conn_stays}
 use Rattle.command_day.specs.Days.{EndsAs}
 use Rattle.command_day.proofs.DiskCounts.{disk_later as day_later, disk_rises as day_rises, disk_stays as day_stays}
 use Rattle.command_gen.specs.GeneratedEnds.{GeneratedRuns}
@@ -18,11 +18,11 @@ use Rattle.command_runs.specs.Runs.{HasRunCauses}
 use Rattle.command_runs.specs.Statuses.{status_by}
 use Rattle.command_runs.specs.declared.outcome.Outcome.{Outcome}
 use Rattle.deal_floor.specs.declared.roster.Roster.{Roster}
-use Rattle.desk_calls.specs.Courses.{Course as DayCourse}
-use Rattle.desk_calls.specs.OnDisk.{CourseOn}
+use Rattle.adx_desk.specs.Courses.{Course as DayCourse}
+use Rattle.adx_desk.specs.OnDisk.{CourseOn}
 use Rattle.history_runs.specs.Histories.{Opening}
 use Rattle.history_runs.proofs.DiskCounts.{IsLeft, disk_later, disk_rises, disk_stays}
-use Rattle.desk_calls.proofs.DiskCounts.{day_later as course_later}
+use Rattle.adx_desk.proofs.DiskCounts.{day_later as course_later}
 use Rattle.adx_commands.specs.Statuses.{HasCauses, HasDiskCauses}
 
 -- the ends that have these statuses

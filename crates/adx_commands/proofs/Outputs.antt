@@ -4,7 +4,7 @@ use Rattle.adx_io.specs.declared.sink.Sink as sinks
 use Rattle.adx_io.specs.declared.source.Source as sources
 use Rattle.adx_io.specs.declared.stop.Stop.{Stop}
 use Rattle.day_journal.specs.declared.disk.Disk as disks
-use Rattle.command_conn.specs.Exchanges.{Day, LeavesDay as LeavesExchange, conn_command, was_given_up, was_served, was_unbegun}
+use Rattle.adx_commands.specs.Exchanges.{Day, LeavesDay as LeavesExchange, conn_command, was_given_up, was_served, was_unbegun}
 use Rattle.command_day.specs.Days.{day_command}
 use Rattle.command_runs.specs.Runs.{RunsAs}
 use Rattle.command_runs.specs.declared.outcome.Outcome.{Outcome}

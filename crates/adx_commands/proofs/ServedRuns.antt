@@ -256,14 +256,17 @@ module _ {A I O D L : Type 0} (a : acceptors.Ghosts A I O) (s : sources.Ghosts I
       links_at : Vec L Global → List L
       links_at v = v.items
   runs_by document workers roster begins counted (inr (inl (misfit, e, none))) =
-      unfit (λ fits. misfit (subst (λ (o : Roster). All (Fit o.bidders) (links_in given.links.items)) (one_begun document fits.roster roster fits.begins begins) fits.each)) e (subst (SaysUnfit document) (sym none) tt)
+      unfit (λ fits. misfit (subst (λ (o : Roster). All (Fit o.bidders) (links_in given.links.items)) (one_begun document fits.roster roster fits.begins begins) fits.each)) e
+      (subst (SaysUnfit document workers (links_in given.links.items)) (sym none) (inr (roster, begins)))
   runs_by document workers roster begins counted (inr (inr e)) = unserved e
 
   pub runs_uncounted : (document : List ℕ) (workers : ℕ) → length given.links.items ≢ workers → EndsAtOnce given back 3 → back.why ≡ None → RunsServing a s k d l IsMoment given back document workers
-  runs_uncounted document workers other e none = unfit (λ fits. other (sym (length-map given.links.items links_at) ∙ fits.counted)) e (subst (SaysUnfit document) (sym none) tt)
+  runs_uncounted document workers other e none = unfit (λ fits. other (sym (length-map given.links.items links_at) ∙ fits.counted)) e
+      (subst (SaysUnfit document workers (links_in given.links.items)) (sym none) (inl (λ counted. other (sym (length-map given.links.items links_at) ∙ counted))))
     where
       links_at : Vec L Global → List L
       links_at v = v.items
 
   pub runs_refused : (document : List ℕ) (workers : ℕ) (why : RosterRefusal) → LacksRoster document why → EndsAtOnce given back 3 → back.why ≡ Some (NotBegun.Line why) → RunsServing a s k d l IsMoment given back document workers
-  runs_refused document workers why lacks e said = unfit (λ fits. roster_taken document fits.roster why fits.begins lacks) e (subst (SaysUnfit document) (sym said) lacks)
+  runs_refused document workers why lacks e said = unfit (λ fits. roster_taken document fits.roster why fits.begins lacks) e
+      (subst (SaysUnfit document workers (links_in given.links.items)) (sym said) lacks)

@@ -16,10 +16,10 @@ use Rattle.command_archive.specs.declared.list.Query.{Query}
 use Rattle.command_check.specs.Runs.{ChecksInput}
 use Rattle.command_close.specs.ClosedDays.{IsClosedDay}
 use Rattle.command_close.specs.Guarantees.{IsGuarantee}
-use Rattle.command_conn.specs.Exchanges.{Day, LeavesDay as LeavesExchange, conn_command, was_given_up, was_served, was_unbegun}
-use Rattle.command_conn.specs.RosterLinks.{AreRosterLanes}
-use Rattle.desk_calls.specs.Steps.{AreSteps, alone}
-use Rattle.desk_calls.specs.Told.{told_of}
+use Rattle.adx_commands.specs.Exchanges.{Day, LeavesDay as LeavesExchange, conn_command, was_given_up, was_served, was_unbegun}
+use Rattle.adx_commands.specs.RosterLinks.{AreRosterLanes}
+use Rattle.adx_desk.specs.Steps.{AreSteps, alone}
+use Rattle.adx_desk.specs.Told.{told_of}
 use Rattle.adx_desk.specs.Rosters.{desk_terms}
 use Rattle.history_runs.specs.Unopened.{GivesUpBy}
 use Rattle.command_day.specs.Days.{EndsAs, day_command}
@@ -40,8 +40,8 @@ use Rattle.command_words.specs.declared.command.TheConstants.{MOST_ASKS}
 use Rattle.command_words.specs.declared.command.Topic.{Topic}
 use Rattle.day_archive.specs.declared.keeper.Keeper as keepers
 use Rattle.deal_floor.specs.declared.roster.Roster.{Roster}
-use Rattle.desk_calls.specs.Courses.{Course}
-use Rattle.desk_calls.specs.OnDisk.{CourseOn, history_after}
+use Rattle.adx_desk.specs.Courses.{Course}
+use Rattle.adx_desk.specs.OnDisk.{CourseOn, history_after}
 use Rattle.history_runs.specs.Histories.{LeavesDay}
 use Rattle.history_runs.specs.Runs.{history_command}
 use Rattle.command_runs.specs.Meanings.{TookPrefix}

@@ -1,3 +1,9 @@
+pub mod ConnDisks
+pub mod Exchanges
+pub mod ConnRuns
+pub mod ConnLaws
+pub mod ConnSteps
+pub mod RosterLinks
 pub mod Statuses
 pub mod Commands
 pub mod Keeping

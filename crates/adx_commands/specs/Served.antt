@@ -32,11 +32,11 @@ pub record EndsAtOnce {A D L : Type 0} (given : Objects A D L) (back : Served A 
   pub status_is : back.status ≡ status
   pub untouched : IsUntouched given back
 
--- A command that has no use for lists of links: it ran where it was given none; where it was given some, it ended at once;
--- and so it did where memory was refused before it began.
+-- A command that has no use for lists of links: it ran where it was given none; where it was given some, it ended at once,
+-- and nothing is said of its document; and so it did where memory was refused before it began.
 pub data RunsUnlinked {A D L : Type 0} (given : Objects A D L) (back : Served A D L) (Ran : Type 0) : Type 0 where
   ran : given.links.items ≡ [] → Ran → RunsUnlinked given back Ran
-  linked : 0 < length given.links.items → EndsAtOnce given back 3 → RunsUnlinked given back Ran
+  linked : 0 < length given.links.items → EndsAtOnce given back 3 → back.why ≡ None → RunsUnlinked given back Ran
   unbegun : EndsAtOnce given back 12 → RunsUnlinked given back Ran
 
 -- Why the run of `post` didn't begin that ended so: where its document or its journal was refused.

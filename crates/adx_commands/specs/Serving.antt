@@ -51,12 +51,12 @@ pub record FitsServing {L : Type 0} (document : List ℕ) (workers : ℕ) (lists
   pub counted : length lists ≡ workers
   pub each : All (Fit roster.bidders) lists
 
--- What is said of a document that isn't served: why its first line is no roster; nothing where the links are other ones than it
--- asks for.
-abbrev pub SaysUnfit : List ℕ → Option NotBegun → Type 0
-SaysUnfit document None = Unit {0}
-SaysUnfit document (Some (NotBegun.Line why)) = LacksRoster document why
-SaysUnfit document (Some (NotBegun.Journal fault)) = ⊥
+-- What is said of a document that isn't served: why its first line is no roster; nothing only where there are more or fewer
+-- lists of links than workers, or the document begins with a roster, whose bidders the links don't fit.
+abbrev pub SaysUnfit : {L : Type 0} → List ℕ → ℕ → List (List L) → Option NotBegun → Type 0
+SaysUnfit document workers lists None = (length lists ≢ workers) ⊎ ((roster : Roster) × BeginsWithRoster document roster)
+SaysUnfit document workers lists (Some (NotBegun.Line why)) = LacksRoster document why
+SaysUnfit document workers lists (Some (NotBegun.Journal fault)) = ⊥
 
 -- this was given back, with this status, and for this the run didn't begin; the post link always is given back
 pub record GivesBack {A D L : Type 0} (status : ℕ) (acceptor : Option A) (disk : Option D) (post : L) (why : Option NotBegun)
@@ -123,7 +123,7 @@ module _ {A I O D L : Type 0} (a : acceptors.Ghosts A I O) (s : sources.Ghosts I
   -- or memory was refused before.
   pub data RunsServing (document : List ℕ) (workers : ℕ) : Type 0 where
     serving : (fits : FitsServing document workers (links_in given.links.items)) → ServesRoster fits.roster → RunsServing document workers
-    unfit : (FitsServing document workers (links_in given.links.items) → ⊥) → EndsAtOnce given back 3 → SaysUnfit document back.why
+    unfit : (FitsServing document workers (links_in given.links.items) → ⊥) → EndsAtOnce given back 3 → SaysUnfit document workers (links_in given.links.items) back.why
         → RunsServing document workers
     unserved : EndsAtOnce given back 12 → RunsServing document workers
 

@@ -6,7 +6,7 @@ ghost use Rattle.command_archive.specs.Lists.{ListsAs};
 ghost use Rattle.command_archive.specs.declared.list.Query.{Query as Asked};
 ghost use Rattle.command_bidder.specs.Bidders.{bidder_command};
 ghost use Rattle.command_check.specs.Runs.{AcceptsInput, ChecksInput};
-ghost use Rattle.command_conn.specs.Exchanges.{LeavesDay as LeavesExchange, conn_command};
+ghost use Rattle.adx_commands.specs.Exchanges.{LeavesDay as LeavesExchange, conn_command};
 ghost use Rattle.command_day.specs.Days.{day_command};
 ghost use Rattle.command_runs.specs.Runs.{RunsAs};
 ghost use Rattle.adx_commands.specs.Anew.{NothingStandsForNothing, RunsAnew, RunsGeneratedAnew, TookGenerated, byte_disk};

@@ -1,40 +1,12 @@
 //! Lanes to a roster's bidders, over the links that workers are given.
-ghost use Rattle.std.specs.Prelude.{◌≡◌, IfOk};
-ghost use Rattle.fan_out.specs.declared.answer.TheConstants.{ANSWER_LIMIT as answer_limit};
+ghost use Rattle.std.specs.Prelude.{IfOk};
 ghost use Rattle.adx_commands.specs.Lanes.{FitLanes, FitWorkers};
 
-use adx_http::Conn;
 use adx_units::OutOfMemory;
 use deal_floor::Place;
-use fan_out::{ANSWER_LIMIT, Lane};
+use fan_out::Lane;
 use std::alloc::Global;
 use std::collections::VecDeque;
-
-/// A copy of a place.
-fn copy_of(alloc: Global, place: &Place) -> Result<Place, OutOfMemory>
-    ensures { IfOk result (λ p. p ≡ place.now) }
-{
-    Ok(Place {
-        name: place.name.copy(alloc)?,
-        host: place.host.copy(alloc)?,
-        port: place.port,
-        path: place.path.copy(alloc)?,
-    })
-}
-
-/// The lane to a bidder over a link.
-fn lane_of<L: Drop>(alloc: Global, place: &Place, link: L) -> Result<Lane<L>, OutOfMemory>
-    ensures place { IfOk result (λ l. l.place ≡ place.now) }
-    ensures limit { IfOk result (λ l. l.conn.limit ≡ answer_limit) }
-    ensures link { IfOk result (λ l. l.link ≡ link) }
-{
-    Ok(Lane {
-        place: copy_of(alloc, place)?,
-        link,
-        conn: Conn::new(alloc, ANSWER_LIMIT)?,
-        last: None,
-    })
-}
 
 /// The lanes to bidders at these places over these links, in the order of both. None where there aren't as many links as
 /// places.
@@ -49,7 +21,7 @@ fn lanes_over<L: Drop>(
     let mut lanes = Vec::new(alloc);
     'links: while let Some(link) = left.pop_front() {
         match places.get(lanes.as_slice().len()) {
-            Some(place) => lanes.push(lane_of(alloc, place, link)?)?,
+            Some(place) => lanes.push(Lane::to(alloc, place, link)?)?,
             None => return Ok(None),
         }
     }

@@ -2,12 +2,14 @@
 use Rattle.std.proofs.Common.{◌≡◌, ◌≢◌, inl, inr, ℕ, List, [], ◌∷◌, ◌++◌, length, drop, get_or, All, refl, sym, ◌∙◌, ap, subst, arith, append_assoc}
 use Rattle.std.specs.List.{flat_map}
 use Rattle.std.proofs.lemmas.Grind.{flat_map-append}
+use Rattle.std.proofs.lemmas.List.{append-nil}
 use Rattle.std.proofs.lemmas.List.Elements.{All-cons, All-head, All-nil, All-tail}
 use Rattle.adx_io.specs.Frames.{body}
 use Rattle.day_journal.specs.Places.{IsPayload, StandsFor, open_place, opened}
 use Rattle.day_journal.proofs.Apart.{stands_or_bad, stands_or_no_head}
 use Rattle.day_journal.proofs.Once.{one_format, same_format, same_payload, short, stands_once}
 use Rattle.day_rules.specs.declared.entry.Entry.{Entry}
+use Rattle.day_rules.specs.Legal.{IsLegal}
 use Rattle.adx_desk.specs.declared.fault.DeskFault.{DeskFault}
 use Rattle.day_machine.specs.Held.{held}
 use Rattle.day_machine.proofs.OpenAwards.{none_held}
@@ -26,7 +28,7 @@ spells_once format digest ps qs a b same (inr p) (inr q) =
     p.2.entries ∙ (ap (flat_map (λ (es : List Entry). es)) records ∙ sym q.2.entries)
 
 -- a file with these payloads spells one history: without payloads in any format, and else in one
-file_spells : (format other : ℕ) (digest file : List ℕ) (ps qs : List (List ℕ)) (a b : List Entry) → StandsFor format file ps → StandsFor other file qs → Spells format digest ps a → Spells other digest qs b → a ≡ b
+pub file_spells : (format other : ℕ) (digest file : List ℕ) (ps qs : List (List ℕ)) (a b : List Entry) → StandsFor format file ps → StandsFor other file qs → Spells format digest ps a → Spells other digest qs b → a ≡ b
 file_spells format other digest file ps qs a b p q (inl none) spells =
     none.1 ∙ sym (none_spelled other digest qs b (sym (stands_once format other file ps qs p q) ∙ none.0) spells)
 file_spells format other digest file ps qs a b p q (inr some) spells =
@@ -48,7 +50,7 @@ places_front (p ∷ ps) (q ∷ qs) x g r each_p each_q shut same =
     let rest = places_front ps qs x g r (All-tail IsPayload p ps each_p) (All-tail IsPayload q qs each_q) shut both.1 in
     (rest.0, λ i. sym both.0 i ∷ rest.1 i)
 
-file_front : (format other : ℕ) (file p : List ℕ) (ps qs : List (List ℕ)) (rest : List ℕ) → All IsPayload (p ∷ ps) → file ≡ opened format (p ∷ ps) ++ rest → StandsFor other file qs
+pub file_front : (format other : ℕ) (file p : List ℕ) (ps qs : List (List ℕ)) (rest : List ℕ) → All IsPayload (p ∷ ps) → file ≡ opened format (p ∷ ps) ++ rest → StandsFor other file qs
     → ((more : List (List ℕ)) × (qs ≡ p ∷ ps ++ more)) × (format ≡ other)
 file_front format other file p ps qs rest each split (inl un) = absurd (some_payload format file p ps rest (short file un.0) split)
 file_front format other file p ps qs rest each split (inr open_) = (
@@ -56,7 +58,7 @@ file_front format other file p ps qs rest each split (inr open_) = (
   same_format format other file (p ∷ ps) qs rest (open_.closed.gate ∷ open_.closed.rest) split open_.closed.split,
 )
 
-first_is : (format : ℕ) (digest : List ℕ) (first : List ℕ) (rest qs : List (List ℕ)) (history : List Entry) → qs ≡ first ∷ rest → Spells format digest qs history → first ≡ digest
+pub first_is : (format : ℕ) (digest : List ℕ) (first : List ℕ) (rest qs : List (List ℕ)) (history : List Entry) → qs ≡ first ∷ rest → Spells format digest qs history → first ≡ digest
 first_is format digest first rest qs history is (inl none) = absurd (cc (is, none.0))
 first_is format digest first rest qs history is (inr some) = ap (λ (ps : List (List ℕ)). get_or ps 0 []) (sym is ∙ some.1)
 
@@ -65,19 +67,15 @@ rest_are format digest rest qs history is (inl none) = absurd (cc (is, none.0))
 rest_are format digest rest qs history is (inr some) = subst (λ (ps : List (List ℕ)). AreRecords format ps history) (ap (drop 1) (sym some.1 ∙ is)) some.2
 
 -- a payload whose entries aren't all legal is in no legal history
-not_entry : (terms : DeskTerms) (file : List ℕ) (at : ℕ) (history : List Entry) → HasBadEntry terms file at → IsHistoryOf terms file history → ⊥
-not_entry terms file at history bad is =
-    let before : List (List ℕ) = bad.payloads ++ bad.payload ∷ [] in
-    let both = file_front bad.format is.format file terms.digest before is.payloads bad.rest bad.each bad.split is.stands in
-    let front = both.0 in
-    let are : AreRecords bad.format (before ++ front.0) history =
-    subst (λ (f : ℕ). AreRecords f (before ++ front.0) history) (sym both.1) (rest_are is.format terms.digest (before ++ front.0) is.payloads history front.1 is.spells) in
+pub no_bad_record : (terms : DeskTerms) (file : List ℕ) (at : ℕ) (bad : HasBadEntry terms file at) (more : List (List ℕ)) (earlier after history : List Entry)
+    → AreRecords bad.format ((bad.payloads ++ bad.payload ∷ []) ++ more) earlier → history ≡ earlier ++ after → IsLegal terms.day history → ⊥
+no_bad_record terms file at bad more earlier after history are is legal =
     let at_ : RecordAt bad.format bad.records.records are.records bad.payload =
-    record_at bad.format bad.records.records are.records bad.payload front.0 bad.records.each are.each (sym are.spelled ∙ ap (λ (ps : List (List ℕ)). (ps ++ bad.payload ∷ []) ++ front.0) bad.records.spelled) in
+    record_at bad.format bad.records.records are.records bad.payload more bad.records.each are.each (sym are.spelled ∙ ap (λ (ps : List (List ℕ)). (ps ++ bad.payload ∷ []) ++ more) bad.records.spelled) in
     let next : NextIn bad.format bad.front at_.entries bad.bytes = next_in bad.format bad.front at_.entries bad.bytes bad.fits at_.is_record.spelled bad.some (at_.bytes ∙ bad.behind) in
     let id : List Entry → List Entry = λ es. es in
     let behind : List Entry = flat_map id at_.behind in
-    let whole : history ≡ (bad.earlier ++ bad.front) ++ next.entry ∷ (next.behind ++ behind) =
+    let whole : earlier ≡ (bad.earlier ++ bad.front) ++ next.entry ∷ (next.behind ++ behind) =
     are.entries
     ∙ (ap (flat_map id) at_.parts
     ∙ (flat_map-append id bad.records.records (at_.entries ∷ at_.behind)
@@ -85,7 +83,22 @@ not_entry terms file at history bad is =
     ∙ (ap (λ (es : List Entry). bad.earlier ++ (es ++ behind)) next.parts
     ∙ (ap (λ (es : List Entry). bad.earlier ++ es) (append_assoc bad.front (next.entry ∷ next.behind) behind)
     ∙ sym (append_assoc bad.earlier bad.front (next.entry ∷ (next.behind ++ behind)))))))) in
-    bad.none next.entry _ next.begins (is.legal (bad.earlier ++ bad.front) next.entry (next.behind ++ behind) whole)
+    bad.none next.entry _ next.begins
+    (legal (bad.earlier ++ bad.front) next.entry ((next.behind ++ behind) ++ after)
+    (is ∙ (ap (λ (es : List Entry). es ++ after) whole ∙ append_assoc (bad.earlier ++ bad.front) (next.entry ∷ (next.behind ++ behind)) after)))
+
+-- nor do payloads that begin with it and those before it spell a legal history
+pub not_spelled : (terms : DeskTerms) (file : List ℕ) (at format : ℕ) (bad : HasBadEntry terms file at) (more qs : List (List ℕ)) (history : List Entry)
+    → qs ≡ terms.digest ∷ ((bad.payloads ++ bad.payload ∷ []) ++ more) → bad.format ≡ format → Spells format terms.digest qs history → IsLegal terms.day history → ⊥
+not_spelled terms file at format bad more qs history is formats spells legal =
+    let rest : List (List ℕ) = (bad.payloads ++ bad.payload ∷ []) ++ more in
+    let are : AreRecords bad.format rest history = subst (λ (f : ℕ). AreRecords f rest history) (sym formats) (rest_are format terms.digest rest qs history is spells) in
+    no_bad_record terms file at bad more history [] history are (sym (append-nil history)) legal
+
+not_entry : (terms : DeskTerms) (file : List ℕ) (at : ℕ) (history : List Entry) → HasBadEntry terms file at → IsHistoryOf terms file history → ⊥
+not_entry terms file at history bad is =
+    let both = file_front bad.format is.format file terms.digest (bad.payloads ++ bad.payload ∷ []) is.payloads bad.rest bad.each bad.split is.stands in
+    not_spelled terms file at is.format bad both.0.0 is.payloads history both.0.1 both.1 is.spells is.legal
 
 not_roster : (terms : DeskTerms) (file kept : List ℕ) (history : List Entry) → HasOtherRoster terms.digest file kept → IsHistoryOf terms file history → ⊥
 not_roster terms file kept history other is =

@@ -1,5 +1,5 @@
 -- Bytes spell one list of entries, and payloads one list of records.
-use Rattle.std.proofs.Common.{◌≡◌, ℕ, ◌<◌, List, [], ◌∷◌, ◌++◌, map, length, drop, get_or, All, refl, sym, ◌∙◌, ap, arith, append_assoc, length-append}
+use Rattle.std.proofs.Common.{◌≡◌, ◌⊎◌, inl, inr, ℕ, ◌<◌, List, [], ◌∷◌, ◌++◌, map, length, drop, get_or, All, refl, sym, ◌∙◌, ap, arith, append_assoc, length-append}
 use Rattle.std.proofs.lemmas.List.{drop_at}
 use Rattle.std.proofs.lemmas.List.Elements.{All-head, All-tail}
 use Rattle.std.proofs.lemmas.Option.{same_Some}
@@ -56,6 +56,34 @@ module _ (format : ℕ) where
       let both = same_first e f (entries_bytes format es) (entries_bytes format front ++ bytes) (All-head (Fits format) e es fits_e) (All-head (Fits format) f front fits_f) (same ∙ behind_first f front bytes) in
       let next = next_in front es bytes (All-tail (Fits format) f front fits_f) (All-tail (Fits format) e es fits_e) some both.1 in
       record { entry = next.entry; behind = next.behind; parts = (λ i. both.0 i ∷ next.parts i); begins = next.begins }
+
+  -- two lists of entries, each with bytes after it, that spell the same: they are one list, or one goes on where the other ends
+  abbrev pub Meet : (front es : List Entry) (bytes others : List ℕ) → Type 0
+  Meet front es bytes others = (front ≡ es) ⊎ (NextIn front es bytes ⊎ NextIn es front others)
+
+  meet_more : (f e : Entry) (front es : List Entry) (bytes others : List ℕ) → f ≡ e → Meet front es bytes others → Meet (f ∷ front) (e ∷ es) bytes others
+  meet_more f e front es bytes others same (inl is) = inl (λ i. same i ∷ is i)
+  meet_more f e front es bytes others same (inr (inl next)) = inr (inl (record { entry = next.entry; behind = next.behind; parts = (λ i. sym same i ∷ next.parts i); begins = next.begins }))
+  meet_more f e front es bytes others same (inr (inr next)) = inr (inr (record { entry = next.entry; behind = next.behind; parts = (λ i. same i ∷ next.parts i); begins = next.begins }))
+
+  pub meet : (front es : List Entry) (bytes others : List ℕ) → All (Fits format) front → All (Fits format) es → entries_bytes format front ++ bytes ≡ entries_bytes format es ++ others → Meet front es bytes others
+  meet [] [] bytes others fits_f fits_e same = inl refl
+  meet [] (e ∷ es) bytes others fits_f fits_e same = inr (inl (record {
+    entry = e;
+    behind = es;
+    parts = refl;
+    begins = record { fits = All-head (Fits format) e es fits_e; count = refl; rest = entries_bytes format es ++ others; split = same ∙ behind_first e es others };
+  }))
+  meet (f ∷ front) [] bytes others fits_f fits_e same = inr (inr (record {
+    entry = f;
+    behind = front;
+    parts = refl;
+    begins = record { fits = All-head (Fits format) f front fits_f; count = refl; rest = entries_bytes format front ++ bytes; split = sym same ∙ behind_first f front bytes };
+  }))
+  meet (f ∷ front) (e ∷ es) bytes others fits_f fits_e same =
+      let both = same_first f e (entries_bytes format front ++ bytes) (entries_bytes format es ++ others) (All-head (Fits format) f front fits_f) (All-head (Fits format) e es fits_e)
+      (sym (behind_first f front bytes) ∙ (same ∙ behind_first e es others)) in
+      meet_more f e front es bytes others both.0 (meet front es bytes others (All-tail (Fits format) f front fits_f) (All-tail (Fits format) e es fits_e) both.1)
 
   -- the records of payloads
   pub same_records : (rs ss : List (List Entry)) → All (IsRecord format) rs → All (IsRecord format) ss → map (entries_bytes format) rs ≡ map (entries_bytes format) ss → rs ≡ ss

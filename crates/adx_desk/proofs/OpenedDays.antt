@@ -9,7 +9,7 @@ use Rattle.adx_io.specs.Streams.{last_count}
 use Rattle.day_journal.specs.declared.fault.AppendFault.{AppendFault}
 use Rattle.day_journal.specs.declared.fault.OpeningFault.{OpeningFault}
 use Rattle.day_journal.specs.declared.start.TheConstants.{NEW_FORMAT}
-use Rattle.day_journal.specs.Faults.{EndsAppend, EndsOpening, Refuses, greatest_size}
+use Rattle.day_journal.specs.Faults.{EndsAppend, Refuses, greatest_size}
 use Rattle.day_journal.specs.Places.{IsPayload, IsUnfinished, StandsFor, new_file, open_place, opened}
 use Rattle.day_journal.specs.Starts.{IsAsBefore, KeptOrMade, StandsAsRead as StandsAsPayloads}
 use Rattle.day_journal.specs.Tails.{JournalState, size_of}
@@ -42,10 +42,6 @@ none_spelled format digest payloads history none (inr some) = absurd (cc (none, 
 
 new_stands : StandsFor NEW_FORMAT new_file []
 new_stands = inr (record { known = inr refl; each = All-nil IsPayload; closed = record { gate = 0; rest = []; split = refl; shut = omega arith } })
-
--- it is unfinished too, but for its payloads
-new_unfinished : IsUnfinished new_file
-new_unfinished = inr (inr (record { format = NEW_FORMAT; known = inr refl; marked = record { gate = 1; split = refl } }))
 
 -- A file without payloads represents no entry, and so does one with the digest alone, in whichever format: each represents
 -- the history without entries.
@@ -228,12 +224,6 @@ append_cause before now size (AppendFault.Full told) ends = ends.2
 pub append_fits : (before now size : ℕ) (why : AppendFault) → EndsAppend before now size (Err why) → size ≤ greatest_size → IsRefusal (append_fault_of why) → ⊥
 append_fits before now size AppendFault.DiskFault ends fits is = is
 append_fits before now size (AppendFault.Full told) ends fits is = omega (arith, ends.0, fits)
-
-pub opening_cause : (T : Type 0) (before now : ℕ) (why : OpeningFault) → EndsOpening {T = T} before now (Err why) → HasDiskCause before now (fault_of why)
-opening_cause T before now OpeningFault.DiskFault ends = ends
-opening_cause T before now (OpeningFault.NotAJournal at) ends = ends
-opening_cause T before now (OpeningFault.BadLength at) ends = ends
-opening_cause T before now OpeningFault.OutOfMemory ends = ends
 
 -- the head alone is looked at
 pub head_refused : (terms : DeskTerms) (file : List ℕ) (why : OpeningFault) → ((at : ℕ) → why ≡ OpeningFault.BadLength at → ⊥) → Refuses file why → RefusesDesk terms file (fault_of why)

@@ -111,3 +111,9 @@ abbrev pub RefusalsExclude : Type 0
 RefusalsExclude =
     (terms : DeskTerms) (file : List ℕ) (why : DeskFault) (history : List Entry)
     → IsRefusal why → RefusesDesk terms file why → IsHistoryOf terms file history → ⊥
+
+-- a file is refused by at most one fault
+abbrev pub HasOneRefusal : Type 0
+HasOneRefusal =
+    (terms : DeskTerms) (file : List ℕ) (why other : DeskFault) → IsRefusal why → IsRefusal other
+    → RefusesDesk terms file why → RefusesDesk terms file other → why ≡ other

@@ -12,3 +12,14 @@ pub mod Rosters
 pub mod Lines
 pub mod Calls
 pub mod Shared
+pub mod Called
+pub mod Steps
+pub mod Together
+pub mod DayDesks
+pub mod Laws
+pub mod Meanings
+pub mod Courses
+pub mod OnDisk
+pub mod Answering
+pub mod Records
+pub mod Told

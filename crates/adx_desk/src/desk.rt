@@ -5,7 +5,7 @@ ghost use Rattle.day_journal.specs.Tails.{size_of};
 ghost use Rattle.day_rules.specs.Asks.{IsUndecided, IsWellFormed};
 ghost use Rattle.campaign_book.specs.Accounts.{IsBudget};
 ghost use Rattle.day_rules.specs.DayMeters.{meters_after, steps_of};
-ghost use Rattle.day_rules.specs.Books.{accounts_in, ask_count, awards_of};
+ghost use Rattle.day_rules.specs.Books.{accounts_in, awards_of};
 ghost use Rattle.day_rules.specs.Entries.{change_of};
 ghost use Rattle.day_rules.specs.DayState.{IsDay};
 ghost use Rattle.day_rules.specs.Replies.{seen_in};
@@ -239,13 +239,6 @@ impl<D: Disk> Desk<D> {
         ensures stands { self.now.since.tells ≡ true → StandsOnDisk (D.may_leave self.now.disk) self.now.desk }
     {
         self.kept.day().entries()
-    }
-
-    /// How many of the entries are asks.
-    pub fn ask_count(&self) -> u64
-        ensures { result ≡ ask_count self.now.desk.history }
-    {
-        self.kept.meters().asks
     }
 
     /// What an operator reads of the day, without a walk over its history.

@@ -481,6 +481,7 @@ impl JournaledDay {
         requires payload { frame.now.payload ≡ batch_bytes self.old.desk batch.now.calls }
         requires fits { All (Fits self.old.desk.journal.format) (entries_in_turn self.old.desk.history batch.now.calls) }
         requires some { 0 < length (entries_in_turn self.old.desk.history batch.now.calls) }
+        requires answers { batch.now.answers ≡ Some (answers_in_turn self.old.desk.history batch.now.calls) }
         ensures serves { DayServesAll D.Disk self.old self.new disk.old disk.new (entries_in_turn self.old.desk.history batch.now.calls) result }
         ensures ends { EndsNotice (D.faults disk.old) (D.faults disk.new) self.old.desk self.new.desk result }
         ensures grown { OnOk result (size_of self.new.desk.journal

@@ -1,7 +1,7 @@
 //! Laws of the definitions: each is a function without a body, whose contract is the law. They say that an opening comes
 //! to one thing: a history, or a refusal.
 ghost use Rattle.std.specs.Prelude.{◌≡◌, List, ℕ};
-ghost use Rattle.adx_desk.specs.Calls.{HasOneHistory, RefusalsExclude};
+ghost use Rattle.adx_desk.specs.Calls.{HasOneHistory, HasOneRefusal, RefusalsExclude};
 
 /// A file represents at most one history.
 pub fn one_history()
@@ -11,4 +11,9 @@ pub fn one_history()
 /// A file that represents a history is refused by no fault.
 pub fn refusals_exclude()
     ensures { RefusalsExclude }
+{}
+
+/// A file is refused by at most one fault.
+pub fn one_refusal()
+    ensures { HasOneRefusal }
 {}

@@ -1,5 +1,5 @@
 -- What was asked and what is left, piece by piece.
-use Rattle.std.proofs.Common.{◌≡◌, inl, inr, ℕ, ◌+◌, ◌<◌, List, [], ◌∷◌, ◌++◌, length, take, refl, sym, ap, ◌∙◌, subst, append_assoc, append-nil, Option, Some, None, option_map, IfSome, IsErr, Result, Ok, Err, true, false, arith}
+use Rattle.std.proofs.Common.{◌≡◌, inl, ℕ, ◌+◌, ◌<◌, List, [], ◌++◌, length, take, refl, sym, ap, ◌∙◌, subst, append_assoc, Option, Some, None, option_map, IfSome, Result, Ok, Err, true, false, arith}
 use Rattle.std.proofs.Math.Seq.{take-append_seam}
 use Rattle.adx_io.specs.Streams.{WhereTold}
 use Rattle.adx_links.specs.Links.{Exchange, Exchanges, Begins, begun, exchanges_in, asking, Asks, Connection, Course, Puts, FailsPut, after_put}
@@ -12,17 +12,9 @@ with_asked e bytes = record e { asked = bytes }
 abbrev with_now : Exchanges → Option Exchange → Exchanges
 with_now e now = record e { now = now }
 
-asking_none : (e : Option Exchange) → option_map (asking []) e ≡ e
-asking_none None = refl
-asking_none (Some e) = ap (λ (a : List ℕ). Some (with_asked e a)) (append-nil e.asked)
-
 asking_both : (e : Option Exchange) (a b : List ℕ) → option_map (asking b) (option_map (asking a) e) ≡ option_map (asking (a ++ b)) e
 asking_both None a b = refl
 asking_both (Some e) a b = ap (λ (x : List ℕ). Some (with_asked e x)) (append_assoc e.asked a b)
-
-pub asks_none : (o : Option Exchanges) → WhereTold o o (Asks [])
-asks_none None = refl
-asks_none (Some o) = ap (with_now o) (sym (asking_none o.now))
 
 pub asks_both : (o m n : Option Exchanges) (a b : List ℕ) → WhereTold o m (Asks a) → WhereTold m n (Asks b) → WhereTold o n (Asks (a ++ b))
 asks_both None None n a b first second = second
@@ -31,10 +23,6 @@ asks_both (Some o) None n a b first second = absurd first
 asks_both (Some o) (Some m) None a b first second = absurd second
 asks_both (Some o) (Some m) (Some n) a b first second =
     second ∙ ap (λ (x : Exchanges). with_now x (option_map (asking b) x.now)) first ∙ ap (with_now o) (asking_both o.now a b)
-
-pub stands_same : (c : Option Course) → WhereTold c c StandsAs
-stands_same None = refl
-stands_same (Some c) = record { plan = refl; tape = refl }
 
 put_keeps : (k : Option Connection) → option_map (λ (x : Connection). x.tape) (option_map after_put k) ≡ option_map (λ (x : Connection). x.tape) k
 put_keeps None = refl
@@ -60,14 +48,6 @@ pub all_asked : (b : Option Course) (m rest : ℕ) → IfSome b (λ (x : Course)
 all_asked None m rest planned none = tt
 all_asked (Some x) m rest planned none = λ some fails. absurd (omega (arith, planned fails, none, some))
 
-pub failed_anyway : (b : Option Course) (m : ℕ) → IfSome b (λ (x : Course). 0 < m → FailsPut x.now → true ≡ true)
-failed_anyway None m = tt
-failed_anyway (Some x) m = λ some fails. refl
-
-pub unput_yet : (b : Option Course) (m : ℕ) → IfSome b (λ (x : Course). FailsPut x.now → m ≡ m)
-unput_yet None m = tt
-unput_yet (Some x) m = λ fails. refl
-
 pub some_front : (o n : Option Exchanges) (front rest piece : List ℕ) → front ++ rest ≡ piece → WhereTold o n (Asks front) → WhereTold o n (λ a b. (k : ℕ) × Asks (take k piece) a b)
 some_front None n front rest piece parts asks = asks
 some_front (Some a) None front rest piece parts asks = absurd asks
@@ -75,13 +55,6 @@ some_front (Some a) (Some b) front rest piece parts asks = (
   length front,
   asks ∙ ap (λ (f : List ℕ). with_now a (option_map (asking f) a.now)) (sym (take-append_seam front rest) ∙ ap (take (length front)) parts),
 )
-
--- a start, and the pieces asked after it
-pub failed_start : (o n : Option Exchanges) (host : List ℕ) (port : ℕ) (request : List ℕ) (e : Failed) → WhereTold o n (Begins host port (Err e)) → WhereTold o n (AskedIn host port request (Err e))
-failed_start None n host port request e begins = begins
-failed_start (Some o) None host port request e begins = absurd begins
-failed_start (Some o) (Some n) host port request e (inl none) = inr (ap exchanges_in none ∙ append-nil (exchanges_in o))
-failed_start (Some o) (Some n) host port request e (inr one) = inl (0, record { more = ap exchanges_in one ∙ append-nil (exchanges_in o ++ begun host port ∷ []) })
 
 one_more : (o s : Exchanges) (host : List ℕ) (port : ℕ) (asked : List ℕ) (n : Exchanges) → s ≡ record { past = exchanges_in o; now = Some (begun host port) } → Asks asked s n → OneMore host port asked [] o n
 one_more o s host port asked n begins asks = record { more = ap exchanges_in asks ∙ ap (λ (x : Exchanges). exchanges_in (with_now x (option_map (asking asked) x.now))) begins }
@@ -96,11 +69,3 @@ asked_whole (Some o) (Some s) (Some n) host port request (Ok tt) begins asks =
     asks ∙ ap (λ (x : Exchanges). with_now x (option_map (asking request) x.now)) begins
 asked_whole (Some o) (Some s) (Some n) host port request (Err e) begins asks =
     inl (asks.0, one_more o s host port (take asks.0 request) n begins asks.1)
-
--- which fault it is says nothing
-pub failed_with : (o n : Option Exchanges) (host : List ℕ) (port : ℕ) (request : List ℕ) (e : Failed) (r : Result Unit Failed)
-    → IsErr r → WhereTold o n (AskedIn host port request (Err e)) → WhereTold o n (AskedIn host port request r)
-failed_with o n host port request e (Ok done) failed asked = absurd (cc failed)
-failed_with None n host port request e (Err f) failed asked = asked
-failed_with (Some o) None host port request e (Err f) failed asked = absurd asked
-failed_with (Some o) (Some n) host port request e (Err f) failed asked = asked

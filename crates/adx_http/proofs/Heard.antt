@@ -12,17 +12,9 @@ with_answered e bytes = record e { answered = bytes }
 abbrev with_now : Exchanges → Option Exchange → Exchanges
 with_now e now = record e { now = now }
 
-answering_none : (e : Option Exchange) → option_map (answering []) e ≡ e
-answering_none None = refl
-answering_none (Some e) = ap (λ (a : List ℕ). Some (with_answered e a)) (append-nil e.answered)
-
 answering_both : (e : Option Exchange) (a b : List ℕ) → option_map (answering b) (option_map (answering a) e) ≡ option_map (answering (a ++ b)) e
 answering_both None a b = refl
 answering_both (Some e) a b = ap (λ (x : List ℕ). Some (with_answered e x)) (append_assoc e.answered a b)
-
-answers_none : (o : Option Exchanges) → WhereTold o o (Answers [])
-answers_none None = refl
-answers_none (Some o) = ap (with_now o) (sym (answering_none o.now))
 
 answers_both : (o m n : Option Exchanges) (a b : List ℕ) → WhereTold o m (Answers a) → WhereTold m n (Answers b) → WhereTold o n (Answers (a ++ b))
 answers_both None None n a b first second = second
@@ -77,11 +69,3 @@ hears_more talk e f plan c d out result hears answers takes = record {
 stands_none : (k : Option Connection) → WhereTold (option_map (λ (x : Connection). x.tape) k) (option_map (λ (x : Connection). x.tape) k) (Passes [])
 stands_none None = refl
 stands_none (Some k) = record { taken = sym (append-nil k.tape.taken); left = refl }
-
-course_none : (c : Option Course) → WhereTold c c (TakesOver [])
-course_none None = refl
-course_none (Some c) = record { plan = refl; tape = stands_none c.now }
-
--- no take yet
-pub hears_none : (e : Option Exchanges) (c : Option Course) → Hears e e c c
-hears_none e c = record { bytes = []; talk = answers_none e; plan = course_none c }

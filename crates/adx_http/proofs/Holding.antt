@@ -98,6 +98,3 @@ half_written old held before faults g bytes fault failed h = (
 
 pub joined_five : (x a b c d e : List ℕ) → ((((x ++ a) ++ b) ++ c) ++ d) ++ e ≡ x ++ ((((a ++ b) ++ c) ++ d) ++ e)
 joined_five x a b c d e = simp append_assoc
-
-pub joined_four : (a b c d : List ℕ) → ((([] ++ a) ++ b) ++ c) ++ d ≡ ((a ++ b) ++ c) ++ d
-joined_four a b c d = refl

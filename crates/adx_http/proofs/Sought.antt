@@ -36,12 +36,6 @@ pub ended : (wanted : List ℕ) (found : Option (Bor (List ℕ))) → sought wan
 ended wanted (Some v) = refl
 ended wanted None = refl
 
--- where it was found, what is left is not looked at
-pub is_found : (wanted : List ℕ) (found : Option (Bor (List ℕ))) (left : List (List ℕ × List ℕ)) (v : Bor (List ℕ)) → found ≡ Some v
-    → sought wanted found left ≡ bytes_of found
-is_found wanted (Some w) left v e = refl
-is_found wanted None left v e = absurd (cc e)
-
 -- a value as text
 pub as_text : (found : Option (Bor (List ℕ))) (wanted query : List ℕ) → bytes_of found ≡ raw_value_of wanted query
     → option_map (λ (v : Bor (List ℕ)). decoded v.now) found ≡ value_of wanted query

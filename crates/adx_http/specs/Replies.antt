@@ -8,6 +8,10 @@ use Rattle.adx_http.specs.declared.reply.Reply.{Reply}
 abbrev pub field_line : List ℕ → List ℕ → List ℕ
 field_line name value = name ++ codes ": " ++ value ++ crlf_bytes
 
+-- the field line that says the version of OpenRTB: every message of OpenRTB has this one
+abbrev pub version_line : List ℕ
+version_line = field_line (codes "x-openrtb-version") (codes "2.6")
+
 -- the bytes if the condition holds, and else none
 abbrev pub when : Bool → List ℕ → List ℕ
 when b bytes = if b then bytes else []
@@ -32,7 +36,7 @@ status_line status = codes "HTTP/1.1 " ++ decimal status ++ codes " " ++ phrase 
 abbrev pub field_lines : Reply → List ℕ
 field_lines r =
     when (has_type r) (field_line (codes "Content-Type") (codes "application/json"))
-    ++ when r.openrtb (field_line (codes "x-openrtb-version") (codes "2.6"))
+    ++ when r.openrtb version_line
     ++ when (not (length r.allow.now == 0)) (field_line (codes "Allow") r.allow.now)
     ++ when (has_body r) (field_line (codes "Content-Length") (decimal (length r.body.now)))
     ++ when r.close (field_line (codes "Connection") (codes "close"))

@@ -22,9 +22,6 @@ pub record BrokenSoFar (bytes : List ℕ) (tail : Option Tail) (left : List ℕ)
   pub front_bare : list_all is_bare front ≡ true
   pub left_bare : list_all is_bare left ≡ true
 
-pub broken_start : (bytes : List ℕ) → list_all is_bare bytes ≡ true → BrokenSoFar bytes None bytes
-broken_start bytes bare = record { front = []; whole = refl; ran = refl; front_bare = refl; left_bare = bare }
-
 bare_more : (xs : List ℕ) (b : ℕ) → list_all is_bare xs ≡ true → is_bare b ≡ true → list_all is_bare (xs ++ b ∷ []) ≡ true
 bare_more [] b h k = and_from _ _ k refl
 bare_more (x ∷ xs) b h k =

@@ -1,12 +1,11 @@
 -- The items of a list, in memory and as trees.
-use Rattle.std.proofs.Common.{◌≡◌, ℕ, suc, ◌+◌, ◌<◌, List, [], ◌∷◌, ◌++◌, drop, get_or, length, Bool, ◌||◌, Option, Some, None, refl, sym, ap, ◌∙◌, drop-cons, add-one, ◌≢◌}
-use Rattle.std.specs.List.{list_all, list_any, cons_option}
+use Rattle.std.proofs.Common.{◌≡◌, ℕ, suc, ◌+◌, ◌<◌, List, [], ◌∷◌, drop, get_or, length, Bool, ◌||◌, Some, refl, sym, ap, ◌∙◌, drop-cons, add-one, ◌≢◌}
+use Rattle.std.specs.List.{list_all, list_any}
 use Rattle.std.proofs.lemmas.List.Folds.{list_all-map}
-use Rattle.std.proofs.Math.Seq.{append_snoc}
 use Rattle.adx_json.specs.Tree.{Tree, null, boolean, number, text, list, object, Items, items_of}
 use Rattle.adx_json.specs.View.{tree_of, trees_of}
 use Rattle.adx_json.specs.declared.tree.Json.{Json}
-use Rattle.adx_json.specs.Values.{list_items, items_in, text_in, texts_among, is_text_tree}
+use Rattle.adx_json.specs.Values.{list_items, items_in, is_text_tree}
 
 pub list_items_of : (ts : List Tree) → list_items (items_of ts) ≡ ts
 list_items_of [] = refl
@@ -37,16 +36,3 @@ all_texts ts = all_trees is_text_tree ts
 pub left_is : (xs : List Json) (i : ℕ) (x : Json) → i < length xs → x ≡ get_or xs i x → trees_of (drop i xs) ≡ tree_of x ∷ trees_of (drop (i + 1) xs)
 left_is xs i x low is =
     ap trees_of (drop-cons xs i x low) ∙ ap (λ y. tree_of y ∷ trees_of (drop (suc i) xs)) (sym is) ∙ ap (λ n. tree_of x ∷ trees_of (drop n xs)) (sym (add-one i))
-
--- the texts so far, and those among the trees that are left
-abbrev texts_and : List (List ℕ) → List Tree → List (List ℕ)
-texts_and so_far ts = so_far ++ texts_among ts
-
-among_left : (so_far : List (List ℕ)) (o : Option (List ℕ)) (t : Tree) (ts us : List Tree) → us ≡ t ∷ ts → o ≡ text_in (Some t) → texts_and so_far us ≡ so_far ++ cons_option o (texts_among ts)
-among_left so_far o t ts us left is = ap (texts_and so_far) left ∙ ap (λ x. so_far ++ cons_option x (texts_among ts)) (sym is)
-
-pub text_kept : (so_far : List (List ℕ)) (x : List ℕ) (t : Tree) (ts us : List Tree) → us ≡ t ∷ ts → Some x ≡ text_in (Some t) → (so_far ++ x ∷ []) ++ texts_among ts ≡ so_far ++ texts_among us
-text_kept so_far x t ts us left is = append_snoc so_far x (texts_among ts) ∙ sym (among_left so_far (Some x) t ts us left is)
-
-pub text_passed : (so_far : List (List ℕ)) (t : Tree) (ts us : List Tree) → us ≡ t ∷ ts → None ≡ text_in (Some t) → so_far ++ texts_among ts ≡ so_far ++ texts_among us
-text_passed so_far t ts us left is = sym (among_left so_far None t ts us left is)

@@ -3,7 +3,7 @@ use Rattle.std.proofs.Common.{◌≡◌, ℕ, suc, ◌+◌, ◌<◌, List, [], �
 use Rattle.std.specs.Str.{IsUtf8}
 use Rattle.adx_json.specs.Grammar.{resolved}
 use Rattle.adx_json.specs.Faults.{BeginsText, IsFaultPlace, BeginsLevel65, outside, place_behind}
-use Rattle.adx_json.specs.Machine.{Frame, Mode, at_value, moves, stuck, too_deep, step, stop_of}
+use Rattle.adx_json.specs.Machine.{Frame, Mode, at_value, stuck, too_deep, step, stop_of}
 use Rattle.adx_json.specs.declared.fault.Stop.{Stop}
 use Rattle.adx_json.specs.declared.utf8.Tail.{Tail}
 use Rattle.adx_json.proofs.Utf8Steps.{run_utf8, utf8_runs}
@@ -84,10 +84,6 @@ place_at front (b ∷ rest) m fs e stops h halts = record {
   begins = subst (BeginsText 64) (sym (take_front front (b ∷ rest))) (reached_begins 64 front m fs h);
   longest = λ low t. never_begins 64 front b m fs h (halts_step 64 m fs b rest e halts) (subst (BeginsText 64) (take_next front b rest) t);
 }
-
--- level 65
-no_moves : (next : Mode) (gs : List Frame) → moves next gs ≡ stuck → ⊥
-no_moves next gs h = cc
 
 stuck_deeper : (m : Mode) (fs : List Frame) (b : ℕ) → Stands 64 m fs → step 64 m fs b ≡ stuck → step 65 m fs b ≡ stuck
 stuck_deeper m fs b stands e = subst (λ s. LeadsTo 64 m fs b s (step 65 m fs b)) e (step_leads 64 m fs b stands)

@@ -1,5 +1,5 @@
 -- Members whose names come again are left out one after another.
-use Rattle.std.proofs.Common.{◌≡◌, ℕ, zero, suc, ◌+◌, ◌<◌, ◌≤◌, List, [], ◌∷◌, ◌++◌, length, take, drop, Bool, true, false, cond, ◌||◌, refl, sym, ap, ap₂, ◌∙◌, subst, arith, add-one, length-append}
+use Rattle.std.proofs.Common.{◌≡◌, ℕ, zero, suc, ◌+◌, ◌<◌, ◌≤◌, List, [], ◌∷◌, ◌++◌, length, take, drop, Bool, false, cond, ◌||◌, refl, sym, ap, ap₂, ◌∙◌, subst, arith, add-one}
 use Rattle.std.specs.List.{list_any}
 use Rattle.std.specs.Str.{bytes_eq}
 use Rattle.adx_json.specs.Tree.{Members, no_members, member, members_of}
@@ -18,9 +18,6 @@ has_name_list (m ∷ ms) name = ap₂ (λ (k : List ℕ) (b : Bool). bytes_eq k 
 pub record KeptSoFar (all kept : List Member) (at : ℕ) : Type 0 where
   pub same : before_members (members_view (take at kept)) (last_of_each (members_of (members_view (drop at kept)))) ≡ last_of_each (members_of (members_view all))
   pub within : at ≤ length kept
-
-pub kept_start : (all : List Member) → KeptSoFar all all 0
-kept_start all = record { same = refl; within = omega arith }
 
 drop_next : (at : ℕ) (ms : List Member) (m : Member) (later : List Member) → drop at ms ≡ m ∷ later → drop (suc at) ms ≡ later
 drop_next zero [] m later e = cc
@@ -61,30 +58,6 @@ take_front (x ∷ front) rest = ap (λ y. x ∷ y) (take_front front rest)
 drop_front : (front rest : List Member) → drop (length front) (front ++ rest) ≡ rest
 drop_front [] rest = refl
 drop_front (x ∷ front) rest = drop_front front rest
-
-length_take : (at : ℕ) (ms : List Member) → at ≤ length ms → length (take at ms) ≡ at
-length_take zero ms h = refl
-length_take (suc at) [] h = absurd (omega arith)
-length_take (suc at) (x ∷ ms) h = ap suc (length_take at ms (omega arith))
-
--- a repeated one is left out
-pub kept_less : (all kept now : List Member) (at : ℕ) (again : Bool) → KeptSoFar all kept at → ComesAgain kept at again → at < length kept → again ≡ true → now ≡ take at kept ++ drop (at + 1) kept → KeptSoFar all now at
-kept_less all kept now at again s c low e removed =
-    let behind : drop (at + 1) kept ≡ c.later = ap (λ k. drop k kept) (add-one at) ∙ drop_next at kept c.member c.later c.whole in
-    let size : length (take at kept) ≡ at = length_take at kept s.within in
-    let cut : now ≡ take at kept ++ c.later = removed ∙ ap (λ x. take at kept ++ x) behind in
-    let front : take at now ≡ take at kept = ap (take at) cut ∙ ap (λ k. take k (take at kept ++ c.later)) (sym size) ∙ take_front (take at kept) c.later in
-    let back : drop at now ≡ c.later = ap (drop at) cut ∙ ap (λ k. drop k (take at kept ++ c.later)) (sym size) ∙ drop_front (take at kept) c.later in
-    record {
-      same =
-          ap₂ (λ (x y : List Member). before_members (members_view x) (last_of_each (members_of (members_view y)))) front back
-          ∙ ap (before_members (members_view (take at kept))) (sym (last_at c.member c.later true (sym c.is ∙ e)))
-          ∙ ap (λ x. before_members (members_view (take at kept)) (last_of_each (members_of (members_view x)))) (sym c.whole)
-          ∙ s.same;
-      within =
-          let many : length now ≡ length (take at kept) + length c.later = ap length cut ∙ length-append (take at kept) c.later in
-          omega arith;
-    }
 
 drop_past : (at : ℕ) (ms : List Member) → length ms ≤ at → drop at ms ≡ []
 drop_past zero [] h = refl

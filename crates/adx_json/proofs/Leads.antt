@@ -98,10 +98,6 @@ outside_leads limit m fs b next around here there n low within sound = record {
   within = within;
 }
 
--- white space before what has to come
-space_before : (b : ℕ) (space rest bytes : List ℕ) → bytes ≡ space ++ rest → b ∷ bytes ≡ (b ∷ space) ++ rest
-space_before b space rest bytes e = ap (λ r. b ∷ r) e
-
 pub value_spaced : (limit depth : ℕ) (After : List ℕ → Type 0) (b : ℕ) (r : List ℕ) → is_space b ≡ true → ValueThen limit depth After r → ValueThen limit depth After (b ∷ r)
 value_spaced limit depth After b r s v = record { tree = v.tree; space = b ∷ v.space; value = v.value; behind = v.behind; whole = ap (λ x. b ∷ x) v.whole; spaced = and_from _ _ s v.spaced; is = v.is; shallow = v.shallow; after = v.after }
 

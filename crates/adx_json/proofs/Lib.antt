@@ -32,6 +32,6 @@ pub mod OneTree
 pub mod TextsUtf8
 pub mod PutMembers
 pub mod Meeting
-pub mod Judging
 pub mod Items
 pub mod Finding
+pub mod Listing

@@ -73,17 +73,8 @@ digit_no_exponent b h = grind (arith, nat_tests)
 digit_no_point : (b : ℕ) → is_digit b ≡ true → is_point b ≡ false
 digit_no_point b h = grind (arith, nat_tests)
 
-digit_no_sign : (b : ℕ) → is_digit b ≡ true → (eqb b 45 || eqb b 43) ≡ false
-digit_no_sign b h = grind (arith, nat_tests)
-
 point_no_exponent : (b : ℕ) → eqb b 46 ≡ true → is_exponent_mark b ≡ false
 point_no_exponent b h = grind (arith, nat_tests)
-
-point_no_digit : (b : ℕ) → eqb b 46 ≡ true → is_digit b ≡ false
-point_no_digit b h = grind (arith, nat_tests)
-
-exponent_no_digit : (b : ℕ) → is_exponent_mark b ≡ true → is_digit b ≡ false
-exponent_no_digit b h = grind (arith, nat_tests)
 
 sign_swap : (b : ℕ) (x : Bool) → (eqb b 43 || eqb b 45) ≡ x → (eqb b 45 || eqb b 43) ≡ x
 sign_swap b x h = grind (arith, nat_tests)

@@ -1,5 +1,5 @@
 -- Items and words that are read one after another.
-use Rattle.std.proofs.Common.{◌≡◌, ◌≢◌, ℕ, zero, suc, ◌+◌, ◌<◌, ◌≤◌, List, [], ◌∷◌, ◌++◌, length, take, drop, map, false, Some, refl, sym, ap, ap₂, ◌∙◌, subst, arith, eqb, append_assoc, append-nil, length-append, add-one}
+use Rattle.std.proofs.Common.{◌≡◌, ◌≢◌, ℕ, zero, suc, ◌+◌, ◌<◌, ◌≤◌, List, [], ◌∷◌, ◌++◌, length, take, drop, map, false, Some, refl, sym, ap, ap₂, ◌∙◌, subst, arith, eqb, append_assoc, append-nil, add-one}
 use Rattle.std.proofs.lemmas.Bool.{ne_eqb, cond-false}
 use Rattle.adx_json.specs.Tree.{Tree, Items, no_items, item, items_levels, items_of}
 use Rattle.adx_units.specs.Scans.{Stops}
@@ -16,9 +16,6 @@ use Rattle.adx_json.proofs.ReaderParts.{empty_of, space_goes}
 pub record WordSoFar (bytes word left : List ℕ) (i : ℕ) : Type 0 where
   pub whole : bytes ≡ take i word ++ left
   pub stops : (e : Stop) → StopsWord e left (drop i word) → 0 < length (drop i word) → StopsWord e bytes word
-
-pub word_start : (bytes word : List ℕ) → WordSoFar bytes word bytes 0
-word_start bytes word = record { whole = refl; stops = λ e h some. h }
 
 take_one : (i : ℕ) (word : List ℕ) (c : ℕ) (cs : List ℕ) → drop i word ≡ c ∷ cs → take (suc i) word ≡ take i word ++ c ∷ []
 take_one zero [] c cs e = cc
@@ -190,10 +187,3 @@ unended fs (b ∷ rest) s c e = stop_step 64 behind_value (in_list ∷ fs) b res
 
 pub items_unended : (n : ℕ) (bytes : List ℕ) (ts : List Tree) (left : List ℕ) (v : Tree) (rest : List ℕ) → ItemsSoFar n bytes ts left → FoundElement n left v rest → ((more : List ℕ) → rest ≢ 44 ∷ more) → ((more : List ℕ) → rest ≢ 93 ∷ more) → (fs : List Frame) → suc (length fs) + n ≡ 64 → stop_of 64 at_first_item fs bytes ≡ Some (Syntax (length rest))
 items_unended n bytes ts left v rest s e comma close fs low = s.goes fs low ∙ item_goes n left v rest fs low e ∙ unended fs rest e.ends comma close
-
--- a further item leaves fewer bytes
-pub element_shorter : (n : ℕ) (left : List ℕ) (v : Tree) (rest : List ℕ) (c : ℕ) (more : List ℕ) → FoundElement n left v rest → rest ≡ c ∷ more → length more < length left
-element_shorter n left v rest c more e comma =
-    let whole : length left ≡ length e.value + length rest = ap length e.whole ∙ length-append e.value rest in
-    let behind : length rest ≡ suc (length more) = ap length comma in
-    omega arith

@@ -1,5 +1,5 @@
 -- Members that are read one after another.
-use Rattle.std.proofs.Common.{◌≡◌, ◌≢◌, ℕ, suc, ◌+◌, ◌<◌, ◌≤◌, List, [], ◌∷◌, ◌++◌, length, map, false, Some, refl, sym, ap, ap₂, ◌∙◌, subst, arith, eqb, append_assoc, append-nil, length-append}
+use Rattle.std.proofs.Common.{◌≡◌, ◌≢◌, ℕ, suc, ◌+◌, ◌≤◌, List, [], ◌∷◌, ◌++◌, length, map, false, Some, refl, sym, ap, ap₂, ◌∙◌, subst, arith, eqb, append_assoc, append-nil}
 use Rattle.std.proofs.lemmas.Bool.{ne_eqb, cond-false}
 use Rattle.adx_json.specs.Tree.{Tree, Members, no_members, member, members_levels, members_of}
 use Rattle.adx_units.specs.Scans.{Stops}
@@ -136,11 +136,3 @@ unended fs (b ∷ rest) s c e = stop_step 64 behind_value (in_object ∷ fs) b r
 
 pub members_unended : (n : ℕ) (bytes : List ℕ) (ms : List Named) (left name : List ℕ) (v : Tree) (rest : List ℕ) → MembersSoFar n bytes ms left → FoundMember n left name v rest → ((more : List ℕ) → rest ≢ 44 ∷ more) → ((more : List ℕ) → rest ≢ 125 ∷ more) → (fs : List Frame) → suc (length fs) + n ≡ 64 → stop_of 64 at_first_name fs bytes ≡ Some (Syntax (length rest))
 members_unended n bytes ms left name v rest s e comma close fs low = s.goes fs low ∙ e.goes fs low ∙ unended fs rest e.ends comma close
-
--- a further member leaves fewer bytes
-pub member_shorter : (n : ℕ) (left name : List ℕ) (v : Tree) (rest : List ℕ) (c : ℕ) (more : List ℕ) → FoundMember n left name v rest → rest ≡ c ∷ more → length more < length left
-member_shorter n left name v rest c more e comma =
-    let whole : length left ≡ length e.spelled + suc (length (e.value ++ rest)) = ap length e.whole ∙ length-append e.spelled (58 ∷ (e.value ++ rest)) in
-    let inner = length-append e.value rest in
-    let behind : length rest ≡ suc (length more) = ap length comma in
-    omega arith

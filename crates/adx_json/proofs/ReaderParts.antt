@@ -239,9 +239,6 @@ member_found n bytes t rest v end f e = record {
   goes = λ fs low. f.goes fs ∙ e.goes (in_object ∷ fs) low;
 }
 
-pub member_refused : (n : ℕ) (bytes t rest : List ℕ) (e : Stop) → FoundName bytes t rest → StopsAt e n at_value rest → StopsInside e n at_name bytes
-member_refused n bytes t rest e f h fs low = tells_same e (stop_of 64 at_name fs bytes) (stop_of 64 at_value (in_object ∷ fs) rest) (f.goes fs) (h (in_object ∷ fs) low)
-
 -- bytes after the whole value
 behind_stuck : (b : ℕ) → is_space b ≡ false → step 64 behind_value [] b ≡ stuck
 unfolding step

@@ -1,5 +1,5 @@
 -- A number that is read byte by byte.
-use Rattle.std.proofs.Common.{◌≡◌, ℕ, zero, suc, ◌<◌, List, [], ◌∷◌, ◌++◌, ◌-◌, length, take, drop, true, false, Some, None, refl, sym, ap, ◌∙◌, subst, arith, append_assoc, append-nil, length-append}
+use Rattle.std.proofs.Common.{◌≡◌, ℕ, zero, suc, ◌<◌, List, [], ◌∷◌, ◌++◌, ◌-◌, length, take, drop, true, false, Some, refl, sym, ap, ◌∙◌, subst, arith, append_assoc, append-nil, length-append}
 use Rattle.std.specs.Str.{IsAscii}
 use Rattle.std.proofs.lemmas.Str.{IsAscii-append}
 use Rattle.std.proofs.lemmas.Bool.{cond-false}
@@ -24,9 +24,6 @@ pub record ScannedSoFar (bytes : List ℕ) (n : Numeral) (left : List ℕ) : Typ
 ascii_nil : IsAscii []
 ascii_nil i = omega arith
 
-pub scan_start : (bytes : List ℕ) → ScannedSoFar bytes Start bytes
-scan_start bytes = record { number = []; whole = refl; accepted = λ more. refl; ascii = ascii_nil; goes = λ fs. refl }
-
 ascii_cons : (b : ℕ) (bs : List ℕ) → b < 128 → IsAscii bs → IsAscii (b ∷ bs)
 ascii_cons b bs low h zero = low
 ascii_cons b bs low h (suc i) = h i
@@ -43,18 +40,9 @@ scan_more bytes n k left b rest s first e = record {
   goes = λ fs. s.goes fs ∙ ap (stop_of 64 (in_number n) fs) first ∙ stop_step 64 (in_number n) fs b rest (moves (in_number k) fs) (numeral_step 64 fs n k b e);
 }
 
-pub scan_end : (bytes : List ℕ) (n : Numeral) (left : List ℕ) → ScannedSoFar bytes n left → EndsNumber n left → Scanned bytes n left
-scan_end bytes n left s ends = record { number = s.number; whole = s.whole; accepted = s.accepted; ascii = s.ascii; goes = s.goes; ends = ends }
-
 ends_none : (n : Numeral) (left : List ℕ) → length left ≡ 0 → EndsNumber n left
 ends_none n [] h = tt
 ends_none n (b ∷ left) h = absurd (omega arith)
-
-pub scan_all : (bytes : List ℕ) (n : Numeral) (left : List ℕ) → ScannedSoFar bytes n left → length left ≡ 0 → Scanned bytes n left
-scan_all bytes n left s none = scan_end bytes n left s (ends_none n left none)
-
-pub scan_stops : (bytes : List ℕ) (n : Numeral) (left : List ℕ) (b : ℕ) (rest : List ℕ) → ScannedSoFar bytes n left → left ≡ b ∷ rest → next_numeral n b ≡ None → Scanned bytes n left
-scan_stops bytes n left b rest s first e = scan_end bytes n left s (subst (EndsNumber n) (sym first) e)
 
 -- a number that may end is found
 pub scan_found : (bytes : List ℕ) (n : Numeral) (rest : List ℕ) (s : Scanned bytes n rest) → may_end n ≡ true → FoundNumber bytes s.number rest

@@ -1,6 +1,6 @@
 -- What is said of each member from the end on, by the set of the names after it, and what is kept by that.
 use Rattle.std.proofs.Common.{◌≡◌, ℕ, List, [], ◌∷◌, ◌++◌, append_assoc, append-nil, reverse, Bool, true, false, cond, not, ◌||◌, Ordering, Less, Equal, Greater, nat_cmp, is_eq, Bor, refl, sym, ap, ap₂, ◌∙◌}
-use Rattle.std.proofs.lemmas.List.{reverse-append, reverse-reverse}
+use Rattle.std.proofs.lemmas.List.{reverse-append}
 use Rattle.std.proofs.lemmas.Map.Text.{is_eq-slice_cmp}
 use Rattle.std.proofs.lemmas.Slice.Eq.{bytes_eq-Decides}
 use Rattle.std.proofs.lemmas.Cmp.{tied_itself}
@@ -86,14 +86,6 @@ pub record KeptByFlags (all left kept : List Member) (told : List Bool) : Type 0
   pub same : before_members (members_view kept) (last_of_each (members_of (members_view (reverse left)))) ≡ last_of_each (members_of (members_view all))
   pub flags : told ≡ stays (reverse left)
 
-pub flags_start : (all left kept : List Member) (told : List Bool) → left ≡ reverse all → kept ≡ [] → told ≡ stays all → KeptByFlags all left kept told
-flags_start all left kept told e none h =
-    let back : reverse left ≡ all = ap reverse e ∙ reverse-reverse all in
-    record {
-      same = ap₂ (λ (k l : List Member). before_members (members_view k) (last_of_each (members_of (members_view l)))) none back;
-      flags = h ∙ ap stays (sym back);
-    }
-
 pub turned : (left now : List Member) (m : Member) → left ≡ now ++ m ∷ [] → reverse left ≡ m ∷ reverse now
 turned left now m cut = ap reverse cut ∙ reverse-append now (m ∷ [])
 
@@ -118,17 +110,6 @@ flag_kept all left now kept m told behind b s cut first e =
       same =
           before_view kept m (last_of_each (members_of (members_view (reverse now))))
           ∙ ap (before_members (members_view kept)) (sym (last_at m (reverse now) false (not_false _ (sym e ∙ at.0))))
-          ∙ ap (λ x. before_members (members_view kept) (last_of_each (members_of (members_view x)))) (sym (turned left now m cut))
-          ∙ s.same;
-      flags = at.1;
-    }
-
-pub flag_dropped : (all left now kept : List Member) (m : Member) (told behind : List Bool) (b : Bool) → KeptByFlags all left kept told → left ≡ now ++ m ∷ [] → told ≡ b ∷ behind → b ≡ false → KeptByFlags all now kept behind
-flag_dropped all left now kept m told behind b s cut first e =
-    let at = flag_told all left now kept m told behind b s cut first in
-    record {
-      same =
-          ap (before_members (members_view kept)) (sym (last_at m (reverse now) true (not_true _ (sym e ∙ at.0))))
           ∙ ap (λ x. before_members (members_view kept) (last_of_each (members_of (members_view x)))) (sym (turned left now m cut))
           ∙ s.same;
       flags = at.1;

@@ -1,5 +1,5 @@
 -- The parts of a text that is read.
-use Rattle.std.proofs.Common.{◌≡◌, ℕ, suc, ◌+◌, ◌*◌, ◌<◌, List, [], ◌∷◌, ◌++◌, length, Bool, true, false, cond, Option, Some, None, Result, Err, refl, sym, ap, ◌∙◌, subst, arith, eqb, ltb, leb, append_assoc, append-nil, length-append}
+use Rattle.std.proofs.Common.{◌≡◌, ℕ, suc, ◌+◌, ◌*◌, ◌<◌, List, [], ◌∷◌, ◌++◌, length, Bool, true, false, cond, Option, Some, None, Result, Err, refl, sym, ap, ◌∙◌, subst, arith, eqb, ltb, leb, append_assoc, append-nil}
 use Rattle.std.proofs.lemmas.Bool.{cond-true, cond-false, and_from, ne_eqb}
 use Rattle.std.proofs.lemmas.Bool.Decides.{nat_tests}
 use Rattle.std.specs.Option.{IfSome}
@@ -9,7 +9,7 @@ use Rattle.std.specs.Str.{IsUtf8}
 use Rattle.std.specs.Char.Utf16.{is_high_surrogate}
 use Rattle.adx_units.specs.JsonTexts.{is_bare}
 use Rattle.adx_units.specs.Scans.{Stops}
-use Rattle.adx_json.specs.Grammar.{Piece, run, short, unit, IsPiece, piece_bytes, is_short, is_hex, short_value, unit_text, unpaired, waits, decoded}
+use Rattle.adx_json.specs.Grammar.{Piece, short, unit, IsPiece, piece_bytes, is_short, is_hex, short_value, unit_text, unpaired, waits, decoded}
 use Rattle.adx_json.specs.Machine.{Frame, characters, escaped, digits, Role, in_text, moves, stuck, step, stop_of, at_end, within_fault, Tells, behind_digit, behind_text}
 use Rattle.adx_json.specs.declared.utf8.Tail.{Tail}
 use Rattle.adx_json.specs.declared.fault.Stop.{Stop}
@@ -30,9 +30,6 @@ tells_cond false left = refl
 
 pub tells_within : (e : Stop) (left b : ℕ) (o : Option Stop) → e ≡ within_fault escaped left b → o ≡ Some (within_fault escaped left b) → Tells e o
 tells_within e left b o same h = subst (λ x. Tells x o) (sym same) (subst (Tells (within_fault escaped left b)) (sym h) (tells_cond (leb 128 b) left))
-
-pub tells_syntax : (e : Stop) (left : ℕ) (o : Option Stop) → e ≡ Syntax left → o ≡ Some (Syntax left) → Tells e o
-tells_syntax e left o same h = subst (λ x. Tells x o) (sym same) h
 
 -- at the end of the bytes
 digits_end : (role : Role) (fs : List Frame) (k : ℕ) → at_end (in_text role (digits k)) fs ≡ Some (Syntax 0)
@@ -221,17 +218,6 @@ text_closes bytes out waiting left rest after s first e = record {
 
 pub backslash_goes : (left rest : List ℕ) (role : Role) (fs : List Frame) → left ≡ 92 ∷ rest → stop_of 64 (in_text role (characters None)) fs left ≡ stop_of 64 (in_text role escaped) fs rest
 backslash_goes left rest role fs first = ap (stop_of 64 (in_text role (characters None)) fs) first ∙ stop_step 64 (in_text role (characters None)) fs 92 rest (moves (in_text role escaped) fs) (backslash_step 64 role fs)
-
-piece_some : (p : Piece) → IsPiece p → 0 < length (piece_bytes p)
-piece_some (run bytes) h = h.0
-piece_some (short b) h = omega arith
-piece_some (unit a b c d) h = omega arith
-
-pub escape_shorter : (left bare behind rest : List ℕ) (u : ℕ) (more : List ℕ) → left ≡ bare ++ behind → behind ≡ 92 ∷ rest → FoundEscape rest u more → length more < length left
-escape_shorter left bare behind rest u more cut first f =
-    let whole : length left ≡ length bare + length behind = ap length cut ∙ length-append bare behind in
-    let inner : length behind ≡ length (piece_bytes f.piece) + length more = ap length (first ∙ f.whole) ∙ length-append (piece_bytes f.piece) more in
-    omega (arith, piece_some f.piece f.is)
 
 -- a byte that was compared
 pub at_byte : (bytes : List ℕ) (b c : ℕ) (rest : List ℕ) → bytes ≡ b ∷ rest → b ≡ c → bytes ≡ c ∷ rest

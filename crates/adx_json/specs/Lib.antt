@@ -10,6 +10,6 @@ pub mod Repeats
 pub mod WellFormed
 pub mod Named
 pub mod Values
-pub mod Checks
 pub mod Walks
 pub mod FoundMembers
+pub mod Rows

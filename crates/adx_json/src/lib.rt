@@ -3,9 +3,9 @@
 //! A contract sees a value as a `Tree`, without where it lies in memory, and its text as bytes. `read` takes exactly
 //! the texts of the grammar with at most 64 levels, and `write` gives one that is read back.
 //!
-//! Views of JSON trees: an object's members by their names in one walk, what each value is, and tests in an order. A
-//! reader of a tree states its tests as a list of `Check`, and its contract as `Gives`: its answer is the view where
-//! each test holds, and else the fault of the first that fails.
+//! What JSON trees say: an object's members by their names in one walk, and what each value is. A reader of an object
+//! states its members as a table, a list of `Row`, and its contract as `Reads`: it answers the first fault by the
+//! table, or a value with the fields that the table says.
 //!
 //! Uses `adx_units` and `itoa`.
 #![tactic(auto)]
@@ -27,7 +27,7 @@ mod writing;
 
 pub use fault::JsonFault;
 pub use law::one_tree;
-pub use member::{find_given, find_members, given, members_in, met};
+pub use member::{find_given, find_members, given, members_in};
 pub use reader::read;
 pub use texts::{are_texts_if_given, texts_in};
 pub use tree::{Json, Member};

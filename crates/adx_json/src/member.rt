@@ -2,7 +2,6 @@
 ghost use Rattle.std.specs.Prelude.{◌≡◌, ◌≢◌, ◌<◌, ℕ, List, None, length, option_map};
 ghost use Rattle.std.specs.Borrow.{Bor};
 ghost use Rattle.std.specs.List.{slice_index_or};
-ghost use Rattle.std.specs.Str.{bytes_eq};
 ghost use Rattle.adx_json.specs.Tree.{members_of};
 ghost use Rattle.adx_json.specs.Named.{value_of};
 ghost use Rattle.adx_json.specs.View.{tree_of, member_of, members_view};
@@ -95,26 +94,6 @@ pub fn members_in(tree: &Json) -> &[Member]
         Some(members) => members,
         None => &[],
     }
-}
-
-/// What is under a name, once a further member was met: the first member of that name counts.
-/// One walk over an object's members finds the values of several names, each kept by a call of this.
-pub fn met<'a>(found: Option<&'a Json>, name: &str, member: &'a Member) -> Option<&'a Json>
-    ensures { option_map (λ t. tree_of t.now) result ≡ with_member name.now (option_map (λ t. tree_of t.now) found.entry) (member_of member.now) }
-{
-    match found {
-        Some(value) => Some(value),
-        None if is_named(member, name) => Some(&member.value),
-        None => None,
-    }
-}
-
-/// Whether a member has a name. Of the names that a walk looks for most differ in length from the member's.
-fn is_named(member: &Member, name: &str) -> bool
-    ensures { result ≡ bytes_eq (member_of member.now).0 name.now }
-{
-    let given = member.name.as_str();
-    given.len() == name.len() && given == name
 }
 
 /// What was found, where it isn't null.

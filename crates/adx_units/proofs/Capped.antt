@@ -1,21 +1,12 @@
 -- Amounts that are counted up to a cap.
-use Rattle.std.proofs.Common.{◌≡◌, ℕ, ◌+◌, ◌-◌, ◌*◌, ◌^◌, ◌<◌, ◌≤◌, inl, inr, min, List, [], ◌∷◌, ◌++◌, take, length, get_or, sym, ap, refl, ◌∙◌, arith, pow-suc, mul-le-mul_right, mul_assoc, mul_comm, zero-mul, eq-zero-or-pos, add-one}
+use Rattle.std.proofs.Common.{◌≡◌, ℕ, ◌+◌, ◌-◌, ◌*◌, ◌^◌, ◌<◌, ◌≤◌, inl, inr, min, List, [], ◌∷◌, ◌++◌, sym, ap, refl, ◌∙◌, arith, pow-suc, mul-le-mul_right, mul_assoc, mul_comm, zero-mul, eq-zero-or-pos, add-one}
 use Rattle.std.proofs.Math.Nat.{pow-le-pow_right, le-mul_of_pos_right}
-use Rattle.std.proofs.lemmas.List.Sums.{fold-append, fold_more}
-use Rattle.std.proofs.lemmas.List.{take_all}
+use Rattle.std.proofs.lemmas.List.Sums.{fold-append}
 use Rattle.std.proofs.lemmas.Bool.{cases_lt}
 use Rattle.adx_units.specs.Number.{digits_value, digits_after}
 
 pub capped_more : (v a d cap : ℕ) → v ≡ min a cap → min (10 * v + d) cap ≡ min (10 * a + d) cap
 capped_more v a d cap e = omega arith
-
--- one more digit
-pub capped_digit : (v start : ℕ) (ds : List ℕ) (i cap : ℕ) → i < length ds → v ≡ min (digits_after start (take i ds)) cap → min (10 * v + (get_or ds i 0 - 48)) cap ≡ min (digits_after start (take (i + 1) ds)) cap
-capped_digit v start ds i cap inside e =
-    capped_more v (digits_after start (take i ds)) (get_or ds i 0 - 48) cap e ∙ ap (λ n. min n cap) (sym (fold_more (λ m b. 10 * m + (b - 48)) start ds i 0 inside))
-
-pub capped_all : (v start : ℕ) (ds : List ℕ) (i cap : ℕ) → length ds ≤ i → v ≡ min (digits_after start (take i ds)) cap → v ≡ min (digits_after start ds) cap
-capped_all v start ds i cap past e = e ∙ ap (λ l. min (digits_after start l) cap) (take_all i ds past)
 
 -- digits after a capped number
 pub capped_after : (a : ℕ) (ds : List ℕ) (cap : ℕ) → min (digits_after (min a cap) ds) cap ≡ min (digits_after a ds) cap

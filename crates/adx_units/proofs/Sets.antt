@@ -1,10 +1,10 @@
 -- The names of a set, and names that are looked up in one that has the same.
-use Rattle.std.proofs.Common.{◌≡◌, ℕ, List, [], ◌∷◌, map, Bool, true, false, cond, length, ◌&&◌, ◌||◌, nat_cmp, is_eq, Ordering, Bor, bytes_eq, refl, sym, ap, ap₂, ◌∙◌, arith}
+use Rattle.std.proofs.Common.{◌≡◌, ℕ, List, [], ◌∷◌, map, Bool, true, false, cond, length, ◌||◌, nat_cmp, is_eq, Ordering, Bor, bytes_eq, refl, sym, ap, ap₂, ◌∙◌, arith}
 use Rattle.std.proofs.lemmas.Map.Text.{is_eq-slice_cmp}
 use Rattle.std.proofs.lemmas.Slice.Eq.{bytes_eq-Decides}
 use Rattle.std.specs.BTreeSet.{BTreeSet, Updates}
 use Rattle.std.specs.Cmp.Lexicographic.{slice_cmp}
-use Rattle.std.specs.List.{list_all, list_any}
+use Rattle.std.specs.List.{list_any}
 use Rattle.adx_units.specs.Among.{is_among}
 
 -- the order of a set's names
@@ -57,10 +57,6 @@ all_in all (n ∷ left) set h e q = absurd (omega (arith, e))
 pub any_same : (f g : List ℕ → Bool) → ((q : List ℕ) → f q ≡ g q) → (ns : List (List ℕ)) → list_any f ns ≡ list_any g ns
 any_same f g h [] = refl
 any_same f g h (n ∷ ns) = ap₂ (λ a b. a || b) (h n) (any_same f g h ns)
-
-pub all_same : (f g : List ℕ → Bool) → ((q : List ℕ) → f q ≡ g q) → (ns : List (List ℕ)) → list_all f ns ≡ list_all g ns
-all_same f g h [] = refl
-all_same f g h (n ∷ ns) = ap₂ (λ a b. a && b) (h n) (all_same f g h ns)
 
 none_any : (ys : List (List ℕ)) → list_any (is_among []) ys ≡ false
 none_any [] = refl

@@ -81,9 +81,6 @@ decided_at budgets standing imp offers k d within = made_at (λ p. decided_item 
 pub passed_candidate : (budgets : List Units) (standing : Standing) (imp : ℕ) (o : Offer) → is_candidate imp o ≡ true → passed budgets standing imp o ≡ with_reason o (decided false (fits budgets standing o))
 passed_candidate budgets standing imp o may = cond-true _ _ _ may
 
-pub passed_other : (budgets : List Units) (standing : Standing) (imp : ℕ) (o : Offer) → is_candidate imp o ≡ false → passed budgets standing imp o ≡ o
-passed_other budgets standing imp o not = cond-false _ _ _ not
-
 pub passed_at : (budgets : List Units) (standing : Standing) (imp : ℕ) (offers : List Offer) (k : ℕ) (d : Offer) → k < length offers → get_or (map (passed budgets standing imp) offers) k d ≡ passed budgets standing imp (get_or offers k d)
 passed_at budgets standing imp offers k d within = get_or-map (passed budgets standing imp) offers k d d within
 

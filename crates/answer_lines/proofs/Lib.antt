@@ -1,6 +1,5 @@
 pub mod AtHand
 pub mod Chains
-pub mod Counts
 pub mod Joined
 pub mod Sold
 pub mod OfNoAsk

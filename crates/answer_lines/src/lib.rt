@@ -18,4 +18,4 @@ mod table;
 pub use answers::{push_answer, push_digest};
 pub use at_hand::ask_at_hand;
 pub use faults::{Fault, push_fault};
-pub use table::{ask_count, push_table};
+pub use table::push_table;

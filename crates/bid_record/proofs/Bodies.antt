@@ -62,6 +62,3 @@ body_goes_on bytes front left b behind (suc n, short, kept) q h =
     let read : body_at (suc n) left ≡ (body_at n behind >>= λ x. Some (b ∷ x.0, x.1)) = rw (none, h) refl in
     let len = shorter left b behind h in
     (n, omega (arith, len), sym (regroup front b (body_at n behind)) ∙ ap (with_front front) (sym read) ∙ kept)
-
-pub body_begins : (bytes : List ℕ) → Keeps bytes [] bytes
-body_begins bytes = (length bytes, omega arith, begun (body_at (length bytes) bytes))

@@ -1,5 +1,5 @@
 -- The lines of a record, taken one after the other.
-use Rattle.std.proofs.Common.{◌≡◌, ◌≢◌, ℕ, zero, suc, ◌+◌, ◌-◌, ◌^◌, ◌<◌, ◌≤◌, inl, inr, List, [], ◌∷◌, ◌++◌, length, map, codes, get_or, drop, true, false, ◌||◌, eqb, ltb, leb, IsTrue, Option, Some, None, Result, Ok, Err, refl, sym, ap, ◌∙◌, subst, arith, lit<, append_assoc, append-nil, length-append}
+use Rattle.std.proofs.Common.{◌≡◌, ℕ, zero, suc, ◌+◌, ◌-◌, ◌^◌, ◌<◌, ◌≤◌, inl, inr, List, [], ◌∷◌, ◌++◌, length, map, codes, get_or, drop, true, false, ◌||◌, eqb, ltb, leb, IsTrue, Option, Some, None, Result, Ok, Err, refl, sym, ap, ◌∙◌, subst, arith, lit<, append_assoc, append-nil, length-append}
 use Rattle.std.specs.Option.{ForSome}
 use Rattle.std.specs.Prelude.{IfOk, IfErr}
 use Rattle.std.specs.List.{list_all, flat_map, All, AllPairs, enumerate_from}
@@ -26,7 +26,7 @@ use Rattle.bid_record.specs.Taking.{IsTaken, AreRows, IsOpened, AreRead, IsBehin
 use Rattle.bid_record.proofs.CampaignLines.{wide32}
 use Rattle.bid_record.proofs.Texts.{and_no}
 use Rattle.std.proofs.lemmas.Option.{none-some, same_Some}
-use Rattle.std.proofs.lemmas.Bool.{and_parts, or_cases, eqb-true, cases_lt, ltb-true, lt-leb, false≢true}
+use Rattle.std.proofs.lemmas.Bool.{and_parts, or_cases, eqb-true, cases_lt, ltb-true, lt-leb}
 use Rattle.std.proofs.lemmas.Slice.Eq.{bytes_eq-Decides}
 use Rattle.std.proofs.lemmas.Str.{IsUtf8-from_ascii}
 use Rattle.std.specs.Str.{IsUtf8, IsAscii}
@@ -280,11 +280,6 @@ second_fails bytes rest format line behind known e cut one other = record {
   fails = λ form. other form.0 form.1 form.2;
 }
 
-pub second_read : (bytes rest : List ℕ) (format : ℕ) (line behind day : List ℕ) → bytes ≡ ended (head_line format) ++ rest → rest ≡ line ++ 10 ∷ behind → line ≡ day_line day → bytes ≡ flat_map ended (head_line format ∷ (day_line day ∷ [])) ++ behind
-second_read bytes rest format line behind day e cut is =
-    pushed bytes rest line behind (head_line format ∷ []) (whole_head bytes rest format e) cut
-    ∙ ap (λ (l : List ℕ). flat_map ended (head_line format ∷ (l ∷ [])) ++ behind) is
-
 pub rows_begin : (bytes rest : List ℕ) (format : ℕ) (day : List ℕ) (cs : List CampaignRow) (imps : List ImpRow) → IsOpened format day → bytes ≡ flat_map ended (head_line format ∷ (day_line day ∷ [])) ++ rest → cs ≡ [] → imps ≡ [] → AreRead bytes format day cs imps rest 3
 rows_begin bytes rest format day cs imps o e no_cs no_imps =
     let len = ap (λ (t : List ℕ). length t) e ∙ length-append (flat_map ended (head_line format ∷ (day_line day ∷ []))) rest in
@@ -363,9 +358,6 @@ shape_ascii i = ascii_at (codes "0000-00-00") refl i
 
 digit_not : (b : ℕ) → 128 ≤ b → is_digit b ≡ false
 digit_not b high = let top : leb b 57 ≡ false = lt-leb b 57 (omega arith) in rw top (and_no (leb 48 b))
-
-not_shaped : (day : List ℕ) → is_day day ≡ false → IsTrue (is_day day) → ⊥
-not_shaped day no_day h = false≢true (sym no_day ∙ h)
 
 ascii_byte : (b : ℕ) → zeroed b < 128 → b < 128
 ascii_byte b h =

@@ -136,10 +136,6 @@ imp_unread format cs imps line b none day form =
     let r = imp_form format day cs imps line b form in
     none-some (r.index, r.row) (sym none ∙ r.read)
 
-pub imp_no_room : (format : ℕ) (cs : List CampaignRow) (imps : List ImpRow) (line : List ℕ) → begins_with 105 line ≡ true → ((1 ≤ length cs) × (length imps + 1 < 2 ^ 32) → ⊥) → (day : List ℕ) → IsOfForm (rows format day cs imps) line → ⊥
-imp_no_room format cs imps line b no_room day form =
-    let r = imp_form format day cs imps line b form in no_room (r.next.behind_campaign, r.next.room)
-
 pub imp_order : (format : ℕ) (cs : List CampaignRow) (imps : List ImpRow) (line : List ℕ) (index : ℕ) (row : ImpRow) → imp_at format line ≡ Some (index, row) → 1 ≤ length cs → length imps + 1 < 2 ^ 32 → index ≢ length imps → (day : List ℕ) → BreaksOrder (rows format day cs imps) line
 imp_order format cs imps line index row read some room apart day =
     let is = imp_takes format line index row read in
@@ -200,10 +196,6 @@ end_form format day cs imps line c i (inr (inr x)) = record { n = x.0; read = ap
 pub end_unread : (format : ℕ) (cs : List CampaignRow) (imps : List ImpRow) (line : List ℕ) → begins_with 99 line ≡ false → begins_with 105 line ≡ false → end_line_at line ≡ None → (day : List ℕ) → IsOfForm (rows format day cs imps) line → ⊥
 end_unread format cs imps line c i none day form =
     let r = end_form format day cs imps line c i form in none-some r.n (sym none ∙ r.read)
-
-pub end_too_early : (format : ℕ) (cs : List CampaignRow) (imps : List ImpRow) (line : List ℕ) → begins_with 99 line ≡ false → begins_with 105 line ≡ false → (1 ≤ length cs → ⊥) → (day : List ℕ) → IsOfForm (rows format day cs imps) line → ⊥
-end_too_early format cs imps line c i none day form =
-    let r = end_form format day cs imps line c i form in none r.next.behind_campaign
 
 pub end_order : (format : ℕ) (cs : List CampaignRow) (imps : List ImpRow) (line : List ℕ) (n : ℕ) → end_line_at line ≡ Some n → 1 ≤ length cs → length imps < 2 ^ 32 → n ≢ length imps → (day : List ℕ) → BreaksOrder (rows format day cs imps) line
 end_order format cs imps line n read some few apart day =

@@ -32,7 +32,8 @@ passes_within : (p : ℕ → Bool) (xs : List ℕ) → list_any p xs ≡ true �
 passes_within p [] h = cc
 passes_within p (x ∷ xs) h = by (p x) refl h (passes_within p xs)
   where
-    by : (b : Bool) → p x ≡ b → (b || list_any p xs) ≡ true → (list_any p xs ≡ true → position_or_len p xs < length xs) → position_or_len p (x ∷ xs) < length (x ∷ xs)
+    by : (b : Bool) → p x ≡ b → (b || list_any p xs) ≡ true → (list_any p xs ≡ true → position_or_len p xs < length xs)
+        → position_or_len p (x ∷ xs) < length (x ∷ xs)
     by true e h rest = omega (arith, ap (λ t. cond (not t) (1 + position_or_len p xs) 0) e)
     by false e h rest = omega (arith, ap (λ t. cond (not t) (1 + position_or_len p xs) 0) e, rest h)
 

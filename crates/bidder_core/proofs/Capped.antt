@@ -37,7 +37,8 @@ module _ {A : Type 0} where
         ∙ h
 
     -- behind the last item
-    pub all_items : (xs : List X) (i : ℕ) (done whole : List A) → length xs ≤ i → length done ≤ n → take n (done ++ flat_map f (enumerate_from i (drop i xs))) ≡ whole → done ≡ whole
+    pub all_items : (xs : List X) (i : ℕ) (done whole : List A) → length xs ≤ i → length done ≤ n
+        → take n (done ++ flat_map f (enumerate_from i (drop i xs))) ≡ whole → done ≡ whole
     all_items xs i done whole end few h =
         none_more n done few ∙ sym (ap (λ ys. take n (done ++ flat_map f (enumerate_from i ys))) (drop_all i xs end)) ∙ h
 

@@ -26,7 +26,8 @@ or_yes true = refl
 or_yes false = refl
 
 -- the notice is of another award
-not_here : (kind : NoticeKind) (w b l : Bool) → noticed_of (w || ((is_kind NoticeKind.Win kind && false) || false)) (b || ((is_kind NoticeKind.Bill kind && false) || false)) (l || ((is_kind NoticeKind.Loss kind && false) || false)) ≡ noticed_of w b l
+not_here : (kind : NoticeKind) (w b l : Bool)
+    → noticed_of (w || ((is_kind NoticeKind.Win kind && false) || false)) (b || ((is_kind NoticeKind.Bill kind && false) || false)) (l || ((is_kind NoticeKind.Loss kind && false) || false)) ≡ noticed_of w b l
 not_here NoticeKind.Win w b l = λ i. noticed_of (or_no w i) (or_no b i) (or_no l i)
 not_here NoticeKind.Bill w b l = λ i. noticed_of (or_no w i) (or_no b i) (or_no l i)
 not_here NoticeKind.Loss w b l = λ i. noticed_of (or_no w i) (or_no b i) (or_no l i)
@@ -37,19 +38,23 @@ loss_end w true l h = cc
 loss_end w false l h = refl
 
 -- the notice is of this award
-here : (kind : NoticeKind) (w b l : Bool) → ruling kind w (end_of b l) ≡ Ruling.Counted → noticed_of (w || ((is_kind NoticeKind.Win kind && true) || false)) (b || ((is_kind NoticeKind.Bill kind && true) || false)) (l || ((is_kind NoticeKind.Loss kind && true) || false)) ≡ noticed_by kind (noticed_of w b l)
+here : (kind : NoticeKind) (w b l : Bool) → ruling kind w (end_of b l) ≡ Ruling.Counted
+    → noticed_of (w || ((is_kind NoticeKind.Win kind && true) || false)) (b || ((is_kind NoticeKind.Bill kind && true) || false)) (l || ((is_kind NoticeKind.Loss kind && true) || false)) ≡ noticed_by kind (noticed_of w b l)
 here NoticeKind.Win w b l h = λ i. noticed_of (or_yes w i) (or_no b i) (or_no l i)
 here NoticeKind.Bill w b l h = λ i. noticed_of (or_no w i) (or_yes b i) (or_no l i)
 here NoticeKind.Loss w b l h = (λ i. noticed_of (or_no w i) (or_no b i) (or_yes l i)) ∙ ap (λ e. record { won = w; end = e }) (loss_end w b l h)
 
-by_place : (kind : NoticeKind) (t w b l : Bool) → (t ≡ true → ruling kind w (end_of b l) ≡ Ruling.Counted) → noticed_of (w || ((is_kind NoticeKind.Win kind && t) || false)) (b || ((is_kind NoticeKind.Bill kind && t) || false)) (l || ((is_kind NoticeKind.Loss kind && t) || false)) ≡ cond t (noticed_by kind (noticed_of w b l)) (noticed_of w b l)
+by_place : (kind : NoticeKind) (t w b l : Bool) → (t ≡ true → ruling kind w (end_of b l) ≡ Ruling.Counted)
+    → noticed_of (w || ((is_kind NoticeKind.Win kind && t) || false)) (b || ((is_kind NoticeKind.Bill kind && t) || false)) (l || ((is_kind NoticeKind.Loss kind && t) || false)) ≡ cond t (noticed_by kind (noticed_of w b l)) (noticed_of w b l)
 by_place kind true w b l h = here kind w b l (h refl)
 by_place kind false w b l h = not_here kind w b l
 
-more_counted : (kind : NoticeKind) (auction bid : List ℕ) (rows : List LedgerRow) (r : LedgerRow) → was_counted kind auction bid (rows ++ r ∷ []) ≡ (was_counted kind auction bid rows || ((is_kind kind r.kind && is_of auction bid r) || false))
+more_counted : (kind : NoticeKind) (auction bid : List ℕ) (rows : List LedgerRow) (r : LedgerRow)
+    → was_counted kind auction bid (rows ++ r ∷ []) ≡ (was_counted kind auction bid rows || ((is_kind kind r.kind && is_of auction bid r) || false))
 more_counted kind auction bid rows r = list_any-append (λ (s : LedgerRow). is_kind kind s.kind && is_of auction bid s) rows (r ∷ [])
 
-pub noticed_more : (auction bid : List ℕ) (rows : List LedgerRow) (r : LedgerRow) → (is_of auction bid r ≡ true → ruling_in r.kind auction bid rows ≡ Ruling.Counted)
+pub noticed_more : (auction bid : List ℕ) (rows : List LedgerRow) (r : LedgerRow)
+    → (is_of auction bid r ≡ true → ruling_in r.kind auction bid rows ≡ Ruling.Counted)
     → noticed_in auction bid (rows ++ r ∷ []) ≡ cond (is_of auction bid r) (noticed_by r.kind (noticed_in auction bid rows)) (noticed_in auction bid rows)
 noticed_more auction bid rows r h =
     (λ i. noticed_of (more_counted NoticeKind.Win auction bid rows r i) (more_counted NoticeKind.Bill auction bid rows r i) (more_counted NoticeKind.Loss auction bid rows r i))
@@ -69,7 +74,8 @@ new_loss w true true h = cc
 new_loss w false true h = cc
 new_loss w b false h = refl
 
-not_counted : (kind : NoticeKind) (auction bid : List ℕ) (rows : List LedgerRow) → ruling_in kind auction bid rows ≡ Ruling.Counted → was_counted kind auction bid rows ≡ false
+not_counted : (kind : NoticeKind) (auction bid : List ℕ) (rows : List LedgerRow) → ruling_in kind auction bid rows ≡ Ruling.Counted
+    → was_counted kind auction bid rows ≡ false
 not_counted NoticeKind.Win auction bid rows h =
     new_win (was_counted NoticeKind.Win auction bid rows) (was_counted NoticeKind.Bill auction bid rows) (was_counted NoticeKind.Loss auction bid rows) h
 not_counted NoticeKind.Bill auction bid rows h =

@@ -21,7 +21,8 @@ use Rattle.bidder_core.proofs.Keys.{same_key}
 use Rattle.bidder_core.proofs.SumsMore.{sum_more, sum_stays}
 
 -- what is found at a key, after a change at that key or at another
-found_by : (t : Bool) (next before after : Noticed) (o : Option Noticed) → (t ≡ true → next ≡ after) → unwrap_or o unnoticed ≡ before → unwrap_or (cond t (Some next) o) unnoticed ≡ cond t after before
+found_by : (t : Bool) (next before after : Noticed) (o : Option Noticed) → (t ≡ true → next ≡ after) → unwrap_or o unnoticed ≡ before
+    → unwrap_or (cond t (Some next) o) unnoticed ≡ cond t after before
 found_by true next before after o same is = same refl
 found_by false next before after o same is = is
 

@@ -21,7 +21,8 @@ module _ (n : ℕ) (items : List Json) where
   pub no_room : (ts : List Tree) → length items ≡ n → trees_of items ≡ take n (trees_of items ++ ts)
   no_room ts all = full n (trees_of items) ts (count_is ∙ all)
 
-  pub one_added : (new : List Json) (j : Json) (t : Tree) → length items < n → new ≡ items ++ j ∷ [] → tree_of j ≡ t → trees_of new ≡ take n (trees_of items ++ t ∷ [])
+  pub one_added : (new : List Json) (j : Json) (t : Tree) → length items < n → new ≡ items ++ j ∷ [] → tree_of j ≡ t
+      → trees_of new ≡ take n (trees_of items ++ t ∷ [])
   one_added new j t few is made =
       ap trees_of is ∙ map-append tree_of items (j ∷ []) ∙ ap (λ u. trees_of items ++ u ∷ []) made
       ∙ one_more n (trees_of items) t (omega (arith, few, count_is))

@@ -1,20 +1,23 @@
--- The price line of a bidder: its view, or its first fault. This project's own.
-use Rattle.std.specs.Prelude.{ℕ, List, [], ◌∷◌, ◌++◌, map, length, Bool, true, false, not, nat_le, is_ok, codes, Option, Some, None, Result, Err}
+-- The price line of a bidder: what its object has to be, and the line that it is. A member that is null is there, and
+-- isn't of its form. This project's own.
+use Rattle.std.specs.Prelude.{◌≡◌, ℕ, List, [], ◌∷◌, map, length, Bool, true, false, not, nat_le, is_ok, codes, Option, Some, None, Result, Err}
 use Rattle.adx_json.specs.Tree.{Tree}
-use Rattle.adx_json.specs.Named.{member_in}
+use Rattle.adx_json.specs.FoundMembers.{member_within}
 use Rattle.adx_units.specs.Money.{price_of}
 use Rattle.adx_units.specs.declared.units.Units.{Units}
 use Rattle.adx_units.specs.declared.price.PriceFault.{PriceFault}
 use Rattle.adx_units.specs.declared.price.PriceFault.TheVariants.{NotNumber}
 use Rattle.adx_json.specs.Values.{text_in, number_in, text_or_empty, items_in}
-use Rattle.adx_json.specs.Checks.{Check, check, judged}
-use Rattle.rtb_request.specs.Amounts.{is_id, units_or_zero}
+use Rattle.adx_json.specs.Rows.{Form, form, Row, row, test, test_whole, each, all_count, first_fault, Says}
+use Rattle.rtb_request.specs.Amounts.{an_id, units_or_zero}
 use Rattle.adx_units.specs.Among.{is_among}
 use Rattle.deal_floor.specs.Forms.{text_or}
 use Rattle.deal_floor.specs.declared.fault.RosterFault.{RosterFault}
 use Rattle.deal_floor.specs.declared.fault.RosterFault.TheVariants.{BadField, Repeated, TooMany}
 use Rattle.deal_floor.specs.declared.fault.Field.TheVariants as fields
 use Rattle.bidder_core.specs.Forms.{is_plain_base}
+use Rattle.bidder_core.specs.declared.price_line.Price.{Price}
+use Rattle.bidder_core.specs.declared.price_line.PriceLine.{PriceLine}
 use Rattle.bidder_core.specs.declared.price_line.TheConstants.{MOST_PRICES}
 
 -- a base is given, without `?` and `#`
@@ -40,63 +43,36 @@ price_by (Some n) = price_of n
 abbrev pub price_told : Option Tree → Result Units PriceFault
 price_told v = price_by (number_in v)
 
--- the campaign of a price, empty if it is absent
-abbrev pub price_cid : Tree → List ℕ
-price_cid t = text_or_empty (member_in (codes "cid") t)
+-- the price of a number
+abbrev pub a_price : Form Units
+a_price = form (λ v. is_ok (price_told v)) (λ v. units_or_zero (price_told v))
 
--- the tests of a price behind those for these campaigns
-abbrev pub price_checks : List (List ℕ) → Tree → List (Check RosterFault)
-price_checks before t =
-    check (is_id (member_in (codes "cid") t)) (BadField fields.PriceCid)
-    ∷ check (is_ok (price_told (member_in (codes "price") t))) (BadField fields.PricePrice)
-    ∷ check (not (is_among before (price_cid t))) (Repeated (length before))
+-- the campaign of a price, empty if it is absent
+abbrev pub cid_in : Option Tree → List ℕ
+cid_in o = text_or_empty (member_within (codes "cid") o)
+
+-- what the object of a price after those for these campaigns has to be, and the price that it is
+abbrev pub price_rows : List (List ℕ) → List (Row Price RosterFault)
+price_rows cids =
+    row member_within (codes "cid") an_id (λ (p : Price). p.cid) (BadField fields.PriceCid)
+    ∷ row member_within (codes "price") a_price (λ (p : Price). p.price) (BadField fields.PricePrice)
+    ∷ test_whole (λ o. not (is_among cids (cid_in o))) (λ o. Repeated (length cids))
     ∷ []
 
--- price by price
-abbrev pub prices_checks : List (List ℕ) → List Tree → List (Check RosterFault)
-prices_checks before [] = []
-prices_checks before (t ∷ ts) = price_checks before t ++ prices_checks (before ++ price_cid t ∷ []) ts
+-- what the object of a price line has to be, and the line that it is: 1 to 64 prices
+abbrev pub line_rows : List (Row PriceLine RosterFault)
+line_rows =
+    row member_within (codes "seat") an_id (λ (l : PriceLine). l.seat) (BadField fields.Seat)
+    ∷ row member_within (codes "base") (form is_base_if_given (text_or usual_base)) (λ (l : PriceLine). l.base) (BadField fields.Base)
+    ∷ test member_within (codes "prices") (λ v. nat_le 1 (length (items_in v))) (BadField fields.Prices)
+    ∷ test member_within (codes "prices") (λ v. nat_le (length (items_in v)) MOST_PRICES) TooMany
+    ∷ each member_within (codes "prices") (λ before. price_rows (map (λ t. cid_in (Some t)) before)) all_count (λ (l : PriceLine). l.prices)
+    ∷ []
 
--- what a price says: for which campaign, and how much
-pub record PriceView : Type 0 where
-  pub cid : List ℕ
-  pub price : Units
+-- the first fault of a price line's tree
+abbrev pub line_fault : Tree → Option RosterFault
+line_fault t = first_fault line_rows (Some t)
 
--- what a price's object says
-abbrev pub price_view : Tree → PriceView
-price_view t = record {
-  cid = price_cid t;
-  price = units_or_zero (price_told (member_in (codes "price") t));
-}
-
--- 1 to 64 prices
-abbrev pub price_list_checks : Option Tree → List (Check RosterFault)
-price_list_checks v =
-    check (nat_le 1 (length (items_in v))) (BadField fields.Prices)
-    ∷ check (nat_le (length (items_in v)) MOST_PRICES) TooMany
-    ∷ prices_checks [] (items_in v)
-
--- the tests of a price line in their order
-abbrev pub price_line_checks : Tree → List (Check RosterFault)
-price_line_checks t =
-    check (is_id (member_in (codes "seat") t)) (BadField fields.Seat)
-    ∷ check (is_base_if_given (member_in (codes "base") t)) (BadField fields.Base)
-    ∷ price_list_checks (member_in (codes "prices") t)
-
--- what a line of prices says
-pub record PriceLineView : Type 0 where
-  pub seat : List ℕ
-  pub base : List ℕ
-  pub prices : List PriceView
-
--- what a price line says by its members
-abbrev pub price_line_view : Tree → PriceLineView
-price_line_view t = record {
-  seat = text_or_empty (member_in (codes "seat") t);
-  base = text_or usual_base (member_in (codes "base") t);
-  prices = map price_view (items_in (member_in (codes "prices") t));
-}
-
--- a price line's view, or its first fault
-abbrev pub price_line_in : Tree → Result PriceLineView RosterFault
-price_line_in t = judged (price_line_checks t) (price_line_view t)
+-- the tree has no fault, and is this price line
+abbrev pub IsLine : Tree → PriceLine → Type 0
+IsLine t l = (line_fault t ≡ None) × Says line_rows (Some t) l

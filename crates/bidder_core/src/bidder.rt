@@ -1,13 +1,12 @@
 //! A bidder: what it bids with, and the notices that it was told.
 ghost use Rattle.std.specs.Prelude.{◌≡◌, ◌<◌, [], All, IfOk, OnErr, length, option_map, true};
 ghost use Rattle.adx_json.specs.View.{tree_of};
-ghost use Rattle.adx_json.specs.Checks.{Gives};
+ghost use Rattle.adx_json.specs.Rows.{Answers, Says};
 ghost use Rattle.deal_floor.specs.Faults.{lacks_memory};
 ghost use Rattle.bidder_core.specs.Answers.{answer_for, answer_to};
 ghost use Rattle.bidder_core.specs.BidIds.{is_made};
 ghost use Rattle.bidder_core.specs.Ledger.{AreOnce, bidder_ruling, bill_count as bill_count_of, billed_in, row_of, rows_after};
-ghost use Rattle.bidder_core.specs.PriceLines.{price_line_in};
-ghost use Rattle.bidder_core.specs.Seen.{seen_line};
+ghost use Rattle.bidder_core.specs.PriceLines.{line_fault, line_rows};
 
 use crate::answer::answer_of;
 use crate::bid_id::price_place;
@@ -45,7 +44,7 @@ impl Bidder {
     /// then price by price the campaign, the price, and a campaign that an earlier price is for. Prices are read as
     /// `price_of` reads them.
     pub fn of(alloc: Global, tree: &Json) -> Result<Bidder, RosterFault>
-        ensures line { Gives lacks_memory (λ b. seen_line b.line) result (price_line_in (tree_of tree.now)) }
+        ensures line { Answers lacks_memory (line_fault (tree_of tree.now)) (λ b. Says line_rows (Some (tree_of tree.now)) b.line) result }
         ensures ledger { IfOk result (λ b. b.rows ≡ []) }
     {
         let line = match PriceLine::of(alloc, tree) {

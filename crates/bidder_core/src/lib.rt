@@ -14,7 +14,6 @@ mod bid_url;
 mod bidder;
 mod law;
 mod ledger;
-mod line_members;
 mod line_reader;
 mod member;
 mod price_line;

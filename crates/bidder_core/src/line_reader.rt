@@ -1,44 +1,47 @@
-//! The view of a price line, or its first fault.
-ghost use Rattle.std.specs.Prelude.{◌≡◌, ◌≤◌, ◌<◌, ◌+◌, ◌++◌, ◌∷◌, [], map, length, true, false, is_ok, IfOk, IfSome, IfNone, OnOk, Ok};
-ghost use Rattle.std.specs.List.{list_any};
+//! What a price line says, or its first fault.
+ghost use Rattle.std.specs.Prelude.{◌≡◌, ◌≤◌, ◌<◌, [], map, length, Some, true, false, is_ok, IfOk, IfSome, IfNone, Ok};
+ghost use Rattle.std.specs.List.{AllZip, list_any};
 ghost use Rattle.adx_json.specs.View.{tree_of, trees_of};
 ghost use Rattle.adx_units.specs.declared.price.TheConstants.{PRICE_LIMIT};
-ghost use Rattle.adx_json.specs.Checks.{Gives};
+ghost use Rattle.adx_json.specs.Rows.{Answers, Reads, Says, first_among, first_fault};
+ghost use Rattle.adx_json.specs.Values.{items_in as items_by};
+ghost use Rattle.adx_units.specs.Among.{is_among as is_among_by};
 ghost use Rattle.rtb_request.specs.Distinct.{all_distinct};
 ghost use Rattle.deal_floor.specs.Faults.{lacks_memory};
 ghost use Rattle.deal_floor.specs.Reading.{given};
 ghost use Rattle.deal_floor.specs.Forms.{text_or as text_or_by};
 ghost use Rattle.deal_floor.specs.declared.fault.RosterFault.TheVariants.{Repeated};
 ghost use Rattle.bidder_core.specs.Forms.{is_plain_base, is_url_mark as is_url_mark_by};
-ghost use Rattle.bidder_core.specs.PriceLines.{is_base_if_given as is_base_by, price_line_in, price_told, usual_base};
-ghost use Rattle.bidder_core.specs.Seen.{price_has_cid, seen_line, seen_price, campaigns_of, price_added, price_list_found, prices_found};
+ghost use Rattle.bidder_core.specs.PriceLines.{cid_in, is_base_if_given as is_base_by, line_rows, price_rows, price_told, usual_base};
+ghost use Rattle.bidder_core.specs.Seen.{price_has_cid, campaigns_of, price_list_fault};
 ghost use Rattle.bidder_core.specs.declared.price_line.TheConstants.{MOST_PRICES};
 
-use crate::line_members::{members_of_line, members_of_price};
 use crate::price_line::{MOST_PRICES, Price, PriceLine};
-use adx_json::{Json, items_in, number_in, text_in};
+use adx_json::{Json, find_members, items_in, number_in, text_in};
 use adx_units::{Id, OutOfMemory, Sequence, Text, Units, price_of};
 use deal_floor::{Field, RosterFault, id_in, text_or};
 use std::alloc::Global;
 
 impl PriceLine {
-    /// The view of a price line, or its first fault. A member that is null is there and isn't of its form; members that
+    /// A price line, or its first fault. A member that is null is there and isn't of its form; members that
     /// no test names are passed over.
     pub(crate) fn of(alloc: Global, tree: &Json) -> Result<PriceLine, RosterFault>
-        ensures { Gives lacks_memory seen_line result (price_line_in (tree_of tree.now)) }
+        ensures { Reads lacks_memory line_rows (tree_of tree.now) result }
     {
-        let found = members_of_line(tree);
-        let Some(seat) = id_in(alloc, found.seat)? else {
+        let mut found = [None; 3];
+        find_members(Some(tree), &["seat", "base", "prices"], &mut found);
+        let [seat, base, prices] = found;
+        let Some(seat) = id_in(alloc, seat)? else {
             return Err(RosterFault::BadField { field: Field::Seat });
         };
-        if !is_base_if_given(found.base) {
+        if !is_base_if_given(base) {
             return Err(RosterFault::BadField { field: Field::Base });
         }
-        let prices = match prices_in(alloc, found.prices) {
+        let prices = match prices_in(alloc, prices) {
             Ok(prices) => prices,
             Err(fault) => return Err(fault),
         };
-        let base = base_of(alloc, found.base)?;
+        let base = base_of(alloc, base)?;
         Ok(PriceLine { seat, base, prices })
     }
 }
@@ -84,7 +87,8 @@ fn base_of(alloc: Global, value: Option<&Json>) -> Result<Text, OutOfMemory>
 
 /// The prices that a value is, or the first fault of the list.
 fn prices_in(alloc: Global, value: Option<&Json>) -> Result<Sequence<Price>, RosterFault>
-    ensures gives { Gives lacks_memory (λ ps. map seen_price ps) result (price_list_found (given value.entry)) }
+    ensures gives { Answers lacks_memory (price_list_fault (given value.entry))
+        (λ ps. AllZip (λ t p. Says (price_rows []) (Some t) p) (items_by (given value.entry)) ps) result }
     ensures distinct { IfOk result (λ ps. all_distinct (campaigns_of ps) ≡ true) }
     ensures some { IfOk result (λ ps. 1 ≤ length ps) }
     ensures few { IfOk result (λ ps. length ps ≤ MOST_PRICES) }
@@ -107,43 +111,46 @@ fn prices_in(alloc: Global, value: Option<&Json>) -> Result<Sequence<Price>, Ros
 /// The prices of a list, or the first fault of any of them.
 fn prices_of(alloc: Global, trees: &[Json]) -> Result<Vec<Price>, RosterFault>
     requires few { length trees.now ≤ MOST_PRICES }
-    ensures gives { Gives lacks_memory (λ ps. map seen_price ps.items) result (prices_found (trees_of trees.now)) }
+    ensures gives { Answers lacks_memory (first_among (λ before. price_rows (map (λ t. cid_in (Some t)) before)) [] (trees_of trees.now))
+        (λ ps. AllZip (λ t p. Says (price_rows []) (Some t) p) (trees_of trees.now) ps.items) result }
     ensures distinct { IfOk result (λ ps. all_distinct (campaigns_of ps.items) ≡ true) }
     ensures count { IfOk result (λ ps. length ps.items ≡ length trees.now) }
 {
     let mut prices = Vec::new(alloc);
     for tree in trees {
-        if let Err(fault) = add_price(alloc, &mut prices, tree) {
-            return Err(fault);
-        }
+        let price = match price_of_tree(alloc, &prices, tree) {
+            Ok(price) => price,
+            Err(fault) => return Err(fault),
+        };
+        prices.push(price)?;
     }
     Ok(prices)
 }
 
-/// Adds a price behind the others, or tells its first fault.
-#[tactic(auto, using(crate::proofs::PriceSteps::among_prices, crate::proofs::PriceSteps::pushed_seen, crate::proofs::PriceSteps::pushed_distinct))]
-fn add_price(alloc: Global, prices: &mut Vec<Price>, tree: &Json) -> Result<(), RosterFault>
-    requires room { length prices.old.items < MOST_PRICES }
-    ensures gives { Gives lacks_memory (λ _. map seen_price prices.new.items) result (price_added prices.old.items (tree_of tree.now)) }
-    ensures distinct { all_distinct (campaigns_of prices.old.items) ≡ true → OnOk result (all_distinct (campaigns_of prices.new.items) ≡ true) }
-    ensures count { OnOk result (length prices.new.items ≡ length prices.old.items + 1) }
+/// A price after others, or its first fault.
+fn price_of_tree(alloc: Global, others: &Vec<Price>, tree: &Json) -> Result<Price, RosterFault>
+    requires room { length others.now.items < MOST_PRICES }
+    ensures gives { Answers lacks_memory (first_fault (price_rows (campaigns_of others.now.items)) (Some (tree_of tree.now)))
+        (Says (price_rows []) (Some (tree_of tree.now))) result }
+    ensures new { IfOk result (λ p. is_among_by (campaigns_of others.now.items) p.cid ≡ false) }
 {
-    let found = members_of_price(tree);
-    let Some(cid) = id_in(alloc, found.cid)? else {
+    let mut found = [None; 2];
+    find_members(Some(tree), &["cid", "price"], &mut found);
+    let [cid, price] = found;
+    let Some(cid) = id_in(alloc, cid)? else {
         return Err(RosterFault::BadField {
             field: Field::PriceCid,
         });
     };
-    let Some(price) = price_in(found.price) else {
+    let Some(price) = price_in(price) else {
         return Err(RosterFault::BadField {
             field: Field::PricePrice,
         });
     };
-    if is_among(prices, &cid) {
-        return Err(repeated(prices));
+    if is_among(others, &cid) {
+        return Err(repeated(others));
     }
-    prices.push(Price { cid, price })?;
-    Ok(())
+    Ok(Price { cid, price })
 }
 
 /// The price that a value is. None exactly where it is none.
@@ -159,7 +166,14 @@ fn price_in(value: Option<&Json>) -> Option<Units>
 }
 
 /// Whether one of the prices is for this campaign.
+#[tactic(auto, using(crate::proofs::PriceSteps::among_prices))]
 fn is_among(prices: &[Price], cid: &Id) -> bool
+    ensures { result ≡ is_among_by (campaigns_of prices.now) cid.now }
+{
+    any_has_cid(prices, cid)
+}
+
+fn any_has_cid(prices: &[Price], cid: &Id) -> bool
     ensures { result ≡ list_any (price_has_cid cid.now) prices.now }
 {
     prices

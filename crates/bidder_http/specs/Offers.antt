@@ -1,13 +1,12 @@
 -- What a bidder answers to a request for bids over HTTP: the bids, no content where no price reaches a floor, or why
 -- the body is no request, in the words of a script's lines. This project's own.
-use Rattle.std.specs.Prelude.{◌≡◌, ◌≢◌, ◌⊎◌, ℕ, List, [], true, Option, Some, None, Ok, Err}
+use Rattle.std.specs.Prelude.{◌≡◌, ◌≢◌, ◌⊎◌, ℕ, List, [], true, Option, Some, None}
 use Rattle.adx_json.specs.Tree.{Tree}
 use Rattle.adx_json.specs.Faults.{IsFault}
 use Rattle.adx_json.specs.Grammar.{IsJson}
 use Rattle.adx_json.specs.Spelling.{spelling}
 use Rattle.adx_json.specs.declared.fault.JsonFault.{JsonFault}
-use Rattle.rtb_request.specs.Requests.{request_in}
-use Rattle.rtb_request.specs.Seen.{seen_request}
+use Rattle.rtb_request.specs.Requests.{IsRequest, request_fault}
 use Rattle.rtb_request.specs.declared.bid_request.BidRequest.{BidRequest}
 use Rattle.rtb_request.specs.declared.fault.RequestFault.{RequestFault}
 use Rattle.script_lines.specs.Whys.{json_why, request_why}
@@ -33,8 +32,8 @@ OffersTo line request a body = OffersBy (answer_to line request) a body
 -- the value is a request, which is answered, or is refused by its first fault
 abbrev pub AnswersTree : PriceLine → Tree → Answer → List ℕ → Type 0
 AnswersTree line value a body =
-    ((request : BidRequest) × (request_in value ≡ Ok (seen_request request)) × OffersTo line request a body)
-    ⊎ ((fault : RequestFault) × (request_in value ≡ Err fault) × (a ≡ plain 400) × (body ≡ refused_body (request_why fault)))
+    ((request : BidRequest) × IsRequest value request × OffersTo line request a body)
+    ⊎ ((fault : RequestFault) × (request_fault value ≡ Some fault) × (a ≡ plain 400) × (body ≡ refused_body (request_why fault)))
 
 -- the bytes are a value, which is answered, or are refused by their fault
 abbrev pub AnswersOffer : PriceLine → List ℕ → Answer → List ℕ → Type 0

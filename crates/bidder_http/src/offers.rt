@@ -37,7 +37,6 @@ fn answer_bids(
 }
 
 /// Answers a value, which is a request for bids or is refused.
-#[tactic(auto, using(crate::proofs::Offered::same_fault))]
 fn answer_value(
     alloc: Global,
     bidder: &Bidder,

@@ -1,5 +1,6 @@
 //! The network of a link, whose calls end in time.
-ghost use Rattle.std.specs.Prelude.{◌≡◌, ◌≤◌, length, IfOk};
+ghost use Rattle.std.specs.Prelude.{◌≡◌, ◌≤◌, length, IfOk, IsOk};
+ghost use Rattle.bounded_network.specs.Reach.{Has};
 
 use crate::names::Names;
 use crate::reach::Reach;
@@ -154,15 +155,15 @@ impl<'a, R: Net + Clock> Net for BoundedCalls<'a, R> {
         Err(io::Error::from(ErrorKind::Unsupported))
     }
 
-    fn connect(&self, addr: SocketAddr) -> io::Result<CallStream<'a, R>> {
+    fn connect(&self, addr: SocketAddr) -> io::Result<CallStream<'a, R>>
+        ensures within { IsOk result → Has self.now.reach addr }
+    {
         self.connect_timeout(addr, Duration::from_millis(IN_ALL))
     }
 
-    fn connect_timeout(
-        &self,
-        addr: SocketAddr,
-        timeout: Duration,
-    ) -> io::Result<CallStream<'a, R>> {
+    fn connect_timeout(&self, addr: SocketAddr, timeout: Duration) -> io::Result<CallStream<'a, R>>
+        ensures within { IsOk result → Has self.now.reach addr }
+    {
         if !self.reach.has(&addr) {
             return Err(io::Error::from(ErrorKind::PermissionDenied));
         }

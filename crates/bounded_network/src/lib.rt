@@ -20,6 +20,6 @@ pub use calls::{BoundedCalls, CallListener, CallStream, IN_ALL};
 pub use connection::{Connection, LONGEST_IDLE, LONGEST_MESSAGE, LONGEST_WRITE};
 pub use hosts::{Change, FAILURES, FIRST_REST, Hosts, LONGEST_REST, MOST_HOSTS};
 pub use listening::{AcceptedListener, BoundedAccepts, Listening, SLICE, Waited, with_slices};
-pub use names::{MOST_NAMES, Names};
+pub use names::{FIRST_MISSING, LONGEST_MISSING, MOST_NAMES, Names};
 pub use reach::Reach;
 pub use times::millis;

@@ -16,7 +16,11 @@ use std::time::Clock;
 pub const MOST_NAMES: usize = 256;
 
 /// For how long a name that wasn't found isn't looked up again, in milliseconds.
-const MISSING: u64 = 60_000;
+pub const FIRST_MISSING: u64 = 60_000;
+
+/// For how long a name that wasn't found isn't looked up again at most, in milliseconds. The time doubles with each look-up that
+/// doesn't find it.
+pub const LONGEST_MISSING: u64 = 600_000;
 
 /// How many addresses of a name are kept.
 const ADDRESSES: usize = 2;
@@ -26,8 +30,6 @@ const ADDRESSES: usize = 2;
 struct Known {
     first: Option<SocketAddr>,
     second: Option<SocketAddr>,
-    /// Until when it isn't looked up again, where it wasn't found.
-    until: u64,
 }
 
 /// A name that was looked up.
@@ -35,6 +37,31 @@ struct Known {
 struct Name {
     name: Text,
     known: Known,
+    /// For how long it isn't looked up again, where it wasn't found.
+    rest: u64,
+    /// Until when that is.
+    until: u64,
+}
+
+impl Name {
+    /// What is known of it; None where it is to be looked up again. It is looked up by this caller alone: until the time of its
+    /// next rest is over it counts as not found for all others.
+    fn known(&mut self, now: u64) -> Option<Known> {
+        if self.known.first.is_some() || now < self.until {
+            return Some(self.known);
+        }
+        self.rest = self.rest.saturating_mul(2).min(LONGEST_MISSING);
+        self.until = now.saturating_add(self.rest);
+        None
+    }
+
+    /// It was looked up. Addresses that are kept of it stay where none was found.
+    fn learn(&mut self, known: Known, now: u64) {
+        if known.first.is_some() {
+            self.known = known;
+        }
+        self.until = now.saturating_add(self.rest);
+    }
 }
 
 /// The names that were looked up, which threads may share.
@@ -44,21 +71,21 @@ pub struct Names {
     list: Mutex<Vec<Name>>,
 }
 
-/// What is kept of a name.
-fn known_in(list: &[Name], host: &str, now: u64) -> Option<Known> {
-    for name in list {
-        if name.name.as_str() == host && (name.known.first.is_some() || now < name.known.until) {
-            return Some(name.known);
+/// What is kept of a name; None where it is to be looked up.
+fn known_in(list: &mut [Name], host: &str, now: u64) -> Option<Known> {
+    for name in list.iter_mut() {
+        if name.name.as_str() == host {
+            return name.known(now);
         }
     }
     None
 }
 
-/// Keeps what is known of a name; false where it isn't in the list.
-fn keep_in(list: &mut [Name], host: &str, known: Known) -> bool {
+/// Keeps what was learned of a name; false where it isn't in the list.
+fn keep_in(list: &mut [Name], host: &str, known: Known, now: u64) -> bool {
     for name in list.iter_mut() {
         if name.name.as_str() == host {
-            name.known = known;
+            name.learn(known, now);
             return true;
         }
     }
@@ -114,23 +141,28 @@ impl Names {
         }
     }
 
-    /// Keeps what is known of a name. Where memory is refused it isn't kept.
-    fn keep(&self, host: &str, known: Known) {
+    /// Keeps what was learned of a name. Where memory is refused it isn't kept.
+    fn keep(&self, host: &str, known: Known, now: u64) {
         let Some(mut list) = locked(&self.list) else {
             return;
         };
-        if keep_in(list.as_mut_slice(), host, known) || list.len() >= MOST_NAMES {
+        if keep_in(list.as_mut_slice(), host, known, now) || list.len() >= MOST_NAMES {
             return;
         }
         if let Ok(name) = Text::of(self.alloc, host) {
-            let _ = list.push(Name { name, known });
+            let _ = list.push(Name {
+                name,
+                known,
+                rest: FIRST_MISSING,
+                until: now.saturating_add(FIRST_MISSING),
+            });
         }
     }
 
-    /// What is kept of a name.
+    /// What is kept of a name; None where it is to be looked up.
     fn known(&self, host: &str, now: u64) -> Option<Known> {
-        let list = locked(&self.list)?;
-        known_in(list.as_slice(), host, now)
+        let mut list = locked(&self.list)?;
+        known_in(list.as_mut_slice(), host, now)
     }
 
     /// What the network says of a name, which is kept from now on.
@@ -148,14 +180,15 @@ impl Names {
             } else {
                 None
             },
-            until: millis(rt).saturating_add(MISSING),
         };
-        self.keep(host, known);
+        self.keep(host, known, millis(rt));
         known
     }
 
     /// The first addresses of a host, at most two: the one that it is, those that are kept of its name, or those that the network
-    /// says, which are kept from now on. A host without a name is none.
+    /// says, which are kept from now on. A name that wasn't found isn't looked up again for a minute, then for two, up to ten,
+    /// as long as it isn't found; while a caller looks it up again, it is not found at once for all others. A host without a name
+    /// is none.
     pub fn look_up<R: Net + Clock>(
         &self,
         rt: &R,
@@ -172,7 +205,6 @@ impl Names {
             Some(address) => Known {
                 first: Some(SocketAddr::from((address, port))),
                 second: None,
-                until: 0,
             },
             None => match self.known(host, millis(rt)) {
                 Some(known) => known,

@@ -6,10 +6,10 @@ use Rattle.adx_io.specs.Streams.{WhereTold}
 use Rattle.day_archive.specs.declared.row.DayRow.{DayRow}
 use Rattle.day_archive.specs.declared.refusal.KeeperRefusal.{KeeperRefusal}
 use Rattle.day_archive.specs.Kept.{Archive}
-use Rattle.day_archive.specs.Answers.{HasKeeperCause, Upgrades, TellsDays, Lists, TellsPut, Puts}
+use Rattle.day_archive.specs.Answers.{HasKeeperCause, TellsDays}
 use Rattle.adx_units.specs.declared.memory.OutOfMemory.{OutOfMemory}
 use Rattle.command_archive.specs.declared.filing.Filing.{Filing}
-use Rattle.command_archive.specs.Courses.{upgraded, IsAtMostUpgraded, ending, Counts, PutsUpgraded, ListsUpgraded, rows_in}
+use Rattle.command_archive.specs.Courses.{IsAtMostUpgraded, ending, Counts, PutsUpgraded, rows_in}
 
 -- what is told of two calls, one after the other
 pub told_then : {T : Type 0} (R S Q : T → T → Type 0) (a b c : Option T) → ((x y z : T) → R x y → S y z → Q x z) → WhereTold a b R → WhereTold b c S → WhereTold a c Q
@@ -24,49 +24,6 @@ pub told_as : {T : Type 0} (R Q : T → T → Type 0) (a b : Option T) → ((x y
 told_as R Q None b f r = r
 told_as R Q (Some x) None f r = r
 told_as R Q (Some x) (Some y) f r = f x y r
-
-listed_then : {T : Type 0} (view : T → List DayRow) (seat cid first last : List ℕ) (answer : Result T KeeperRefusal) (x z : Archive) → Lists view seat cid first last answer (upgraded x) z → ListsUpgraded seat cid first last (rows_in view answer) x z
-listed_then view seat cid first last (Ok rows) x z l = l
-listed_then view seat cid first last (Err (KeeperRefusal.DayThere day)) x z l = l
-listed_then view seat cid first last (Err KeeperRefusal.BadRange) x z l = l
-listed_then view seat cid first last (Err (KeeperRefusal.BadDate day)) x z l = l
-listed_then view seat cid first last (Err KeeperRefusal.KeeperFault) x z l = inr l
-
-pub listed_after : {T : Type 0} (view : T → List DayRow) (seat cid first last : List ℕ) (n : ℕ) (answer : Result T KeeperRefusal) (x y z : Archive) → Upgrades (Ok n) x y → Lists view seat cid first last answer y z → ListsUpgraded seat cid first last (rows_in view answer) x z
-listed_after view seat cid first last n answer x y z up l =
-    listed_then view seat cid first last answer x z (subst (λ (a : Archive). Lists view seat cid first last answer a z) up.1 l)
-
-put_then : (rows : List DayRow) (answer : Result Unit KeeperRefusal) (x z : Archive) → Puts rows answer (upgraded x) z → PutsUpgraded rows answer x z
-put_then rows (Ok done) x z p = p
-put_then rows (Err (KeeperRefusal.DayThere day)) x z p = p
-put_then rows (Err KeeperRefusal.BadRange) x z p = p
-put_then rows (Err (KeeperRefusal.BadDate day)) x z p = p
-put_then rows (Err KeeperRefusal.KeeperFault) x z p = inr p
-
-pub put_after : (rows : List DayRow) (n : ℕ) (answer : Result Unit KeeperRefusal) (x y z : Archive) → Upgrades (Ok n) x y → Puts rows answer y z → PutsUpgraded rows answer x z
-put_after rows n answer x y z up p = put_then rows answer x z (subst (λ (a : Archive). Puts rows answer a z) up.1 p)
-
--- an upgrade that failed
-pub fault_listed : (seat cid first last : List ℕ) (refusal : KeeperRefusal) (x y : Archive) → refusal ≡ KeeperRefusal.KeeperFault → y ≡ x → ListsUpgraded seat cid first last (Err refusal) x y
-fault_listed seat cid first last refusal x y e same =
-    subst (λ (r : KeeperRefusal). ListsUpgraded seat cid first last (Err r) x y) (sym e) (inl same)
-
-pub fault_put : (rows : List DayRow) (refusal : KeeperRefusal) (x y : Archive) → refusal ≡ KeeperRefusal.KeeperFault → y ≡ x → PutsUpgraded rows (Err refusal) x y
-fault_put rows refusal x y e same = subst (λ (r : KeeperRefusal). PutsUpgraded rows (Err r) x y) (sym e) (inl same)
-
-pub fault_days : (T : Type 0) (first last : List ℕ) (refusal : KeeperRefusal) → refusal ≡ KeeperRefusal.KeeperFault → TellsDays {T = T} first last (Err refusal)
-fault_days T first last refusal e = subst (λ (r : KeeperRefusal). TellsDays {T = T} first last (Err r)) (sym e) tt
-
-pub fault_day : (rows : List DayRow) (refusal : KeeperRefusal) → refusal ≡ KeeperRefusal.KeeperFault → TellsPut rows (Err refusal)
-fault_day rows refusal e = subst (λ (r : KeeperRefusal). TellsPut rows (Err r)) (sym e) tt
-
--- whatever was answered, at most this was done
-pub listed_at_most : (seat cid first last : List ℕ) (answer : Result (List DayRow) KeeperRefusal) (x z : Archive) → ListsUpgraded seat cid first last answer x z → IsAtMostUpgraded x z
-listed_at_most seat cid first last (Ok rows) x z l = inr l.1
-listed_at_most seat cid first last (Err (KeeperRefusal.DayThere day)) x z l = inr l
-listed_at_most seat cid first last (Err KeeperRefusal.BadRange) x z l = inr l
-listed_at_most seat cid first last (Err (KeeperRefusal.BadDate day)) x z l = inr l
-listed_at_most seat cid first last (Err KeeperRefusal.KeeperFault) x z l = l
 
 -- a put that was refused
 refused_put : (rows : List DayRow) (answer : Result Unit KeeperRefusal) (x z : Archive) → (IsOk answer → ⊥) → PutsUpgraded rows answer x z → IsAtMostUpgraded x z
@@ -95,13 +52,6 @@ days_in view first last (Err KeeperRefusal.BadRange) t = t
 days_in view first last (Err (KeeperRefusal.BadDate day)) t = t
 days_in view first last (Err KeeperRefusal.KeeperFault) t = t
 
-pub ending_in : {T : Type 0} (view : T → List DayRow) (answer : Result T KeeperRefusal) → ending answer ≡ ending (rows_in view answer)
-ending_in view (Ok rows) = refl
-ending_in view (Err (KeeperRefusal.DayThere day)) = refl
-ending_in view (Err KeeperRefusal.BadRange) = refl
-ending_in view (Err (KeeperRefusal.BadDate day)) = refl
-ending_in view (Err KeeperRefusal.KeeperFault) = refl
-
 -- the count by how the command ends
 counts : {T : Type 0} (before now : ℕ) (answer : Result T KeeperRefusal) → HasKeeperCause before now answer → Counts before now (ending answer)
 counts before now (Ok x) c = c
@@ -112,12 +62,3 @@ counts before now (Err KeeperRefusal.KeeperFault) c = c
 
 pub counts_by : {T : Type 0} (before now : ℕ) (answer : Result T KeeperRefusal) (end : Filing) → end ≡ ending answer → HasKeeperCause before now answer → Counts before now end
 counts_by before now answer end e c = subst (λ (f : Filing). Counts before now f) (sym e) (counts before now answer c)
-
--- where a fault is always told, the count stands where no ending is told
-pub count_stands : {T : Type 0} (before now : ℕ) (answer : Result T KeeperRefusal) (r : Result Filing OutOfMemory) → (answer ≡ Err KeeperRefusal.KeeperFault → IsOk r) → HasKeeperCause before now answer → OnErr r (now ≡ before)
-count_stands before now answer (Ok end) told c = tt
-count_stands before now (Ok x) (Err refused) told c = c
-count_stands before now (Err (KeeperRefusal.DayThere day)) (Err refused) told c = c
-count_stands before now (Err KeeperRefusal.BadRange) (Err refused) told c = c
-count_stands before now (Err (KeeperRefusal.BadDate day)) (Err refused) told c = c
-count_stands before now (Err KeeperRefusal.KeeperFault) (Err refused) told c = absurd (false≢true (told refl))

@@ -1,10 +1,10 @@
 -- Connections served one after another, and how a run over them ends.
-use Rattle.std.proofs.Common.{◌≡◌, ℕ, List, [], ◌∷◌, ◌++◌, Bool, true, false, ◌||◌, refl, sym, ap, ◌∙◌, subst, inl, inr}
+use Rattle.std.proofs.Common.{◌≡◌, ℕ, List, [], ◌∷◌, ◌++◌, Bool, true, false, ◌||◌, refl, sym, ap, ◌∙◌, subst, inr}
 use Rattle.std.proofs.Math.Bool.{or-false, or_assoc}
 use Rattle.adx_links.specs.Pairs.{AcceptorTold}
 use Rattle.bidder_core.specs.Seen.{BidderState}
 use Rattle.command_bidder.specs.Documents.{BeginsWithPrices}
-use Rattle.command_bidder.specs.Bidding.{EndsBid, HasFailed, IsOver, IsUnused, ServesDocument}
+use Rattle.command_bidder.specs.Bidding.{EndsBid, IsUnused, ServesDocument}
 use Rattle.command_bidder.specs.Connections.{AreServed, Connection, IsServed, is_any_short, is_short}
 use Rattle.command_bidder.specs.Turns.{EndsServing, HasServedSome, ServesNext, ServesNone}
 use Rattle.command_bidder.specs.declared.ending.BidEnd.{BidEnd}
@@ -47,17 +47,6 @@ serves_none old new first bidder now short (cs, k) t = (
     short_is = k.short_is;
   },
 )
-
--- the end that a run answers, by whether one of its connections ended for lack of memory
-pub ends_over : (old new : AcceptorTold) (first now : BidderState) (short : Bool) (end : BidEnd) → HasServedSome new first now short → IsOver old new →
-    (short ≡ true → end ≡ BidEnd.OutOfMemory) → (short ≡ false → end ≡ BidEnd.Over) → EndsServing old new first now end
-ends_over old new first now true end some over wants whole = subst (EndsServing old new first now) (sym (wants refl)) (some, inl over)
-ends_over old new first now false end some over wants whole = subst (EndsServing old new first now) (sym (whole refl)) (some, over)
-
-pub ends_failed : (old new : AcceptorTold) (first now : BidderState) (short : Bool) (end : BidEnd) → HasServedSome new first now short → HasFailed old new →
-    (short ≡ true → end ≡ BidEnd.OutOfMemory) → (short ≡ false → end ≡ BidEnd.AcceptorFault) → EndsServing old new first now end
-ends_failed old new first now true end some failed wants whole = subst (EndsServing old new first now) (sym (wants refl)) (some, inr failed)
-ends_failed old new first now false end some failed wants whole = subst (EndsServing old new first now) (sym (whole refl)) (some, failed)
 
 -- the whole run, by what its document begins with
 serves_document : (document : List ℕ) (new : AcceptorTold) (bidder now : BidderState) (short : Bool) → BeginsWithPrices document bidder → bidder.rows ≡ [] →

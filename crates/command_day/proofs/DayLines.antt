@@ -16,11 +16,11 @@ use Rattle.command_runs.specs.declared.outcome.Outcome.{Outcome}
 use Rattle.command_runs.proofs.Answered.{RunsLines, lines_begin, lines_closed, lines_cut, lines_go_on, lines_past, lines_stopped}
 use Rattle.day_rules.specs.declared.entry.Entry.{Entry}
 use Rattle.deal_floor.specs.declared.roster.Roster.{Roster}
-use Rattle.desk_calls.specs.Answering.{DeskRuns, ServesLine}
-use Rattle.desk_calls.specs.Courses.{HasDiskFault, HasNoDiskFault, one_more}
-use Rattle.desk_calls.specs.Meanings.{IsLine, Told}
-use Rattle.desk_calls.specs.OnDisk.{history_after}
-use Rattle.desk_calls.proofs.DeskRuns.{desk_goes_on, run_ends, run_ends_at}
+use Rattle.adx_desk.specs.Answering.{DeskRuns, ServesLine}
+use Rattle.adx_desk.specs.Courses.{HasDiskFault, HasNoDiskFault, one_more}
+use Rattle.adx_desk.specs.Meanings.{IsLine, Told}
+use Rattle.adx_desk.specs.OnDisk.{history_after}
+use Rattle.adx_desk.proofs.DeskRuns.{desk_goes_on, run_ends, run_ends_at}
 use Rattle.script_lines.specs.Refusals.{toolong_line}
 use Rattle.history_runs.specs.Clauses.{LineAnswered}
 use Rattle.history_runs.specs.Output.{writing}

@@ -6,9 +6,9 @@ use Rattle.adx_io.specs.Streams.{Rises}
 use Rattle.day_journal.specs.declared.disk.Disk as disks
 use Rattle.adx_io.specs.declared.stop.Stop.{Stop}
 use Rattle.command_runs.specs.declared.outcome.Outcome.{Outcome}
-use Rattle.desk_calls.specs.Courses.{Course, given_up, served, unopened}
-use Rattle.desk_calls.specs.OnDisk.{CourseOn}
-use Rattle.desk_calls.proofs.DiskCounts.{day_later, run_rises, run_stays}
+use Rattle.adx_desk.specs.Courses.{Course, given_up, served, unopened}
+use Rattle.adx_desk.specs.OnDisk.{CourseOn}
+use Rattle.adx_desk.proofs.DiskCounts.{day_later, run_rises, run_stays}
 use Rattle.history_runs.specs.Unopened.{GivesUpBy, MayEndAs}
 use Rattle.command_day.specs.Days.{EndsAs, EndsServed}
 

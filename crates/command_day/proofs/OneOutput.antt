@@ -16,9 +16,9 @@ use Rattle.command_runs.proofs.Told.{told_map}
 use Rattle.day_rules.specs.Terms.{Terms}
 use Rattle.day_rules.specs.declared.entry.Entry.{Entry}
 use Rattle.deal_floor.specs.declared.roster.Roster.{Roster}
-use Rattle.desk_calls.specs.Courses.{AreAlike, Course, GoesOn, GoesOnFrom, given_up, served, unopened}
-use Rattle.desk_calls.specs.Meanings.{AnswersLine, Told, Writing, call_answer}
-use Rattle.desk_calls.specs.OnDisk.{history_after}
+use Rattle.adx_desk.specs.Courses.{AreAlike, Course, GoesOn, GoesOnFrom, given_up, served, unopened}
+use Rattle.adx_desk.specs.Meanings.{AnswersLine, Told, Writing, call_answer}
+use Rattle.adx_desk.specs.OnDisk.{history_after}
 use Rattle.history_runs.specs.Rosters.{roster_heads}
 use Rattle.history_runs.specs.Unopened.{not_opened}
 use Rattle.history_runs.specs.Output.{unopened_line, writing}

@@ -12,9 +12,9 @@ use Rattle.command_runs.specs.Limits.{input_limit, line_limit}
 use Rattle.command_runs.specs.declared.outcome.Outcome.{Outcome}
 use Rattle.day_rules.specs.declared.entry.Entry.{Entry}
 use Rattle.deal_floor.specs.declared.roster.Roster.{Roster}
-use Rattle.desk_calls.specs.Courses.{Course, HasNoDiskFault, IsSound, served, unopened}
-use Rattle.desk_calls.specs.Meanings.{AreDone, Told, call_answer}
-use Rattle.desk_calls.specs.OnDisk.{history_after}
+use Rattle.adx_desk.specs.Courses.{Course, HasNoDiskFault, IsSound, served, unopened}
+use Rattle.adx_desk.specs.Meanings.{AreDone, Told, call_answer}
+use Rattle.adx_desk.specs.OnDisk.{history_after}
 use Rattle.history_runs.specs.Rosters.{roster_heads}
 use Rattle.history_runs.specs.Output.{writing}
 use Rattle.script_lines.specs.Refusals.{refusal_line, roster_refused_line, toolong_line}

@@ -12,9 +12,9 @@ use Rattle.command_runs.specs.Limits.{input_limit}
 use Rattle.command_runs.specs.declared.outcome.Outcome.{Outcome}
 use Rattle.day_rules.specs.declared.entry.Entry.{Entry}
 use Rattle.deal_floor.specs.declared.roster.Roster.{Roster}
-use Rattle.desk_calls.specs.Courses.{AreAlike, Course, GoesOn, HasDiskFault, HasNoDiskFault, IsSound, given_up, served, unopened}
-use Rattle.desk_calls.specs.Meanings.{IsLine, Told}
-use Rattle.desk_calls.specs.OnDisk.{history_after}
+use Rattle.adx_desk.specs.Courses.{AreAlike, Course, GoesOn, HasDiskFault, HasNoDiskFault, IsSound, given_up, served, unopened}
+use Rattle.adx_desk.specs.Meanings.{IsLine, Told}
+use Rattle.adx_desk.specs.OnDisk.{history_after}
 use Rattle.history_runs.specs.Rosters.{roster_heads}
 use Rattle.history_runs.specs.Unopened.{GivesUpBy, not_opened}
 use Rattle.history_runs.specs.Output.{writing}

@@ -7,8 +7,8 @@ use Rattle.adx_io.specs.declared.source.Source as source
 use Rattle.adx_io.specs.declared.stop.Stop.{Stop}
 use Rattle.command_runs.specs.Runs.{Runs}
 use Rattle.command_runs.specs.declared.outcome.Outcome.{Outcome}
-use Rattle.desk_calls.specs.Courses.{Course, GoesOn}
-use Rattle.desk_calls.specs.OnDisk.{CourseOn}
+use Rattle.adx_desk.specs.Courses.{Course, GoesOn}
+use Rattle.adx_desk.specs.OnDisk.{CourseOn}
 use Rattle.command_day.specs.Days.{EndsAs, TookOfWhole, day_command}
 
 -- A day ran so over a source, a sink and a disk.

@@ -15,10 +15,10 @@ use Rattle.command_runs.specs.Meanings.{Meaning, PutsEnd, TookPrefix, Wrote}
 use Rattle.command_runs.specs.declared.outcome.Outcome.{Outcome}
 use Rattle.day_rules.specs.declared.entry.Entry.{Entry}
 use Rattle.deal_floor.specs.declared.roster.Roster.{Roster}
-use Rattle.desk_calls.specs.Answering.{DeskRuns}
-use Rattle.desk_calls.specs.Courses.{Course, given_up, served, taken_calls, unopened}
-use Rattle.desk_calls.specs.Meanings.{Told}
-use Rattle.desk_calls.specs.OnDisk.{CourseOn, ServesRun}
+use Rattle.adx_desk.specs.Answering.{DeskRuns}
+use Rattle.adx_desk.specs.Courses.{Course, given_up, served, taken_calls, unopened}
+use Rattle.adx_desk.specs.Meanings.{Told}
+use Rattle.adx_desk.specs.OnDisk.{CourseOn, ServesRun}
 use Rattle.history_runs.specs.Clauses.{LineAnswered, LineLeft}
 use Rattle.history_runs.specs.Script.{closing}
 use Rattle.history_runs.specs.Unopened.{not_opened}

@@ -9,7 +9,7 @@ ghost use Rattle.script_lines.specs.Changes.{change_told};
 ghost use Rattle.script_lines.specs.Found.{call_of};
 ghost use Rattle.adx_desk.specs.Lines.{told_as};
 ghost use Rattle.history_runs.specs.Clauses.{CallAnswered, CallLeft, IsKept, IsShort, LineAnswered, LineLeft, notice_of};
-ghost use Rattle.desk_calls.specs.Answering.{IsOfCall};
+ghost use Rattle.adx_desk.specs.Answering.{IsOfCall};
 ghost use Rattle.history_runs.specs.Script.{terms_by};
 
 use adx_desk::{Desk, DeskFault};

@@ -10,11 +10,10 @@ ghost use Rattle.command_runs.specs.Talks.{TalkWrote};
 use crate::lines::run_lines;
 use adx_desk::Desk;
 use adx_io::{Sink, Source, Stop, Talk};
-use adx_units::OutOfMemory;
-use command_runs::{Led, NoLine, Outcome, run_led};
+use command_runs::Outcome;
 use day_journal::Disk;
 use deal_floor::Roster;
-use history_runs::{push_roster_lack, roster_of, tell_unopened};
+use history_runs::{OnRoster, run_on_roster, tell_unopened};
 use std::alloc::Global;
 
 /// Serves the day of a roster: opens it on its disk, answers the lines of the script, and closes it.
@@ -46,48 +45,27 @@ fn serve_roster<S: Source, K: Sink, D: Disk>(
     }
 }
 
-/// The command that serves a day, on a disk.
+/// The command that serves a day.
 #[derive(Drop)]
-struct Serving<'a, D: Disk> {
-    disk: &'a mut D,
-}
+struct Serving;
 
-impl<D: Disk> Led for Serving<'_, D> {
-    ghost use Rattle.std.specs.Prelude.{◌≡◌, ◌∷◌, []};
+impl<D: Disk> OnRoster<D> for Serving {
     ghost use Rattle.command_day.specs.Steps.{Day, LeavesDay, day_after};
-    ghost use Rattle.history_runs.specs.Rosters.{roster_heads};
-
-    type Head = Roster;
-
-    ghost heads = { roster_heads };
 
     ghost course = { Day };
 
     ghost meaning = { day_after };
 
-    ghost leaves = { λ old new r day result. LeavesDay D.Disk r day old.disk.now new.disk.now result × D.lasts old.disk.now new.disk.now };
+    ghost leaves = { λ _ r day old new result. LeavesDay D.Disk r day old new result };
 
-    ghost place = { λ s. s.disk.ghost_name ∷ [] };
-
-    fn head_of(
+    fn run_day<S: Source, K: Sink>(
+        &self,
         alloc: Global,
-        line: &[u8],
-        out: &mut String,
-    ) -> Result<Option<Roster>, OutOfMemory> {
-        roster_of(alloc, line, out)
-    }
-
-    fn push_lack(alloc: Global, out: &mut String, why: NoLine) -> Result<(), OutOfMemory> {
-        push_roster_lack(alloc, out, why)
-    }
-
-    fn run_rest<S: Source, K: Sink>(
-        &mut self,
-        alloc: Global,
-        head: Roster,
+        roster: &Roster,
+        disk: &mut D,
         talk: &mut Talk<'_, S, K>,
     ) -> Result<Outcome, Stop> {
-        serve_roster(alloc, &head, self.disk, talk)
+        serve_roster(alloc, roster, disk, talk)
     }
 }
 
@@ -113,6 +91,5 @@ pub fn run_day<S: Source, K: Sink, D: Disk>(
     ensures runs { DayRuns S.Source K.Sink D.Disk source.old source.new sink.old sink.new disk.old disk.new result }
     ensures lasts { D.lasts disk.old disk.new }
 {
-    let mut serving = Serving { disk };
-    run_led(alloc, &mut serving, source, sink)
+    run_on_roster(alloc, &Serving, source, sink, disk)
 }

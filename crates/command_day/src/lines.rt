@@ -11,13 +11,12 @@ ghost use Rattle.history_runs.specs.Clauses.{IsKept, OfLine};
 ghost use Rattle.history_runs.specs.Script.{closing, cut_line, terms_by};
 
 use crate::answering::answer_line;
-use adx_desk::Desk;
+use adx_desk::{Desk, push_books};
 use adx_io::{LineBuffer, Next, Sink, Source, Stop, Talk};
 use adx_units::OutOfMemory;
 use command_runs::{LINE_LIMIT, Outcome, put_end};
 use day_journal::Disk;
 use deal_floor::Roster;
-use desk_calls::push_books;
 use script_lines::{Refusal, push_refusal, push_refused};
 use std::alloc::Global;
 

@@ -8,9 +8,9 @@ use Rattle.day_rules.specs.Replies.{Call, ask, reply}
 use Rattle.day_rules.specs.Runs.{done, run}
 use Rattle.day_rules.specs.Terms.{Terms}
 use Rattle.command_gen.specs.declared.early.EarlyEnd.{EarlyEnd}
-use Rattle.desk_calls.specs.Meanings.{AreDone, Told, outcome_by, turns_of}
+use Rattle.adx_desk.specs.Meanings.{AreDone, Told, outcome_by, turns_of}
 use Rattle.day_rules.proofs.RunBooks.{run_append}
-use Rattle.desk_calls.proofs.DeskRuns.{turns_append}
+use Rattle.adx_desk.proofs.DeskRuns.{turns_append}
 use Rattle.command_gen.specs.Generated.{AreFrom, AreOfAsk, AreOfDay, BeginDay, ask_by, award_by, award_told, calls_behind, calls_of_ask, done_turns, generated_from}
 use Rattle.command_gen.specs.Taking.{BeginAsk, TakesDay, TakesNumber, TookFirst, calls_of}
 use Rattle.command_gen.proofs.Taking.{calls_of_done, done_told, early_behind, none_append, none_at_all, serves_append, serves_history, serves_terms}

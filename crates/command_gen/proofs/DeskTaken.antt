@@ -11,8 +11,8 @@ use Rattle.day_rules.specs.declared.ask.Ask.{Ask}
 use Rattle.day_rules.specs.Replies.{Call, ask, reply}
 use Rattle.day_rules.specs.Runs.{IsCall}
 use Rattle.command_gen.specs.declared.early.EarlyEnd.{EarlyEnd}
-use Rattle.desk_calls.specs.Meanings.{Told}
-use Rattle.desk_calls.proofs.DeskCalls.{ask_given_up, call_done, notice_given_up}
+use Rattle.adx_desk.specs.Meanings.{Told}
+use Rattle.adx_desk.proofs.DeskCalls.{ask_given_up, call_done, notice_given_up}
 use Rattle.command_gen.specs.Taking.{PassedBy, TakesAsk, TakesCalls}
 use Rattle.command_gen.proofs.Taking.{fault_alone, none_of, serves_one}
 

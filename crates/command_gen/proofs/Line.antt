@@ -1,7 +1,7 @@
 -- The roster line of a generated day is a roster's, by the tree of its value.
-use Rattle.std.proofs.Common.{◌≡◌, ◌≢◌, ℕ, List, [], ◌∷◌, length, codes, Bool, true, false, ◌&&◌, nat_lt, inl, inr, AllPairs, Option, Some, None, Ok, Err, refl, sym, ap, ◌∙◌, subst, arith}
+use Rattle.std.proofs.Common.{◌≡◌, ◌≢◌, ℕ, List, [], ◌∷◌, length, codes, Bool, true, false, ◌&&◌, nat_lt, inl, inr, AllPairs, Some, None, refl, sym, ap, ◌∙◌, subst, arith}
 use Rattle.std.specs.Str.{IsAscii, IsUtf8, bytes_eq}
-use Rattle.std.proofs.lemmas.List.{length-map}
+use Rattle.std.proofs.lemmas.Slice.Zip.{AllZip-long}
 use Rattle.std.proofs.lemmas.List.Elements.{All-nil, All-cons}
 use Rattle.std.proofs.lemmas.List.Kept.{AllPairs-cons}
 use Rattle.std.proofs.lemmas.Bool.{and_parts, ltb-true}
@@ -14,15 +14,13 @@ use Rattle.adx_json.specs.Grammar.{IsJson}
 use Rattle.adx_json.specs.Spelling.{spelling}
 use Rattle.adx_json.specs.Tree.{Tree, number, text, list, object, Items, no_items, item, no_members, member}
 use Rattle.adx_json.specs.WellFormed.{IsWellFormed, HasUtf8, AreWellFormed, AllHaveUtf8}
+use Rattle.adx_json.proofs.Listing.{Say, says_at}
 use Rattle.adx_json.proofs.OneTree.{one_json}
 use Rattle.adx_json.proofs.Spelled.{spelling_is}
-use Rattle.deal_floor.specs.Rosters.{RosterView, digest_tree, roster_in, roster_checks, roster_view}
-use Rattle.deal_floor.specs.Seen.{seen_campaign, seen_roster}
-use Rattle.deal_floor.specs.declared.fault.RosterFault.{RosterFault}
+use Rattle.deal_floor.specs.Rosters.{IsRoster, bidder_names, campaign_rows, digest_tree, listed, roster_fault, roster_rows}
 use Rattle.deal_floor.specs.declared.roster.Roster.{Roster}
 use Rattle.script_lines.specs.Rosters.{IsRosterLine, RefusesRosterLine}
 use Rattle.script_lines.specs.declared.refusal.RosterRefusal.{RosterRefusal}
-use Rattle.adx_json.specs.Checks.{first_fault, judged_by}
 use Rattle.command_gen.specs.Generated.{generated_line}
 
 -- a campaign of the line, by its cid and its budget
@@ -230,17 +228,13 @@ line_json : IsJson generated_line generated_tree
 line_json = subst (λ (l : List ℕ). IsJson l generated_tree) line_spelled (spelling_is generated_tree tree_formed tree_utf8 (omega arith))
 
 -- and a roster
-no_fault : first_fault (roster_checks generated_tree) ≡ None
+no_fault : roster_fault generated_tree ≡ None
 no_fault = refl
 
 -- so it is refused for no cause
 pub never_refused : (why : RosterRefusal) → RefusesRosterLine generated_line why → ⊥
 never_refused why (inl (t, json, (f, is, told))) =
-    absurd (cc (sym (ap (λ (u : Tree). first_fault (roster_checks u)) (one_json generated_line t generated_tree json line_json) ∙ no_fault), refuses (first_fault (roster_checks t)) (roster_view t) f is))
-  where
-    refuses : (o : Option RosterFault) (v : RosterView) (f : RosterFault) → judged_by v o ≡ Err f → o ≡ Some f
-    refuses None v f is = absurd (cc is)
-    refuses (Some g) v f is = ap Some (cc is)
+    let e : None ≡ Some f = sym (ap roster_fault (one_json generated_line t generated_tree json line_json) ∙ no_fault) ∙ is in cc e
 never_refused why (inr ((JsonFault.Syntax at), other, is, told)) = is.0.none generated_tree line_json
 never_refused why (inr ((JsonFault.Utf8 at), other, is, told)) = is.0.none generated_tree line_json
 never_refused why (inr ((JsonFault.Depth at), other, is, told)) = is.0.none generated_tree line_json
@@ -249,16 +243,9 @@ never_refused why (inr (JsonFault.OutOfMemory, other, is, told)) = other refl
 -- the roster has sixteen campaigns
 pub sixteen : (r : Roster) → IsRosterLine generated_line r → length r.campaigns ≡ 16
 sixteen r (t, json, is) =
-    let tree = one_json generated_line t generated_tree json line_json in
-    let view : roster_view generated_tree ≡ seen_roster r = cc (sym (ap roster_in tree ∙ ap (judged_by (roster_view generated_tree)) no_fault) ∙ is) in
-    sym (length-map r.campaigns seen_campaign) ∙ sym (ap (λ (v : RosterView). length v.campaigns) view)
+    let says = says_at 8 roster_rows (Some generated_tree) r (subst (λ (u : Tree). IsRoster u r) (one_json generated_line t generated_tree json line_json) is).1 in
+    AllZip-long (Say (campaign_rows (bidder_names (Some generated_tree)) [])) (listed (codes "campaigns") (Some generated_tree)) r.campaigns says
 
 -- and a digest of 32 bytes
 pub digest_long : (r : Roster) → IsRosterLine generated_line r → length r.digest ≡ 32
-digest_long r (t, json, is) =
-    let view : roster_view t ≡ seen_roster r = of_judged (first_fault (roster_checks t)) (roster_view t) is in
-    sym (ap (λ (v : RosterView). length v.digest) view) ∙ length-sha256 (spelling (digest_tree t))
-  where
-    of_judged : (o : Option RosterFault) (v : RosterView) → judged_by v o ≡ Ok (seen_roster r) → v ≡ seen_roster r
-    of_judged None v is = cc is
-    of_judged (Some f) v is = absurd (cc is)
+digest_long r (t, json, is) = ap length (says_at 16 roster_rows (Some t) r is.1) ∙ length-sha256 (spelling (digest_tree (Some t)))

@@ -2,7 +2,6 @@
 use Rattle.std.proofs.Common.{◌≡◌, ◌∙◌, ℕ, List, Option, Ok, Err, refl, sym, ap}
 use Rattle.adx_desk.specs.declared.fault.DeskFault.{DeskFault}
 use Rattle.adx_io.specs.declared.stop.Stop.{Stop}
-use Rattle.adx_io.proofs.Moved.{took_none}
 use Rattle.answer_lines.specs.Table.{closing_table}
 use Rattle.command_runs.specs.declared.outcome.Outcome.{Outcome}
 use Rattle.day_rules.specs.declared.entry.Entry.{Entry}
@@ -27,13 +26,3 @@ untaken_failed why held held_now Stop.OutOfMemory is puts = absurd puts
 
 pub untaken_refused : (why : DeskFault) (held : Option (List ℕ)) → unopened_end why ≡ Ok Outcome.NoHistory → EndsUntaken why held held (Err Stop.OutOfMemory)
 untaken_refused why held is = ((λ e. cc (sym (ap unopened_end e) ∙ is)), refl)
-
--- where it has none
-pub untaken_lineless : (why : DeskFault) (held : Option (List ℕ)) → (unopened_end why ≡ Ok Outcome.NoHistory → ⊥) → EndsUntaken why held held (unopened_end why)
-untaken_lineless DeskFault.DiskFault held other = (refl, took_none held)
-untaken_lineless (DeskFault.JournalFull size) held other = absurd (other refl)
-untaken_lineless (DeskFault.BadEntry at) held other = absurd (other refl)
-untaken_lineless (DeskFault.OtherRoster kept) held other = absurd (other refl)
-untaken_lineless (DeskFault.NotAJournal at) held other = absurd (other refl)
-untaken_lineless (DeskFault.BadLength at) held other = absurd (other refl)
-untaken_lineless DeskFault.OutOfMemory held other = ((λ e. cc e), refl)

@@ -31,9 +31,9 @@ use Rattle.day_rules.specs.Terms.{AreTerms, Terms}
 use Rattle.day_rules.proofs.Following.{call_follows}
 use Rattle.day_rules.proofs.Histories.{legal_none}
 use Rattle.day_rules.proofs.Running.{run_legal}
-use Rattle.desk_calls.specs.Courses.{HasNoDiskFault}
-use Rattle.desk_calls.specs.Meanings.{AreDone, Told, outcome_by, turn_of, turns_of}
-use Rattle.desk_calls.specs.OnDisk.{FullEach, FullOnly, history_after}
+use Rattle.adx_desk.specs.Courses.{HasNoDiskFault}
+use Rattle.adx_desk.specs.Meanings.{AreDone, Told, outcome_by, turn_of, turns_of}
+use Rattle.adx_desk.specs.OnDisk.{FullEach, FullOnly, history_after}
 use Rattle.command_gen.specs.Generated.{ask_by}
 use Rattle.command_gen.specs.declared.generator.TheConstants.{MOST_ASKS}
 use Rattle.command_gen.proofs.Weight.{ask_adds, weight, weight_more}

@@ -15,10 +15,10 @@ use Rattle.day_rules.specs.declared.entry.Entry.{Entry}
 use Rattle.day_rules.specs.Runs.{run}
 use Rattle.day_rules.specs.Terms.{Terms}
 use Rattle.deal_floor.specs.declared.roster.Roster.{Roster}
-use Rattle.desk_calls.specs.Courses.{Course, HasDiskFault, HasNoDiskFault, given_up, served, unopened}
-use Rattle.desk_calls.specs.Meanings.{Told, turns_of}
-use Rattle.desk_calls.specs.OnDisk.{CourseOn, history_after}
-use Rattle.desk_calls.proofs.DiskCounts.{run_rises, run_stays}
+use Rattle.adx_desk.specs.Courses.{Course, HasDiskFault, HasNoDiskFault, given_up, served, unopened}
+use Rattle.adx_desk.specs.Meanings.{Told, turns_of}
+use Rattle.adx_desk.specs.OnDisk.{CourseOn, history_after}
+use Rattle.adx_desk.proofs.DiskCounts.{run_rises, run_stays}
 use Rattle.history_runs.specs.Script.{terms_by}
 use Rattle.command_gen.specs.Generated.{AreOfDay, BeginDay, generated_history}
 use Rattle.command_gen.specs.GeneratedEnds.{EndsAtFault, EndsGenerated, EndsTaken, EndsUntaken, GeneratedRuns, TellsTable}

@@ -11,10 +11,10 @@ use Rattle.day_rules.specs.Terms.{Terms}
 use Rattle.deal_floor.specs.declared.roster.Roster.{Roster}
 use Rattle.notice_book.specs.declared.kind.NoticeKind.{NoticeKind}
 use Rattle.script_lines.specs.Rosters.{IsRosterLine}
-use Rattle.desk_calls.specs.Answering.{DeskRuns}
-use Rattle.desk_calls.specs.Courses.{HasNoDiskFault}
-use Rattle.desk_calls.specs.Meanings.{Told, turns_of}
-use Rattle.desk_calls.specs.OnDisk.{FullEach, history_after}
+use Rattle.adx_desk.specs.Answering.{DeskRuns}
+use Rattle.adx_desk.specs.Courses.{HasNoDiskFault}
+use Rattle.adx_desk.specs.Meanings.{Told, turns_of}
+use Rattle.adx_desk.specs.OnDisk.{FullEach, history_after}
 use Rattle.history_runs.specs.Script.{terms_by}
 use Rattle.command_gen.specs.Generated.{AreFrom, AreOfAsk, AreOfDay, generated_history, generated_line, notices_behind, notices_by, ticks_behind, word_at}
 use Rattle.command_gen.specs.Taking.{calls_of}

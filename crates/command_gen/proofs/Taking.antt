@@ -9,10 +9,10 @@ use Rattle.day_rules.specs.declared.entry.Entry.{Entry}
 use Rattle.day_rules.specs.Replies.{Call, ask}
 use Rattle.day_rules.specs.Runs.{run}
 use Rattle.command_gen.specs.declared.early.EarlyEnd.{EarlyEnd}
-use Rattle.desk_calls.specs.Answering.{DeskRuns, ServesCall}
-use Rattle.desk_calls.specs.Courses.{HasNoDiskFault}
-use Rattle.desk_calls.specs.Meanings.{Told, turns_of}
-use Rattle.desk_calls.proofs.DeskRuns.{call_goes_on}
+use Rattle.adx_desk.specs.Answering.{DeskRuns, ServesCall}
+use Rattle.adx_desk.specs.Courses.{HasNoDiskFault}
+use Rattle.adx_desk.specs.Meanings.{Told, turns_of}
+use Rattle.adx_desk.proofs.DeskRuns.{call_goes_on}
 use Rattle.command_gen.specs.Generated.{AreOfAsk, ask_by, award_told, calls_behind}
 use Rattle.command_gen.specs.GeneratedEnds.{EndsAtFault}
 use Rattle.command_gen.specs.Taking.{AreCalls, BeginAsk, BeginCalls, ServesCalls, TakesAsk, TakesCalls, TakesNumber, TookBy, calls_of}

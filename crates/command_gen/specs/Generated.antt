@@ -14,7 +14,7 @@ use Rattle.day_rules.specs.Replies.{Call, ask, notice, tick, reply}
 use Rattle.day_rules.specs.Runs.{Turn, done, run}
 use Rattle.day_rules.specs.Terms.{Terms}
 use Rattle.notice_book.specs.declared.kind.NoticeKind.{NoticeKind}
-use Rattle.desk_calls.specs.Meanings.{Told, turns_of}
+use Rattle.adx_desk.specs.Meanings.{Told, turns_of}
 
 -- the roster
 

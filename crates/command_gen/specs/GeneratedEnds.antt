@@ -10,9 +10,9 @@ use Rattle.command_runs.specs.Meanings.{TookPrefix}
 use Rattle.command_runs.specs.declared.outcome.Outcome.{Outcome}
 use Rattle.day_rules.specs.declared.entry.Entry.{Entry}
 use Rattle.deal_floor.specs.declared.roster.Roster.{Roster}
-use Rattle.desk_calls.specs.Courses.{Course, HasNoDiskFault, given_up, served, unopened}
-use Rattle.desk_calls.specs.Meanings.{Told}
-use Rattle.desk_calls.specs.OnDisk.{CourseOn, history_after}
+use Rattle.adx_desk.specs.Courses.{Course, HasNoDiskFault, given_up, served, unopened}
+use Rattle.adx_desk.specs.Meanings.{Told}
+use Rattle.adx_desk.specs.OnDisk.{CourseOn, history_after}
 use Rattle.history_runs.specs.Unopened.{unopened_end}
 use Rattle.history_runs.specs.Output.{unopened_line}
 use Rattle.history_runs.specs.Script.{terms_by}

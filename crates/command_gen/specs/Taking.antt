@@ -12,12 +12,12 @@ use Rattle.day_rules.specs.declared.entry.Entry.{Entry}
 use Rattle.day_rules.specs.Replies.{Call, ask}
 use Rattle.day_rules.specs.Terms.{Terms}
 use Rattle.command_gen.specs.declared.early.EarlyEnd.{EarlyEnd}
-use Rattle.desk_calls.specs.Answering.{ServesCall}
-use Rattle.desk_calls.specs.Courses.{HasNoDiskFault}
+use Rattle.adx_desk.specs.Answering.{ServesCall}
+use Rattle.adx_desk.specs.Courses.{HasNoDiskFault}
 use Rattle.deal_floor.specs.declared.roster.Roster.{Roster}
 use Rattle.command_runs.specs.Meanings.{TookPrefix}
 use Rattle.command_runs.specs.declared.outcome.Outcome.{Outcome}
-use Rattle.desk_calls.specs.Meanings.{Told}
+use Rattle.adx_desk.specs.Meanings.{Told}
 use Rattle.history_runs.specs.Script.{terms_by}
 use Rattle.command_gen.specs.Generated.{AreFrom, AreOfAsk, AreOfDay, BeginDay, award_told}
 use Rattle.command_gen.specs.GeneratedEnds.{EndsAtFault, EndsTaken}

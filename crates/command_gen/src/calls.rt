@@ -2,7 +2,7 @@
 ghost use Rattle.std.specs.Prelude.{◌≡◌, ◌+◌, ◌*◌, ◌%◌, ◌<◌, ◌≤◌, ℕ, [], ◌∷◌, length, decimal, option_map, OnOk};
 ghost use Rattle.day_rules.specs.Asks.{IsUndecided, IsWellFormed};
 ghost use Rattle.day_rules.specs.Replies.{notice as notice_call};
-ghost use Rattle.desk_calls.specs.Answering.{IsOfCall};
+ghost use Rattle.adx_desk.specs.Answering.{IsOfCall};
 ghost use Rattle.command_gen.specs.Generated.{calls_behind, notices_by, state_before, ticks_behind, word_at};
 ghost use Rattle.command_gen.specs.Taking.{PassedBy, TakesAsk, TakesCalls, TakesDay, award_in};
 ghost use Rattle.command_gen.specs.declared.generator.TheConstants.{MOST_ASKS as most_asks};

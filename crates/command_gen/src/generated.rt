@@ -15,12 +15,11 @@ use crate::calls::take_day;
 use crate::early::EarlyEnd;
 use crate::generator::Generator;
 use crate::roster::generated_roster;
-use adx_desk::{Desk, DeskFault};
+use adx_desk::{Desk, DeskFault, push_books};
 use adx_io::{Sink, Stop, put_all};
 use command_runs::Outcome;
 use day_journal::Disk;
 use deal_floor::Roster;
-use desk_calls::push_books;
 use history_runs::{push_unopened, unopened_outcome};
 use std::alloc::Global;
 

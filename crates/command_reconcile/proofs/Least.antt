@@ -31,17 +31,8 @@ first_is b rest bills is rising =
 pub lesser_second : (a b : Bill) → bill_cmp b a ≡ Less → IsLesser a b b
 lesser_second a b less = inr (refl, ap is_lt (bill_total.antisymm a b ∙ ap ordering_reverse less))
 
-pub lesser_first : (a b : Bill) → is_lt (bill_cmp b a) ≡ false → IsLesser a b a
-lesser_first a b from = inl (refl, from)
-
 pub least_both : (a b c : Bill) (xs ys : List Bill) → BeginsWith a xs × AreFrom a xs → BeginsWith b ys × AreFrom b ys → IsLesser a b c → IsLeast c xs ys
 least_both a b c xs ys ours theirs (inl (is, from)) =
     subst (λ (x : Bill). IsLeast x xs ys) (sym is) (record { is_first = inl ours.0; from_exchange = ours.1; from_bidder = all_from a b ys from theirs.1 })
 least_both a b c xs ys ours theirs (inr (is, from)) =
     subst (λ (x : Bill). IsLeast x xs ys) (sym is) (record { is_first = inr theirs.0; from_exchange = all_from b a xs from ours.1; from_bidder = theirs.1 })
-
-pub least_ours : (a : Bill) (xs ys : List Bill) → BeginsWith a xs × AreFrom a xs → ys ≡ [] → IsLeast a xs ys
-least_ours a xs ys ours none = record { is_first = inl ours.0; from_exchange = ours.1; from_bidder = subst (AreFrom a) (sym none) tt }
-
-pub least_theirs : (b : Bill) (xs ys : List Bill) → xs ≡ [] → BeginsWith b ys × AreFrom b ys → IsLeast b xs ys
-least_theirs b xs ys none theirs = record { is_first = inr theirs.0; from_exchange = subst (AreFrom b) (sym none) tt; from_bidder = theirs.1 }

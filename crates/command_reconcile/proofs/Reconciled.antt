@@ -9,7 +9,7 @@ use Rattle.adx_desk.specs.declared.fault.DeskFault.{DeskFault}
 use Rattle.command_reconcile.specs.Agreements.{Reconciles}
 use Rattle.command_reconcile.specs.declared.bill.Bill.{Bill}
 use Rattle.command_reconcile.specs.Reading.{PutsReconciliation, ReadsLedger}
-use Rattle.command_reconcile.specs.Reconciling.{EndsLedger, Ending, EndsDay, EndsOpened, EndsRead, at_end, no_bidder_line, no_row_line}
+use Rattle.command_reconcile.specs.Reconciling.{EndsLedger, Ending, EndsDay, EndsOpened, at_end, no_bidder_line, no_row_line}
 use Rattle.command_reconcile.specs.DayBills.{day_bills}
 use Rattle.command_runs.proofs.Told.{told_ahead, told_map}
 use Rattle.command_runs.specs.Meanings.{PutsEnd, Wrote}
@@ -62,16 +62,6 @@ module _ (owed : List Bill) (allowed : ℕ) (tape now : Option Tape) (held held_
       → WhereTold tape now (λ x y. Wrote (at_end allowed (EndsLedger owed allowed)) x.left y.left held held_now result)
   told_failing bills n result reads puts = told_map tape now (ReadsLedger allowed bills (Ok (Some n))) _ reads (λ x y r.
       put_wrote allowed (EndsLedger owed allowed) held held_now x.left r.0 y.left (no_row_line n) Outcome.Refused result r.1 (inr (n, r.2, refl, refl)) puts)
-
--- how a run ends whose last bytes were put
-pub read_by : (held held_now : Option (List ℕ)) (bytes : List ℕ) (outcome : Outcome) (result : Result Outcome Stop) → (outcome ≡ Outcome.Done) ⊎ (outcome ≡ Outcome.Refused) → PutsEnd outcome held held_now bytes result → EndsRead result
-read_by held held_now bytes outcome (Ok ended) (inl done) puts = inl (puts.0 ∙ done)
-read_by held held_now bytes outcome (Ok ended) (inr refused) puts = inr (puts.0 ∙ refused)
-read_by held held_now bytes outcome (Err stop) which puts = tt
-
-pub reconciled_ends : (owed bills : List Bill) (held held_now : Option (List ℕ)) (result : Result Outcome Stop) → PutsReconciliation owed bills held held_now result → EndsRead result
-reconciled_ends owed bills held held_now result (inl (out, is, puts)) = read_by held held_now out Outcome.Done result (inl refl) puts
-reconciled_ends owed bills held held_now result (inr (same, refused)) = subst EndsRead (sym refused) tt
 
 -- the bidder's place decides how the day ends
 module _ (name : List ℕ) (r : Roster) (history : List Entry) (allowed : ℕ) (tape now : Option Tape) (held held_now : Option (List ℕ)) (result : Result Outcome Stop) where

@@ -6,14 +6,14 @@ use Rattle.adx_io.specs.declared.sink.Sink as sink
 use Rattle.adx_io.specs.declared.source.Source as source
 use Rattle.adx_io.specs.declared.stop.Stop.{Stop}
 use Rattle.command_reconcile.specs.Reconciling.{LeavesDisk, reconciling}
-use Rattle.command_runs.specs.Firsts.{LeavesFirst, by_first}
+use Rattle.command_runs.specs.Firsts.{by_first}
 use Rattle.command_runs.specs.Meanings.{Meaning}
-use Rattle.command_runs.specs.Runs.{Runs}
 use Rattle.command_runs.specs.Limits.{input_limit}
 use Rattle.command_runs.specs.declared.outcome.Outcome.{Outcome}
 use Rattle.day_rules.specs.declared.entry.Entry.{Entry}
 use Rattle.deal_floor.specs.declared.roster.Roster.{Roster}
 use Rattle.history_runs.specs.Rosters.{roster_heads}
+use Rattle.history_runs.specs.Runs.{RunsOn}
 
 -- what a run depends on besides its input: the roster of the first line, if there is one, and what came of its day
 abbrev pub Course : Type 0
@@ -24,11 +24,6 @@ abbrev pub reconcile_command : List ℕ → Course → Meaning
 reconcile_command name = by_first roster_heads input_limit (reconciling name)
 
 -- the command ran so
-pub record RunsReconciliation {S K D : Type 0} (s : source.Ghosts S) (k : sink.Ghosts K) (d : disk.Ghosts D)
-    (name : List ℕ) (old new : S) (sink_old sink_new : K) (disk_old disk_new : D)
-    (result : Result Outcome Stop) : Type 0 where
-  pub course : Course
-  -- what became of the disk,
-  pub leaves : LeavesFirst (λ before now r day. LeavesDisk d r day before now) disk_old disk_new course result
-  -- and of the source and the sink
-  pub runs : Runs s k (reconcile_command name course) old new sink_old sink_new result
+abbrev pub RunsReconciliation : {S K D : Type 0} → source.Ghosts S → sink.Ghosts K → disk.Ghosts D → List ℕ → S → S → K → K → D → D
+    → Result Outcome Stop → Type 0
+RunsReconciliation s k d name = RunsOn s k (LeavesDisk d) (reconciling name)

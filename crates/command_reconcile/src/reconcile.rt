@@ -20,11 +20,11 @@ use adx_desk::Desk;
 use adx_io::{Sink, Source, Stop, Talk};
 use adx_json::push_number;
 use adx_units::OutOfMemory;
-use command_runs::{Led, NoLine, Outcome, put_end, run_led};
+use command_runs::{Outcome, put_end};
 use day_journal::Disk;
 use day_rules::Entry;
 use deal_floor::Roster;
-use history_runs::{push_roster_lack, roster_of, tell_unopened};
+use history_runs::{OnRoster, run_on_roster, tell_unopened};
 use std::alloc::Global;
 
 /// Puts that the roster has no such bidder.
@@ -159,52 +159,32 @@ fn open_day<S: Source, K: Sink, D: Disk>(
     }
 }
 
-/// The command that reconciles the ledger of a bidder, on a disk.
+/// The command that reconciles the ledger of a bidder.
 #[derive(Drop)]
-struct Reconciling<'a, D: Disk> {
+struct Reconciling<'a> {
     name: &'a str,
-    disk: &'a mut D,
 }
 
-impl<D: Disk> Led for Reconciling<'_, D> {
-    ghost use Rattle.std.specs.Prelude.{◌≡◌, ◌∷◌, [], List, ℕ, Result};
+impl<D: Disk> OnRoster<D> for Reconciling<'_> {
+    ghost use Rattle.std.specs.Prelude.{◌≡◌, List, ℕ, Result};
     ghost use Rattle.adx_desk.specs.declared.fault.DeskFault.{DeskFault};
     ghost use Rattle.command_reconcile.specs.Reconciling.{LeavesDisk, reconciling};
     ghost use Rattle.day_rules.specs.declared.entry.Entry.{Entry};
-    ghost use Rattle.history_runs.specs.Rosters.{roster_heads};
-
-    type Head = Roster;
-
-    ghost heads = { roster_heads };
 
     ghost course = { List ℕ × Result (List Entry) DeskFault };
 
     ghost meaning = { λ r allowed c. reconciling c.0 r allowed c.1 };
 
-    ghost leaves = { λ old new r c result. (c.0 ≡ old.name.now) × LeavesDisk D.Disk r c.1 old.disk.now new.disk.now result
-        × D.lasts old.disk.now new.disk.now };
+    ghost leaves = { λ self r c old new result. (c.0 ≡ self.name.now) × LeavesDisk D.Disk r c.1 old new result };
 
-    ghost place = { λ s. s.disk.ghost_name ∷ [] };
-
-    fn head_of(
+    fn run_day<S: Source, K: Sink>(
+        &self,
         alloc: Global,
-        line: &[u8],
-        out: &mut String,
-    ) -> Result<Option<Roster>, OutOfMemory> {
-        roster_of(alloc, line, out)
-    }
-
-    fn push_lack(alloc: Global, out: &mut String, why: NoLine) -> Result<(), OutOfMemory> {
-        push_roster_lack(alloc, out, why)
-    }
-
-    fn run_rest<S: Source, K: Sink>(
-        &mut self,
-        alloc: Global,
-        head: Roster,
+        roster: &Roster,
+        disk: &mut D,
         talk: &mut Talk<'_, S, K>,
     ) -> Result<Outcome, Stop> {
-        open_day(alloc, self.name, &head, self.disk, talk)
+        open_day(alloc, self.name, roster, disk, talk)
     }
 }
 
@@ -233,6 +213,5 @@ pub fn reconcile_ledger<S: Source, K: Sink, D: Disk>(
     ensures runs { RunsReconciliation S.Source K.Sink D.Disk name.now source.old source.new sink.old sink.new disk.old disk.new result }
     ensures lasts { D.lasts disk.old disk.new }
 {
-    let mut reconciling = Reconciling { name, disk };
-    run_led(alloc, &mut reconciling, source, sink)
+    run_on_roster(alloc, &Reconciling { name }, source, sink, disk)
 }

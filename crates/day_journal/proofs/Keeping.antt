@@ -24,9 +24,6 @@ gated_open format ps p c is = record {
 pub gated_shut : (gate : ℕ) (before bytes c : List ℕ) → gate ≢ 1 → IsGated gate before bytes c → IsClosed before c
 gated_shut gate before bytes c shut is = record { gate = gate; rest = bytes ++ 0 ∷ is.rest; split = is.split; shut = shut }
 
-pub shut_closed : (before bytes c : List ℕ) → HasShutTail before bytes c → IsClosed before c
-shut_closed before bytes c is = gated_shut is.gate before bytes c is.shut is.gated
-
 pub shut_tail : (before bytes c : List ℕ) → HasShutTail before bytes c → HasTail before bytes c
 shut_tail before bytes c is = record { gate = is.gate; gated = is.gated }
 

@@ -1,9 +1,9 @@
 -- How the place at which a reader is goes on.
-use Rattle.std.proofs.Common.{◌≡◌, ◌≢◌, ◌⊎◌, inl, inr, ℕ, ◌+◌, ◌-◌, ◌<◌, ◌≤◌, ◌^◌, min, List, [], ◌∷◌, ◌++◌, length, get_or, take, drop, zero, suc, Bool, true, false, Option, Some, None, All, refl, sym, ◌∙◌, ap, subst, arith, append_assoc, length-append, length-drop}
+use Rattle.std.proofs.Common.{◌≡◌, ◌⊎◌, inl, inr, ℕ, ◌+◌, ◌-◌, ◌<◌, ◌≤◌, ◌^◌, min, List, [], ◌∷◌, ◌++◌, length, get_or, take, drop, zero, suc, Bool, false, Option, Some, None, All, refl, sym, ◌∙◌, ap, subst, arith, append_assoc, length-append, length-drop}
 use Rattle.std.specs.Prelude.{IfSome, slice_get}
 use Rattle.std.specs.Int.{w32, to_le_bytes, from_le_bytes}
 use Rattle.std.proofs.lemmas.Bool.{cases_eq}
-use Rattle.std.proofs.lemmas.List.{take_at, drop_at, drop_more, take_all, take-take, drop-drop, drop-take, take-append-drop, length-take, length-take-le}
+use Rattle.std.proofs.lemmas.List.{take_at, drop_at, take_all, take-take, drop-drop, drop-take, take-append-drop, length-take, length-take-le}
 use Rattle.std.proofs.lemmas.List.Elements.{All-push, All-nil}
 use Rattle.std.proofs.lemmas.Nat.{from_le_bytes-to_le_bytes_4, le_bytes_4}
 use Rattle.day_journal.specs.Disks.{Shows}
@@ -12,7 +12,7 @@ use Rattle.adx_io.specs.Streams.{last_count}
 use Rattle.day_journal.specs.Openings.{WindowState, IsWindow, HasPlace, ReadsMore, ReadsOn, StandsBehind, IsPlace, IsSized, IsNoLength}
 use Rattle.day_journal.specs.declared.place.Place.{Place}
 use Rattle.day_journal.specs.declared.window.TheConstants.{CHUNK}
-use Rattle.day_journal.specs.Places.{head, IsFormat, IsPayload, IsClosed, HasBadLength, HasNoHead, IsUnfinished, open_place, opened}
+use Rattle.day_journal.specs.Places.{head, IsFormat, IsPayload, HasBadLength, HasNoHead, IsUnfinished, open_place, opened}
 use Rattle.day_journal.proofs.Keeping.{opened_push}
 use Rattle.day_journal.proofs.Once.{short}
 
@@ -218,25 +218,6 @@ bad_place {format} file at size bytes closed ps b enough (inr wrong) =
     let opens : bytes ≡ 1 ∷ (to_le_bytes w32 wrong.length_there ++ drop 5 bytes) = wrong.split ∙ ap (λ (l : List ℕ). 1 ∷ (to_le_bytes w32 wrong.length_there ++ l)) (sym (ap (drop 5) wrong.split)) in
     bad_length format file at wrong.length_there (drop 5 (drop at file)) ps b.known b.each b.place b.split (first_five bytes (drop at file) wrong.length_there b.window.shown five opens) wrong.fits (inl wrong.none)
 
--- a closed gate
-pub closed_place : {format : ℕ} (file : List ℕ) (at size : ℕ) (bytes : List ℕ) (closed : Bool) (ps : List (List ℕ)) → StandsBehind file (record { format = format; window = record { at = at; bytes = bytes }; size = size; closed = closed }) ps
-    → IsPlace bytes Place.Closed → IsClosed (opened format ps) file
-closed_place {format} file at size bytes closed ps b there =
-    let gate = there.0 in
-    let some : 1 ≤ length bytes = omega (arith, ap length there.2) in
-    let front : take 1 (drop at file) ≡ gate ∷ [] = sym (take-take 1 (length bytes) (drop at file) some) ∙ ap (take 1) (sym b.window.shown) ∙ ap (take 1) there.2 in
-    record {
-      gate = gate;
-      rest = drop 1 (drop at file);
-      split = b.split ∙ ap (λ (l : List ℕ). opened format ps ++ l) (sym (take-append-drop 1 (drop at file)) ∙ ap (λ (l : List ℕ). l ++ drop 1 (drop at file)) front);
-      shut = there.3;
-    }
-
--- the reader met the closed gate
-pub met_closed : {format : ℕ} (file : List ℕ) (window : WindowState) (size : ℕ) (closed : Bool) (ps : List (List ℕ)) → StandsBehind file (record { format = format; window = window; size = size; closed = closed }) ps → IsClosed (opened format ps) file
-    → StandsBehind file (record { format = format; window = window; size = size; closed = true }) ps
-met_closed {format} file window size closed ps b is = record { known = b.known; each = b.each; place = b.place; split = b.split; window = b.window; size = b.size; closed = λ on. is }
-
 -- the window was filled
 pub filled_behind : {format : ℕ} (file : List ℕ) (old new : WindowState) (size : ℕ) (closed now : Bool) (ps : List (List ℕ)) → StandsBehind file (record { format = format; window = old; size = size; closed = closed }) ps → new.at ≡ old.at → IsWindow file new → now ≡ false
     → StandsBehind file (record { format = format; window = new; size = size; closed = now }) ps
@@ -314,15 +295,6 @@ pub sized_place : (bytes : List ℕ) (n : ℕ) (r : Place) → IsSized n r → 5
 sized_place bytes n (Place.Open m) s five small opens = (opens ∙ ap (λ (k : ℕ). 1 ∷ (to_le_bytes w32 k ++ drop 5 bytes)) (sym s.0), five, s.1, s.2)
 sized_place bytes n Place.Closed s five small opens = absurd s
 sized_place bytes n Place.Bad s five small opens = inr (record { length_there = n; rest = drop 5 bytes; split = opens; fits = small; none = s })
-
-pub few_bad : (bytes : List ℕ) → length bytes < 5 → get_or bytes 0 0 ≡ 1 → IsPlace bytes Place.Bad
-few_bad bytes few gate = inl (few, λ g rest is. ap (λ (l : List ℕ). get_or l 0 0) (sym is) ∙ gate)
-
-pub none_bad : (bytes : List ℕ) → length bytes ≡ 0 → IsPlace bytes Place.Bad
-none_bad bytes none = inl (omega (arith, none), λ g rest is. absurd (omega (arith, none, ap length is)))
-
-pub shut_place : (bytes : List ℕ) → 0 < length bytes → get_or bytes 0 0 ≢ 1 → IsPlace bytes Place.Closed
-shut_place bytes some shut = (get_or bytes 0 0, drop 1 bytes, drop_more bytes 0 0 some, shut)
 
 -- the rest of a payload, read after what the window had of it
 pub far_read : {format : ℕ} (file : List ℕ) (at size more : ℕ) (bytes : List ℕ) (closed : Bool) (ps : List (List ℕ)) (place : ℕ) (first old new : List ℕ) → StandsBehind file (record { format = format; window = record { at = at; bytes = bytes }; size = size; closed = closed }) ps

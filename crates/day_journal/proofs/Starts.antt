@@ -25,10 +25,6 @@ no_head_at first at whole within before differs = record {
   differs = differs;
 }
 
--- marked, by what comes after the first byte
-pub marked_1 : (first : List ℕ) → ((gate : ℕ) × (first ≡ gate ∷ (mark 1 ++ 0 ∷ []))) → IsMarked first
-marked_1 first is = record { format = 1; known = inl refl; marked = record { gate = is.0; split = is.1 } }
-
 pub marked_2 : (first : List ℕ) → ((gate : ℕ) × (first ≡ gate ∷ (mark 2 ++ 0 ∷ []))) → IsMarked first
 marked_2 first is = record { format = 2; known = inr refl; marked = record { gate = is.0; split = is.1 } }
 

@@ -1,11 +1,11 @@
 -- What the fields of a batch keep.
-use Rattle.std.proofs.Common.{◌≡◌, ℕ, ◌<◌, ◌≤◌, List, [], ◌∷◌, ◌++◌, map, length, Bool, true, false, ◌||◌, eqb, refl, sym, ◌∙◌, ap, subst, arith, inl, inr, None, length-append}
+use Rattle.std.proofs.Common.{◌≡◌, ℕ, ◌<◌, ◌≤◌, List, [], ◌∷◌, ◌++◌, map, length, Bool, true, false, ◌||◌, eqb, refl, sym, ◌∙◌, ap, subst, arith, inl, inr, Some, None, length-append}
 use Rattle.std.specs.Cmp.{IsEquivalence}
 use Rattle.std.specs.List.{IsDistinct, list_any}
 use Rattle.std.proofs.lemmas.Bool.{cases_Bool, eq-eqb, eqb-true, false≢true, false_from_ne_true, true≢false}
 use Rattle.std.proofs.lemmas.List.{map-append}
 use Rattle.std.proofs.lemmas.Map.Keys.{IsDistinct-push}
-use Rattle.std.proofs.lemmas.Option.{none-some}
+use Rattle.std.proofs.lemmas.Option.{none-some, same_Some}
 use Rattle.day_rules.specs.declared.answer.Answer.{Answer}
 use Rattle.day_rules.specs.Laws.{Arrival}
 use Rattle.day_machine.specs.Batches.{AreApart}
@@ -62,6 +62,11 @@ more_calls calls new answers ran call_room more_room answer_room n call are few 
 pub not_ran : (ran : Bool) (answers : List Answer) → answers_by ran answers ≡ None → ran ≡ false
 not_ran true answers none = absurd (none-some answers (sym none))
 not_ran false answers none = refl
+
+-- a batch with answers ran, and has them
+pub ran_with : (ran : Bool) (answers wanted : List Answer) → answers_by ran answers ≡ Some wanted → answers ≡ wanted
+ran_with true answers wanted is = same_Some answers wanted is
+ran_with false answers wanted is = absurd (none-some wanted is)
 
 -- a batch that ran
 pub ran_calls : (calls : List Arrival) (answers new : List Answer) (ran : Bool) (call_room answer_room new_room : ℕ) → AreCalls calls answers ran call_room answer_room → BATCH_LIMIT ≤ new_room → AreCalls calls new true call_room new_room

@@ -1,5 +1,5 @@
 -- Notices of different awards: each is answered after those before it as it is at the history itself.
-use Rattle.std.proofs.Common.{◌≡◌, ℕ, ◌+◌, ◌<◌, ◌≤◌, List, [], ◌∷◌, ◌++◌, map, length, take, get_or, Bool, true, false, cond, eqb, refl, sym, ◌∙◌, ap, arith, Option, Some, None, IfSome, append_assoc, length-append}
+use Rattle.std.proofs.Common.{◌≡◌, ℕ, ◌+◌, ◌<◌, ◌≤◌, zero, suc, List, [], ◌∷◌, ◌++◌, map, length, take, get_or, Bool, true, false, cond, eqb, refl, sym, ◌∙◌, ap, arith, Option, Some, None, IfSome, append_assoc, length-append}
 use Rattle.std.specs.List.{AllByRecursion, flat_map, slice_get, sum_by}
 use Rattle.std.specs.Option.{option_map}
 use Rattle.std.proofs.lemmas.Bool.{cond-false, and_left, eq-eqb, false≢true, ne_eqb}
@@ -25,9 +25,10 @@ use Rattle.day_rules.proofs.Following.{notice_follows}
 use Rattle.day_rules.proofs.Lists.{get_numbered}
 use Rattle.day_rules.proofs.Ordering.{answer_kept, arrival_awards, arrival_legal, arrived, auction_kept}
 use Rattle.day_rules.proofs.Selling.{award_placed}
+use Rattle.day_machine.specs.Answered.{entry_if, is_counted}
 use Rattle.day_machine.specs.Batches.{AreApart, answers_in_turn, entries_in_turn, added_by}
 use Rattle.day_machine.specs.Held.{held, record_size}
-use Rattle.day_machine.proofs.NoticeEntries.{notice_kind}
+use Rattle.day_machine.proofs.NoticeEntries.{counted_entry, notice_kind}
 use Rattle.day_machine.proofs.Holding.{held_falls}
 use Rattle.day_entries.proofs.Lengths.{some_bytes}
 
@@ -195,3 +196,25 @@ none_added format (e ∷ es) payload is none = absurd (omega (arith, none, ap le
 pub some_added : (format : ℕ) (es : List Entry) (payload : List ℕ) → payload ≡ entries_bytes format es → (length payload ≡ 0 → ⊥) → 0 < length es
 some_added format [] payload is some = absurd (some (ap length is))
 some_added format (e ∷ es) payload is some = omega arith
+
+-- the answers in turn are one for each notice, each after the notices before it
+pub answers_length : (history : List Entry) (xs : List Arrival) → length (answers_in_turn history xs) ≡ length xs
+answers_length history [] = refl
+answers_length history (x ∷ xs) = omega (arith, answers_length (after_arrival history x) xs)
+
+pub answer_at : (history : List Entry) (xs : List Arrival) (i : ℕ) (x : Arrival) (a : Answer) → i < length xs → get_or (answers_in_turn history xs) i a ≡ (arrival_reply (after_arrivals history (take i xs)) (get_or xs i x)).answer
+answer_at history [] i x a low = absurd (omega arith)
+answer_at history (y ∷ ys) zero x a low = refl
+answer_at history (y ∷ ys) (suc i) x a low = answer_at (after_arrival history y) ys i x a (omega arith)
+
+arrivals_append : (history : List Entry) (xs ys : List Arrival) → after_arrivals history (xs ++ ys) ≡ after_arrivals (after_arrivals history xs) ys
+arrivals_append history [] ys = refl
+arrivals_append history (x ∷ xs) ys = arrivals_append (after_arrival history x) xs ys
+
+pub arrivals_more : (history : List Entry) (xs : List Arrival) (i : ℕ) (x : Arrival) → i < length xs → x ≡ get_or xs i x → after_arrivals history (take (i + 1) xs) ≡ after_arrival (after_arrivals history (take i xs)) x
+arrivals_more history xs i x low item = ap (after_arrivals history) (front_more xs i x low item) ∙ arrivals_append history (take i xs) (x ∷ [])
+
+-- the history after a notice that counts, and after another
+pub behind_counted : (history : List Entry) (x : Arrival) (b : Bool) → is_counted (arrival_reply history x).answer ≡ b → after_arrival history x ≡ with_entry history (entry_if b x.kind x.award)
+behind_counted history x b is =
+    ap (with_entry history) (sym (counted_entry history x.kind x.auction x.award) ∙ ap (λ (c : Bool). entry_if c x.kind x.award) is)

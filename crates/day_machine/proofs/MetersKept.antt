@@ -1,7 +1,7 @@
 -- What one more entry makes of a metered day, and the room that there is for entries and for steps.
 use Rattle.std.proofs.Common.{◌≡◌, ◌∙◌, ℕ, ◌+◌, ◌-◌, ◌^◌, ◌<◌, ◌≤◌, List, [], ◌∷◌, ◌++◌, drop, length, refl, sym, ap, subst, arith, IfSome}
 use Rattle.std.specs.List.{sum_by}
-use Rattle.std.proofs.Math.Nat.{le-min, min-le_left, min-le_right}
+use Rattle.std.proofs.Math.Nat.{min-le_left, min-le_right}
 use Rattle.campaign_book.specs.Accounts.{Account}
 use Rattle.notice_book.specs.AwardList.{due_count}
 use Rattle.notice_book.specs.declared.award.Award.{Award}
@@ -85,15 +85,6 @@ room_of_steps day steps (Entry.Bill n) follows to_come room = omega (arith, to_c
 room_of_steps day steps (Entry.Loss n) follows to_come room = omega (arith, to_come, notice_to_come NoticeKind.Loss n (awards_of day.history) follows)
 room_of_steps day steps (Entry.Expire now) follows to_come room = omega (arith, to_come, moment_to_come now (awards_of day.history) follows.ends)
 room_of_steps day steps (Entry.Budget campaign change budget) follows to_come room = omega (arith, room.entries, min-le_right day.room.entries steps)
-
--- the two together
-pub room_of_both : (day : DayState) (steps : ℕ) (e : Entry) → HasRoomFor day e → entries_needed day.history e ≤ steps → HasRoomFor (metered day steps) e
-room_of_both day steps (Entry.Ask a) room needed = record { entries = le-min room.entries needed; awards = room.awards; prepared = room.prepared }
-room_of_both day steps (Entry.Win n) room needed = tt
-room_of_both day steps (Entry.Bill n) room needed = tt
-room_of_both day steps (Entry.Loss n) room needed = tt
-room_of_both day steps (Entry.Expire now) room needed = tt
-room_of_both day steps (Entry.Budget campaign change budget) room needed = record { entries = le-min room.entries needed; changes = room.changes }
 
 -- one step is always needed
 pub some_needed : (history : List Entry) (e : Entry) → 1 ≤ entries_needed history e

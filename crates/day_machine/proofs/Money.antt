@@ -1,7 +1,7 @@
 -- The money that an ask makes and a moment ends, by the awards and by the accounts.
 use Rattle.std.proofs.Common.{◌≡◌, ◌∙◌, ℕ, zero, suc, ◌+◌, ◌≤◌, ◌<◌, List, [], ◌∷◌, ◌++◌, map, length, drop, refl, sym, ap, arith}
 use Rattle.std.specs.List.{enumerate_from, sum_by, range_with_len}
-use Rattle.std.proofs.Math.Seq.{drop-append_seam, drop-length}
+use Rattle.std.proofs.Math.Seq.{drop-append_seam}
 use Rattle.std.proofs.lemmas.List.{length-map}
 use Rattle.std.proofs.lemmas.List.FromFn.{length-enumerate_from, sum_by-map-range_with_len_more}
 use Rattle.std.proofs.lemmas.List.Sums.{sum_by-cons}
@@ -89,7 +89,3 @@ charges_more (w ∷ ws) zero below = sum_by-cons (λ (w : Award). w.charge.0) w 
 charges_more (w ∷ ws) (suc n) below =
     let e : suc n + 1 ≡ suc (n + 1) = omega arith in
     charges_more ws n (omega arith) ∙ ap (λ (k : ℕ). charge_of n ws + sum_by (λ w. w.charge.0) (drop k (w ∷ ws))) (sym e)
-
--- after the last award there is none
-pub charges_end : (ws : List Award) → sum_by (λ w. w.charge.0) (drop (length ws) ws) ≡ 0
-charges_end ws = ap (λ (l : List Award). sum_by (λ w. w.charge.0) l) (drop-length ws)

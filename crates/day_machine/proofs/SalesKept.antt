@@ -67,18 +67,6 @@ imp_more place now offers imp j d within =
     ∙ (map-append f (filter (is_sold imp) (take j offers)) (cond (is_sold imp o) (o ∷ []) [])
     ∙ ap (λ (t : List Award). imp_awards place now (take j offers) imp ++ t) (one_award place now (is_sold imp o) o))
 
-pub imp_more_yes : (place now : ℕ) (offers : List Offer) (imp j : ℕ) (o : Offer) → j < length offers → o ≡ get_or offers j o → is_sold imp o ≡ true → imp_awards place now (take (j + 1) offers) imp ≡ imp_awards place now (take j offers) imp ++ award_of place (sold_at now o) ∷ []
-imp_more_yes place now offers imp j o within is sold =
-    imp_more place now offers imp j o within
-    ∙ (ap (λ (p : Offer). imp_awards place now (take j offers) imp ++ cond (is_sold imp p) (award_of place (sold_at now p) ∷ []) []) (sym is)
-    ∙ ap (λ (b : Bool). imp_awards place now (take j offers) imp ++ cond b (award_of place (sold_at now o) ∷ []) []) sold)
-
-pub imp_more_no : (place now : ℕ) (offers : List Offer) (imp j : ℕ) (o : Offer) → j < length offers → o ≡ get_or offers j o → is_sold imp o ≡ false → imp_awards place now (take (j + 1) offers) imp ≡ imp_awards place now (take j offers) imp
-imp_more_no place now offers imp j o within is sold =
-    imp_more place now offers imp j o within
-    ∙ (ap (λ (p : Offer). imp_awards place now (take j offers) imp ++ cond (is_sold imp p) (award_of place (sold_at now p) ∷ []) []) (sym is)
-    ∙ (ap (λ (b : Bool). imp_awards place now (take j offers) imp ++ cond b (award_of place (sold_at now o) ∷ []) []) sold ∙ append-nil (imp_awards place now (take j offers) imp)))
-
 pub imp_split : (place now : ℕ) (offers : List Offer) (imp j : ℕ) → imp_awards place now offers imp ≡ imp_awards place now (take j offers) imp ++ imp_awards place now (drop j offers) imp
 imp_split place now offers imp j =
     let f : Offer → Award = λ o. award_of place (sold_at now o) in

@@ -3,9 +3,8 @@ ghost use Rattle.std.specs.Prelude.{◌≡◌, ◌≤◌, ◌+◌, ◌==◌, ◌
 ghost use Rattle.std.specs.List.{flat_map, list_any};
 ghost use Rattle.day_entries.specs.Entries.{Fits, entries_bytes};
 ghost use Rattle.day_rules.specs.Books.{awards_of};
-ghost use Rattle.day_rules.specs.DayState.{IsDay};
 ghost use Rattle.day_rules.specs.Laws.{Arrival, after_arrivals, arrival_reply};
-ghost use Rattle.day_machine.specs.Batches.{AreApart, BatchState, MayJoin, joined, added_by};
+ghost use Rattle.day_machine.specs.Batches.{AreApart, BatchState, MayJoin, joined, added_by, answers_in_turn};
 ghost use Rattle.day_machine.specs.Held.{open_count};
 ghost use Rattle.day_machine.specs.declared.held.TheConstants.{NOTICE_ROOM as notice_room};
 
@@ -135,15 +134,16 @@ impl Batch {
     }
 
     /// Adds the entries of the calls to the day, each after those before it, and says how many awards have no end then, where
-    /// so many had none before.
+    /// so many had none before. The day is the one by which the batch ran, and took no entry since: its answers say which
+    /// calls add an entry, so that no call is answered again.
     pub fn commit(&self, day: &mut MeteredDay, without_end: u64) -> u64
-        requires legal { IsDay day.old.terms day.old.history }
         requires counted { without_end ≡ open_count (awards_of day.old.history) }
+        requires answers { self.now.answers ≡ Some (answers_in_turn day.old.history self.now.calls) }
         ensures terms { day.new.terms ≡ day.old.terms }
         ensures history { day.new.history ≡ after_arrivals day.old.history self.now.calls }
         ensures counted { result ≡ open_count (awards_of day.new.history) }
     {
-        commit_all(day, without_end, &self.calls)
+        commit_all(day, without_end, &self.calls, &self.answers)
     }
 
     /// Takes the answers back: the batch didn't run.

@@ -15,7 +15,7 @@ ghost use Rattle.day_rules.specs.Legal.{AskMayFollow, BudgetMayFollow, ExpireMay
 ghost use Rattle.day_rules.specs.Replies.{ask_of, ask_reply, budget_reply, new_change_reply, notice_reply, ruled_reply, sale_reply, seen_in, settled_reply, tick_reply};
 ghost use Rattle.notice_book.specs.Rules.{ruling_of};
 ghost use Rattle.day_rules.specs.Terms.{AreTerms, budgets_after, terms_of};
-ghost use Rattle.day_machine.specs.Answered.{IsReplyIn};
+ghost use Rattle.day_machine.specs.Answered.{entry_if, is_counted, IsReplyIn};
 
 use crate::changes::Changes;
 use crate::ledger::Ledger;
@@ -99,13 +99,31 @@ fn sale(history: &[Entry], ask: Ask) -> (Answer, Option<Entry>)
 }
 
 /// The entry that counts a notice.
-fn entry_of(kind: NoticeKind, award: u32) -> Entry
+pub(crate) fn entry_of(kind: NoticeKind, award: u32) -> Entry
     ensures { result ≡ entry_of_notice kind award }
 {
     match kind {
         NoticeKind::Win => Entry::Win { award },
         NoticeKind::Bill => Entry::Bill { award },
         NoticeKind::Loss => Entry::Loss { award },
+    }
+}
+
+/// Whether the answer to a notice is that it counts, which is where its reply adds an entry.
+pub(crate) fn is_counted(answer: &Answer) -> bool
+    ensures { result ≡ is_counted answer.now }
+{
+    matches!(answer, Answer::Counted)
+}
+
+/// The entry of a notice that counts, and else none.
+fn entry_if(counted: bool, kind: NoticeKind, award: u32) -> Option<Entry>
+    ensures { result ≡ entry_if counted kind award }
+{
+    if counted {
+        Some(entry_of(kind, award))
+    } else {
+        None
     }
 }
 
@@ -265,6 +283,37 @@ impl Day {
         }
     }
 
+    /// The answer to a notice of an award. The day itself stays as it is.
+    pub(crate) fn answer_notice(&self, kind: NoticeKind, auction: &str, award: u32) -> Answer
+        ensures { result ≡ (notice_reply self.now.history kind auction.now award).answer }
+    {
+        match self.ledger.sold().get(award) {
+            None => Answer::Unknown,
+            Some(sold) => {
+                if ids::is_of_auction(&self.history, sold.ask, auction) {
+                    self.answer_ruled(kind, award)
+                } else {
+                    Answer::Unknown
+                }
+            }
+        }
+    }
+
+    /// The answer to a notice of an award of the auction that it names.
+    fn answer_ruled(&self, kind: NoticeKind, n: u32) -> Answer
+        requires { n < length (awards_of self.now.history) }
+        ensures { (w : AwardValue) → slice_get (awards_of self.now.history) n ≡ Some w
+            → result ≡ (ruled_reply self.now.history kind n (ruling_of kind w)).answer }
+    {
+        match self.ledger.sold().rule(kind, n) {
+            Ruling::Counted => Answer::Counted,
+            Ruling::Repeat => Answer::Repeat {
+                entry: u64::from(self.ledger.place(kind, n)),
+            },
+            Ruling::Conflict(kept) => Answer::Conflict { kept },
+        }
+    }
+
     /// The answer to a notice of an award, and the entry that a commit is to add, if the reply adds
     /// one. The room for that entry is there already: it needs no prepare. The day itself stays as it
     /// is.
@@ -279,36 +328,9 @@ impl Day {
         ensures legal { IfSome result.1 (MayFollow self.now.terms self.now.history) }
         ensures room { IfSome result.1 (HasRoomFor self.now) }
     {
-        match self.ledger.sold().get(award) {
-            None => (Answer::Unknown, None),
-            Some(sold) => {
-                if ids::is_of_auction(&self.history, sold.ask, auction) {
-                    self.plan_ruled(kind, award)
-                } else {
-                    (Answer::Unknown, None)
-                }
-            }
-        }
-    }
-
-    /// The answer to a notice of an award of the auction that it names.
-    fn plan_ruled(&self, kind: NoticeKind, n: u32) -> (Answer, Option<Entry>)
-        requires { n < length (awards_of self.now.history) }
-        ensures answer { (w : AwardValue) → slice_get (awards_of self.now.history) n ≡ Some w
-            → result.0 ≡ (ruled_reply self.now.history kind n (ruling_of kind w)).answer }
-        ensures entry { (w : AwardValue) → slice_get (awards_of self.now.history) n ≡ Some w
-            → result.1 ≡ (ruled_reply self.now.history kind n (ruling_of kind w)).entry }
-        ensures legal { IfSome result.1 (MayFollow self.now.terms self.now.history) }
-        ensures room { IfSome result.1 (HasRoomFor self.now) }
-    {
-        match self.ledger.sold().rule(kind, n) {
-            Ruling::Counted => (Answer::Counted, Some(entry_of(kind, n))),
-            Ruling::Repeat => {
-                let entry = u64::from(self.ledger.place(kind, n));
-                (Answer::Repeat { entry }, None)
-            }
-            Ruling::Conflict(kept) => (Answer::Conflict { kept }, None),
-        }
+        let answer = self.answer_notice(kind, auction, award);
+        let entry = entry_if(is_counted(&answer), kind, award);
+        (answer, entry)
     }
 
     /// The answer to a tick, and the entry that a commit is to add, if an award ends. The room for that

@@ -3,15 +3,16 @@ ghost use Rattle.std.specs.Prelude.{◌≡◌, ◌≤◌, ◌<◌, ◌+◌, ◌+
 ghost use Rattle.std.specs.List.{flat_map};
 ghost use Rattle.day_entries.specs.Entries.{Fits, IsNoticeOrMoment, entries_bytes};
 ghost use Rattle.day_rules.specs.Books.{awards_of};
-ghost use Rattle.day_rules.specs.DayState.{HasRoomFor, IsDay};
+ghost use Rattle.day_rules.specs.DayState.{IsDay};
+ghost use Rattle.day_rules.specs.Entries.{entry_of_notice};
 ghost use Rattle.day_rules.specs.Laws.{Arrival, after_arrival, after_arrivals, arrival_reply};
-ghost use Rattle.day_rules.specs.Legal.{MayFollow};
-ghost use Rattle.day_machine.specs.Batches.{added_by};
+ghost use Rattle.day_machine.specs.Answered.{entry_if, is_counted};
+ghost use Rattle.day_machine.specs.Batches.{added_by, answers_in_turn};
 ghost use Rattle.day_machine.specs.Held.{open_count};
 ghost use Rattle.day_machine.specs.declared.batch.TheConstants.{BATCH_LIMIT};
 ghost use Rattle.day_machine.specs.declared.held.TheConstants.{NOTICE_ROOM as notice_room};
 
-use crate::day::Day;
+use crate::day::{Day, entry_of, is_counted};
 use crate::held::open_behind;
 use crate::metered::MeteredDay;
 use adx_io::Frame;
@@ -59,33 +60,34 @@ impl Waiting {
         }
     }
 
-    /// What a day answers, and the entry that a commit is to add, if the reply adds one.
-    fn plan(&self, day: &Day) -> (Answer, Option<Entry>)
-        ensures answer { result.0 ≡ (arrival_reply day.now.history self.now).answer }
-        ensures entry { result.1 ≡ (arrival_reply day.now.history self.now).entry }
-        ensures legal { IfSome result.1 (MayFollow day.now.terms day.now.history) }
-        ensures room { IfSome result.1 (HasRoomFor day.now) }
-        ensures kind { IfSome result.1 IsNoticeOrMoment }
+    /// What a day answers.
+    fn answer(&self, day: &Day) -> Answer
+        ensures { result ≡ (arrival_reply day.now.history self.now).answer }
     {
-        day.plan_notice(self.kind, self.auction.as_str(), self.award)
+        day.answer_notice(self.kind, self.auction.as_str(), self.award)
+    }
+
+    /// The entry of the notice where it counts.
+    fn entry(&self) -> Entry
+        ensures value { result ≡ entry_of_notice self.now.kind self.now.award }
+        ensures kind { IsNoticeOrMoment result }
+    {
+        entry_of(self.kind, self.award)
     }
 }
 
-/// Puts the bytes of an entry after those in a frame, where there is one, without memory.
-fn put_behind(format: u8, frame: &mut Frame, entry: Option<Entry>)
-    requires kind { IfSome entry IsNoticeOrMoment }
+/// Puts the bytes of the entry of a notice after those in a frame, where its answer is that it counts, without memory.
+fn put_behind(format: u8, frame: &mut Frame, call: &Waiting, answer: &Answer)
     requires room { 11 ≤ frame.old.spare }
-    ensures payload { frame.new.payload ≡ frame.old.payload ++ entries_bytes format (added_by entry) }
+    ensures payload { frame.new.payload ≡ frame.old.payload ++ entries_bytes format (added_by (entry_if (is_counted answer.now) call.now.kind call.now.award)) }
     ensures few { length frame.new.payload ≤ length frame.old.payload + 11 }
-    ensures fits { All (Fits format) (added_by entry) }
+    ensures fits { All (Fits format) (added_by (entry_if (is_counted answer.now) call.now.kind call.now.award)) }
     ensures room { frame.old.spare + length frame.old.payload ≤ frame.new.spare + length frame.new.payload }
 {
-    match entry {
-        None => {}
-        Some(entry) => {
-            let encoded = encode(&entry, format, frame);
-            prove!(encoded.is_ok());
-        }
+    if is_counted(answer) {
+        let entry = call.entry();
+        let encoded = encode(&entry, format, frame);
+        prove!(encoded.is_ok());
     }
 }
 
@@ -109,42 +111,50 @@ pub(crate) fn plan_all(
     ensures room { notice_room ≤ frame.new.spare + length frame.new.payload }
 {
     for call in calls {
-        let (answer, entry) = call.plan(day);
+        let answer = call.answer(day);
+        put_behind(format, frame, call, &answer);
         answers.push_reserved(answer);
-        put_behind(format, frame, entry);
     }
 }
 
-/// Adds to a day the entry of a notice, where its reply adds one, and says how many awards have no end then.
-fn commit(day: &mut MeteredDay, without_end: u64, call: &Waiting) -> u64
+/// Adds to a day the entry of a notice, where its answer is that it counts, and says how many awards have no end then.
+fn commit(day: &mut MeteredDay, without_end: u64, call: &Waiting, answer: &Answer) -> u64
     requires legal { IsDay day.old.terms day.old.history }
     requires counted { without_end ≡ open_count (awards_of day.old.history) }
+    requires answer { answer.now ≡ (arrival_reply day.old.history call.now).answer }
     ensures terms { day.new.terms ≡ day.old.terms }
     ensures history { day.new.history ≡ after_arrival day.old.history call.now }
     ensures counted { result ≡ open_count (awards_of day.new.history) }
 {
-    let (_, entry) = call.plan(day.day());
-    match entry {
-        None => without_end,
-        Some(entry) => {
-            let left = open_behind(day.day(), without_end, &entry);
-            day.commit(entry);
-            left
-        }
+    if is_counted(answer) {
+        let entry = call.entry();
+        let left = open_behind(day.day(), without_end, &entry);
+        day.commit(entry);
+        left
+    } else {
+        without_end
     }
 }
 
-/// Adds to a day the entries of notices in their order, and says how many awards have no end then.
-pub(crate) fn commit_all(day: &mut MeteredDay, without_end: u64, calls: &[Waiting]) -> u64
-    requires legal { IsDay day.old.terms day.old.history }
+/// Adds to a day the entries of notices in their order, by their answers, and says how many awards have no end then.
+pub(crate) fn commit_all(
+    day: &mut MeteredDay,
+    without_end: u64,
+    calls: &[Waiting],
+    answers: &[Answer],
+) -> u64
     requires counted { without_end ≡ open_count (awards_of day.old.history) }
+    requires answers { answers.now ≡ answers_in_turn day.old.history calls.now }
     ensures terms { day.new.terms ≡ day.old.terms }
     ensures history { day.new.history ≡ after_arrivals day.old.history calls.now }
     ensures counted { result ≡ open_count (awards_of day.new.history) }
 {
+    // What a metered day has is a day.
+    let _ = day.day();
     let mut left = without_end;
-    for call in calls {
-        left = commit(day, left, call);
+    for (place, call) in calls.iter().enumerate() {
+        let answer = &answers[place];
+        left = commit(day, left, call, answer);
     }
     left
 }

@@ -1,7 +1,7 @@
 -- What the tests of an ask decide: its offers, and the ids of its impressions.
-use Rattle.std.proofs.Common.{◌≡◌, ◌≢◌, ◌⊎◌, ℕ, ◌+◌, ◌<◌, ◌≤◌, List, [], ◌∷◌, Bool, true, false, not, ◌&&◌, ◌||◌, leb, eqb, ltb, length, drop, get_or, inl, inr, refl, sym, ap, ◌∙◌, arith, bytes_eq, Decides, suc}
+use Rattle.std.proofs.Common.{◌≡◌, ◌≢◌, ◌⊎◌, ℕ, ◌+◌, ◌<◌, ◌≤◌, List, [], ◌∷◌, Bool, not, ◌&&◌, ◌||◌, leb, eqb, ltb, length, drop, get_or, inl, inr, refl, sym, ap, ◌∙◌, arith, bytes_eq, Decides, suc}
 use Rattle.std.specs.List.{All, AllPairs, list_all}
-use Rattle.std.proofs.lemmas.Bool.{leb-true, le-leb, and_left}
+use Rattle.std.proofs.lemmas.Bool.{leb-true, le-leb}
 use Rattle.std.proofs.lemmas.Bool.Decides.{Decides-and, Decides-or, Decides-not, Decides-like, Decides-eqb, Decides-ltb, Decides-at, Decides-by_and}
 use Rattle.std.proofs.lemmas.Slice.Eq.{bytes_eq-Decides}
 use Rattle.std.proofs.Math.Seq.{drop-cons}
@@ -144,11 +144,3 @@ rest_of ids place id within is =
     let next : suc place ≡ place + 1 = omega arith in
     drop-cons ids place id within
     ∙ (ap (λ (k : ℕ). get_or ids place id ∷ drop k ids) next ∙ ap (λ (x : List ℕ). x ∷ drop (place + 1) ids) (sym is))
-
-pub distinct_rest : (ids : List (List ℕ)) (place : ℕ) (id : List ℕ) → place < length ids → id ≡ get_or ids place id → are_others id (drop (place + 1) ids) ≡ true → are_distinct (drop place ids) ≡ are_distinct (drop (place + 1) ids)
-distinct_rest ids place id within is others =
-    ap are_distinct (rest_of ids place id within is) ∙ ap (λ (b : Bool). b && are_distinct (drop (place + 1) ids)) others
-
-pub not_distinct : (ids : List (List ℕ)) (place : ℕ) (id : List ℕ) → place < length ids → id ≡ get_or ids place id → are_others id (drop (place + 1) ids) ≡ false → are_distinct (drop place ids) ≡ false
-not_distinct ids place id within is others =
-    ap are_distinct (rest_of ids place id within is) ∙ and_left (are_others id (drop (place + 1) ids)) (are_distinct (drop (place + 1) ids)) others

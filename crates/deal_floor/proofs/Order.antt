@@ -52,7 +52,8 @@ module _ (pairs : List Pair) (order : List ℕ) (sorted : IsOrder pairs order) (
   rise = searchable_from_sorted pair_cmp_total (pair_at pairs) order pair neighbours
 
   -- a search ends at the pair, or at the gap for it
-  pub searched : (r : Result ℕ ℕ) → IsSearchInRange r (length order) → IsBinarySearchResult (λ place. pair_cmp (pair_at pairs place) pair) order r → record { found : IfOk r (IsFound pairs order pair); absent : IfErr r (IsGap pairs order pair) }
+  pub searched : (r : Result ℕ ℕ) → IsSearchInRange r (length order) → IsBinarySearchResult (λ place. pair_cmp (pair_at pairs place) pair) order r
+      → record { found : IfOk r (IsFound pairs order pair); absent : IfErr r (IsGap pairs order pair) }
   searched (Ok at) in_range equal = record { found = record { in_range = in_range; tied = equal 0 }; absent = tt }
   searched (Err at) in_range parted = record {
     found = tt;

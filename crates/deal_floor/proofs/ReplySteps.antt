@@ -16,6 +16,7 @@ abbrev pub texts_of : Tree → List (List ℕ)
 texts_of t = texts_in (Some t)
 
 -- one more list
-pub reply_kept : (so_far new : List (List (List ℕ))) (x : List (List ℕ)) (t : Tree) (ts us : List Tree) → us ≡ t ∷ ts → x ≡ texts_of t → new ≡ so_far ++ x ∷ [] → new ++ map texts_of ts ≡ so_far ++ map texts_of us
+pub reply_kept : (so_far new : List (List (List ℕ))) (x : List (List ℕ)) (t : Tree) (ts us : List Tree) → us ≡ t ∷ ts → x ≡ texts_of t
+    → new ≡ so_far ++ x ∷ [] → new ++ map texts_of ts ≡ so_far ++ map texts_of us
 reply_kept so_far new x t ts us left is pushed =
     ap (λ rs. rs ++ map texts_of ts) pushed ∙ append_snoc so_far x (map texts_of ts) ∙ ap (λ y. so_far ++ y ∷ map texts_of ts) is ∙ ap (λ vs. so_far ++ map texts_of vs) (sym left)

@@ -1,166 +1,153 @@
 -- A roster part by part.
-use Rattle.std.proofs.Common.{◌≡◌, ℕ, List, [], ◌∷◌, ◌++◌, map, length, codes, Option, Some, None, Result, Ok, Err, refl, sym, ap, ◌∙◌}
-use Rattle.std.proofs.lemmas.List.{length-map}
+use Rattle.std.proofs.Common.{◌≡◌, ℕ, List, [], map, length, codes, Option, Some, None, refl, sym, ap, ◌∙◌, subst}
+use Rattle.std.specs.List.{AllZip}
+use Rattle.std.proofs.lemmas.Slice.Zip.{AllZip-long}
 use Rattle.adx_json.specs.Tree.{Tree}
-use Rattle.adx_json.specs.Checks.{Check, first_fault, judged_by, judged}
-use Rattle.adx_json.proofs.Judging.{after_all, judged_off, judged_value}
 use Rattle.adx_json.specs.Named.{member_in}
-use Rattle.adx_json.specs.Spelling.{spelling}
-use Rattle.sha2.specs.Sha256.{sha256}
-use Rattle.adx_json.specs.Values.{text_or_empty, items_in, texts_in}
-use Rattle.deal_floor.specs.Forms.{text_or, whole_or}
-use Rattle.deal_floor.specs.Rosters.{PlaceView, CampaignView, LimitsView, RosterView, place_view, campaign_view, limits_view, bidder_name, bidder_names, bidder_trees, reply_trees, head_checks, bidder_list_checks, campaign_list_checks, replies_checks, limits_checks, digest_tree, roster_view, roster_in}
+use Rattle.adx_json.specs.FoundMembers.{member_within}
+use Rattle.adx_json.specs.Rows.{or_else}
+use Rattle.adx_json.specs.Values.{items_in, text_or_empty}
+use Rattle.adx_json.proofs.Listing.{Say, fault_at}
+use Rattle.deal_floor.specs.Forms.{whole_or}
+use Rattle.deal_floor.specs.Reading.{HasParts, bidder_list_fault, campaign_list_fault, head_fault, limits_fault, replies_fault}
+use Rattle.deal_floor.specs.Rosters.{IsRoster, bidder_names, bidder_rows, campaign_rows, roster_fault, roster_rows}
 use Rattle.deal_floor.specs.declared.campaign.Campaign.{Campaign}
+use Rattle.deal_floor.specs.declared.limits.Limits.{Limits}
+use Rattle.deal_floor.specs.declared.limits.TheConstants.{MOST_AUCTIONS, MOST_BIDS, MOST_TEXT}
+use Rattle.deal_floor.specs.declared.place.Place.{Place}
+use Rattle.deal_floor.specs.declared.roster.Roster.{Roster}
 use Rattle.deal_floor.specs.declared.roster.TheConstants.{MOST_NOW}
 use Rattle.deal_floor.specs.declared.fault.RosterFault.{RosterFault}
-use Rattle.deal_floor.specs.Seen.{seen_place, seen_campaign}
-use Rattle.deal_floor.specs.declared.place.Place.{Place}
-use Rattle.deal_floor.proofs.BidderSteps.{names, names_seen}
+use Rattle.deal_floor.proofs.BidderSteps.{names, names_are}
 
-held_by : {F V : Type 0} (o : Option F) (v w : V) → judged_by v o ≡ Ok w → o ≡ None
-held_by None v w h = refl
-held_by (Some f) v w h = cc
-
--- what was judged well has no fault
-pub held : {F V : Type 0} (cs : List (Check F)) (v w : V) → judged cs v ≡ Ok w → first_fault cs ≡ None
-held cs v w h = held_by (first_fault cs) v w h
-
-module _ {F V : Type 0} (a b c d e : List (Check F)) (v : V) where
-  abbrev whole : Result V F
-  whole = judged (a ++ (b ++ (c ++ (d ++ e)))) v
-
-  behind_first : first_fault a ≡ None → whole ≡ judged (b ++ (c ++ (d ++ e))) v
-  behind_first h = ap (judged_by v) (after_all a (b ++ (c ++ (d ++ e))) h)
-
-  behind_second : first_fault a ≡ None → first_fault b ≡ None → whole ≡ judged (c ++ (d ++ e)) v
-  behind_second h i = behind_first h ∙ ap (judged_by v) (after_all b (c ++ (d ++ e)) i)
-
-  behind_third : first_fault a ≡ None → first_fault b ≡ None → first_fault c ≡ None → whole ≡ judged (d ++ e) v
-  behind_third h i j = behind_second h i ∙ ap (judged_by v) (after_all c (d ++ e) j)
-
-  pub first_fails : {W : Type 0} (w : W) (f : F) → judged a w ≡ Err f → whole ≡ Err f
-  first_fails w f h = judged_off a (b ++ (c ++ (d ++ e))) w v f h
-
-  pub second_fails : {W : Type 0} (w : W) (f : F) → first_fault a ≡ None → judged b w ≡ Err f → whole ≡ Err f
-  second_fails w f h k = behind_first h ∙ judged_off b (c ++ (d ++ e)) w v f k
-
-  pub third_fails : {W : Type 0} (w : W) (f : F) → first_fault a ≡ None → first_fault b ≡ None → judged c w ≡ Err f → whole ≡ Err f
-  third_fails w f h i k = behind_second h i ∙ judged_off c (d ++ e) w v f k
-
-  pub fourth_fails : {W : Type 0} (w : W) (f : F) → first_fault a ≡ None → first_fault b ≡ None → first_fault c ≡ None → judged d w ≡ Err f → whole ≡ Err f
-  fourth_fails w f h i j k = behind_third h i j ∙ judged_off d e w v f k
-
-  pub fifth_fails : {W : Type 0} (w : W) (f : F) → first_fault a ≡ None → first_fault b ≡ None → first_fault c ≡ None → first_fault d ≡ None → judged e w ≡ Err f → whole ≡ Err f
-  fifth_fails w f h i j l k = behind_third h i j ∙ ap (judged_by v) (after_all d e l ∙ faulty w f k)
-    where
-      faulty_by : {W : Type 0} (o : Option F) (w : W) (f : F) → judged_by w o ≡ Err f → o ≡ Some f
-      faulty_by None w f h = cc
-      faulty_by (Some g) w f h = cc
-
-      faulty : {W : Type 0} (w : W) (f : F) → judged e w ≡ Err f → first_fault e ≡ Some f
-      faulty w f h = faulty_by (first_fault e) w f h
-
-  pub all_hold : first_fault a ≡ None → first_fault b ≡ None → first_fault c ≡ None → first_fault d ≡ None → first_fault e ≡ None → whole ≡ Ok v
-  all_hold h i j k l = behind_third h i j ∙ ap (judged_by v) (after_all d e k ∙ l)
-
--- the names of bidders, in memory and as trees
-names_of_trees : (ts : List Tree) → map (λ (v : PlaceView). v.name) (map place_view ts) ≡ map bidder_name ts
-names_of_trees [] = refl
-names_of_trees (t ∷ ts) = ap (λ ns. bidder_name t ∷ ns) (names_of_trees ts)
-
-pub names_are : (ps : List Place) (ts : List Tree) → map place_view ts ≡ map seen_place ps → names ps ≡ map bidder_name ts
-names_are ps ts h = sym (names_seen ps) ∙ ap (map (λ (v : PlaceView). v.name)) (sym h) ∙ names_of_trees ts
-
-pub lengths_are : (ps : List Place) (ts : List Tree) → map place_view ts ≡ map seen_place ps → length ps ≡ length ts
-lengths_are ps ts h = sym (length-map ps seen_place) ∙ ap length (sym h) ∙ length-map ts place_view
-
-abbrev view_of : List ℕ → List ℕ → ℕ → List PlaceView → List CampaignView → List (List (List ℕ)) → LimitsView → List ℕ → RosterView
-view_of day base now bidders campaigns replies limits digest = record { day = day; base = base; now = now; bidders = bidders; campaigns = campaigns; replies = replies; limits = limits; digest = digest }
-
--- the five parts of a roster
-abbrev head_part : Tree → List (Check RosterFault)
-head_part t = head_checks (member_in (codes "day") t) (member_in (codes "base") t) (member_in (codes "now") t)
-
-abbrev bidders_part : Tree → List (Check RosterFault)
-bidders_part t = bidder_list_checks (member_in (codes "bidders") t)
-
-abbrev campaigns_part : Tree → List (Check RosterFault)
-campaigns_part t = campaign_list_checks (bidder_names t) (member_in (codes "campaigns") t)
-
-abbrev replies_part : Tree → List (Check RosterFault)
-replies_part t = replies_checks (length (bidder_trees t)) (member_in (codes "replies") t)
-
-abbrev limits_part : Tree → List (Check RosterFault)
-limits_part t = limits_checks (member_in (codes "limits") t)
-
--- campaigns judged by the names of the same bidders
-pub by_names : (t : Tree) (ps qs : List Place) (r : Result (List CampaignView) RosterFault) → qs ≡ ps → judged (campaign_list_checks (names qs) (member_in (codes "campaigns") t)) (map (campaign_view (names qs)) (items_in (member_in (codes "campaigns") t))) ≡ r → judged (campaign_list_checks (names ps) (member_in (codes "campaigns") t)) (map (campaign_view (names ps)) (items_in (member_in (codes "campaigns") t))) ≡ r
-by_names t ps qs r is h = ap (λ xs. judged (campaign_list_checks (names xs) (member_in (codes "campaigns") t)) (map (campaign_view (names xs)) (items_in (member_in (codes "campaigns") t)))) (sym is) ∙ h
+assoc3 : {F : Type 0} (a b c r : Option F) → or_else a (or_else b (or_else c r)) ≡ or_else (or_else a (or_else b c)) r
+assoc3 None None None r = refl
+assoc3 None None (Some f) r = refl
+assoc3 None (Some f) c r = refl
+assoc3 (Some f) b c r = refl
 
 module _ (t : Tree) where
+  abbrev m : List ℕ → Option Tree
+  m name = member_in name t
+
   abbrev bs : List Tree
-  bs = items_in (member_in (codes "bidders") t)
+  bs = items_in (m (codes "bidders"))
 
   abbrev cs : List Tree
-  cs = items_in (member_in (codes "campaigns") t)
+  cs = items_in (m (codes "campaigns"))
 
-  abbrev head_view : List ℕ × ℕ
-  head_view = (text_or_empty (member_in (codes "day") t), whole_or 0 MOST_NOW (member_in (codes "now") t))
+  abbrev row_fault : ℕ → Option RosterFault
+  row_fault n = fault_at n roster_rows (Some t)
 
-  pub head_off : (e : RosterFault) → judged (head_part t) head_view ≡ Err e → roster_in t ≡ Err e
-  head_off e h = first_fails (head_part t) (bidders_part t) (campaigns_part t) (replies_part t) (limits_part t) (roster_view t) head_view e h
+  -- the five parts
+  abbrev head : Option RosterFault
+  head = head_fault (m (codes "day")) (m (codes "base")) (m (codes "now"))
 
-  pub bidders_off : (e : RosterFault) (head : List ℕ × ℕ) → judged (head_part t) head_view ≡ Ok head → judged (bidders_part t) (map place_view bs) ≡ Err e → roster_in t ≡ Err e
-  bidders_off e head a h = second_fails (head_part t) (bidders_part t) (campaigns_part t) (replies_part t) (limits_part t) (roster_view t) (map place_view bs) e (held (head_part t) head_view head a) h
+  abbrev bidders : Option RosterFault
+  bidders = bidder_list_fault (m (codes "bidders"))
 
-  module _ (head : List ℕ × ℕ) (ps : List Place) (a : judged (head_part t) head_view ≡ Ok head) (b : judged (bidders_part t) (map place_view bs) ≡ Ok (map seen_place ps)) where
-    seen_is : map place_view bs ≡ map seen_place ps
-    seen_is = judged_value (bidders_part t) (map place_view bs) (map seen_place ps) b
+  abbrev campaigns : List (List ℕ) → Option RosterFault
+  campaigns ns = campaign_list_fault ns (m (codes "campaigns"))
 
-    named : names ps ≡ bidder_names t
-    named = names_are ps bs seen_is
+  abbrev replies : ℕ → Option RosterFault
+  replies n = replies_fault n (m (codes "replies"))
 
-    counted : length ps ≡ length (bidder_trees t)
-    counted = lengths_are ps bs seen_is
+  abbrev limits : Option RosterFault
+  limits = limits_fault (m (codes "limits"))
 
-    abbrev campaigns_by : List (List ℕ) → Result (List CampaignView) RosterFault
-    campaigns_by ns = judged (campaign_list_checks ns (member_in (codes "campaigns") t)) (map (campaign_view ns) cs)
+  parted : roster_fault t ≡ or_else head (or_else bidders (or_else (campaigns (bidder_names (Some t))) (or_else (replies (length bs)) limits)))
+  parted =
+      assoc3 (row_fault 0) (row_fault 1) (row_fault 2) _ ∙ ap (or_else head)
+      (assoc3 (row_fault 3) (row_fault 4) (row_fault 5) _ ∙ ap (or_else bidders)
+      (assoc3 (row_fault 6) (row_fault 7) (row_fault 8) _ ∙ ap (or_else (campaigns (bidder_names (Some t)))) (assoc3 (row_fault 9) (row_fault 10) (row_fault 11) _)))
 
-    pub campaigns_off : (e : RosterFault) → campaigns_by (names ps) ≡ Err e → roster_in t ≡ Err e
-    campaigns_off e h = third_fails (head_part t) (bidders_part t) (campaigns_part t) (replies_part t) (limits_part t) (roster_view t) (map (campaign_view (bidder_names t)) cs) e (held (head_part t) head_view head a) (held (bidders_part t) (map place_view bs) (map seen_place ps) b) (ap campaigns_by (sym named) ∙ h)
+  -- the fault of the first part that has one
+  pub head_off : (f : RosterFault) → head ≡ Some f → roster_fault t ≡ Some f
+  head_off f h = parted ∙ ap (λ x. or_else x (or_else bidders (or_else (campaigns (bidder_names (Some t))) (or_else (replies (length bs)) limits)))) h
 
-    module _ (found : List Campaign) (c : campaigns_by (names ps) ≡ Ok (map seen_campaign found)) where
-      campaigns_hold : campaigns_by (bidder_names t) ≡ Ok (map seen_campaign found)
-      campaigns_hold = ap campaigns_by (sym named) ∙ c
+  pub bidders_off : (f : RosterFault) → head ≡ None → bidders ≡ Some f → roster_fault t ≡ Some f
+  bidders_off f a h = parted ∙ (λ i. or_else (a i) (or_else (h i) (or_else (campaigns (bidder_names (Some t))) (or_else (replies (length bs)) limits))))
 
-      abbrev replies_by : ℕ → Result (List Tree) RosterFault
-      replies_by n = judged (replies_checks n (member_in (codes "replies") t)) (items_in (member_in (codes "replies") t))
+  module _ (ps qs : List Place) (same : qs ≡ ps) (says : AllZip (Say (bidder_rows [])) bs ps) (a : head ≡ None) (b : bidders ≡ None) where
+    named : bidder_names (Some t) ≡ names qs
+    named = names_are bs ps says ∙ ap names (sym same)
 
-      pub replies_off : (e : RosterFault) → replies_by (length ps) ≡ Err e → roster_in t ≡ Err e
-      replies_off e h = fourth_fails (head_part t) (bidders_part t) (campaigns_part t) (replies_part t) (limits_part t) (roster_view t) (items_in (member_in (codes "replies") t)) e (held (head_part t) head_view head a) (held (bidders_part t) (map place_view bs) (map seen_place ps) b) (held (campaigns_part t) (map (campaign_view (bidder_names t)) cs) (map seen_campaign found) campaigns_hold) (ap replies_by (sym counted) ∙ h)
+    counted : length bs ≡ length ps
+    counted = sym (AllZip-long (Say (bidder_rows [])) bs ps says)
 
-      module _ (rs : List Tree) (d : replies_by (length ps) ≡ Ok rs) where
-        replies_hold : replies_by (length (bidder_trees t)) ≡ Ok rs
-        replies_hold = ap replies_by (sym counted) ∙ d
+    pub campaigns_off : (f : RosterFault) → campaigns (names qs) ≡ Some f → roster_fault t ≡ Some f
+    campaigns_off f h = let c = ap campaigns named ∙ h in parted ∙ (λ i. or_else (a i) (or_else (b i) (or_else (c i) (or_else (replies (length bs)) limits))))
 
-        pub limits_off : (e : RosterFault) → judged (limits_part t) (limits_view (member_in (codes "limits") t)) ≡ Err e → roster_in t ≡ Err e
-        limits_off e h = fifth_fails (head_part t) (bidders_part t) (campaigns_part t) (replies_part t) (limits_part t) (roster_view t) (limits_view (member_in (codes "limits") t)) e (held (head_part t) head_view head a) (held (bidders_part t) (map place_view bs) (map seen_place ps) b) (held (campaigns_part t) (map (campaign_view (bidder_names t)) cs) (map seen_campaign found) campaigns_hold) (held (replies_part t) (items_in (member_in (codes "replies") t)) rs replies_hold) h
+    module _ (found : List Campaign) (told : AllZip (Say (campaign_rows (names qs) [])) cs found) (c : campaigns (names qs) ≡ None) where
+      campaigns_none : campaigns (bidder_names (Some t)) ≡ None
+      campaigns_none = ap campaigns named ∙ c
 
-        -- the view, field by field
-        pub roster_on : (l : LimitsView) (day base : List ℕ) (now : ℕ) (texts : List (List (List ℕ))) (digest : List ℕ)
-            → judged (limits_part t) (limits_view (member_in (codes "limits") t)) ≡ Ok l
-            → day ≡ head.0 → now ≡ head.1 → base ≡ text_or (codes "http://localhost") (member_in (codes "base") t)
-            → texts ≡ map (λ u. texts_in (Some u)) rs → digest ≡ sha256 (spelling (digest_tree t))
-            → roster_in t ≡ Ok (view_of day base now (map seen_place ps) (map seen_campaign found) texts l digest)
-        roster_on l day base now texts digest e day_is now_is base_is texts_are digest_is =
-            let head_is : head_view ≡ head = judged_value (head_part t) head_view head a in
-            let day_path : text_or_empty (member_in (codes "day") t) ≡ day = ap (λ (h : List ℕ × ℕ). h.0) head_is ∙ sym day_is in
-            let now_path : whole_or 0 MOST_NOW (member_in (codes "now") t) ≡ now = ap (λ (h : List ℕ × ℕ). h.1) head_is ∙ sym now_is in
-            let base_path : text_or (codes "http://localhost") (member_in (codes "base") t) ≡ base = sym base_is in
-            let found_path : map (campaign_view (bidder_names t)) cs ≡ map seen_campaign found = judged_value (campaigns_part t) (map (campaign_view (bidder_names t)) cs) (map seen_campaign found) campaigns_hold in
-            let trees_path : items_in (member_in (codes "replies") t) ≡ rs = judged_value (replies_part t) (items_in (member_in (codes "replies") t)) rs replies_hold in
-            let texts_path : map (λ u. texts_in (Some u)) (reply_trees t) ≡ texts = ap (map (λ u. texts_in (Some u))) trees_path ∙ sym texts_are in
-            let limits_path : limits_view (member_in (codes "limits") t) ≡ l = judged_value (limits_part t) (limits_view (member_in (codes "limits") t)) l e in
-            let digest_path : sha256 (spelling (digest_tree t)) ≡ digest = sym digest_is in
-            all_hold (head_part t) (bidders_part t) (campaigns_part t) (replies_part t) (limits_part t) (roster_view t) (held (head_part t) head_view head a) (held (bidders_part t) (map place_view bs) (map seen_place ps) b) (held (campaigns_part t) (map (campaign_view (bidder_names t)) cs) (map seen_campaign found) campaigns_hold) (held (replies_part t) (items_in (member_in (codes "replies") t)) rs replies_hold) (held (limits_part t) (limits_view (member_in (codes "limits") t)) l e)
-            ∙ (λ i. Ok (view_of (day_path i) (base_path i) (now_path i) (seen_is i) (found_path i) (texts_path i) (limits_path i) (digest_path i)))
+      pub replies_off : (f : RosterFault) → replies (length ps) ≡ Some f → roster_fault t ≡ Some f
+      replies_off f h =
+          let d = ap replies counted ∙ h in parted ∙ (λ i. or_else (a i) (or_else (b i) (or_else (campaigns_none i) (or_else (d i) limits))))
+
+      module _ (rs : List Tree) (are : rs ≡ items_in (m (codes "replies"))) (d : replies (length ps) ≡ None) where
+        pub limits_off : (e : Option RosterFault) → limits ≡ e → roster_fault t ≡ e
+        limits_off e h =
+            let none = ap replies counted ∙ d in parted ∙ (λ i. or_else (a i) (or_else (b i) (or_else (campaigns_none i) (or_else (none i) (h i)))))
+
+        -- the roster, field by field
+        pub roster_on : (l : Limits) (r : Roster) (day : List ℕ) (now : ℕ) → limits ≡ None
+            → (l.auctions ≡ whole_or MOST_AUCTIONS MOST_AUCTIONS (member_within (codes "auctions") (m (codes "limits"))))
+            × (l.bids ≡ whole_or MOST_BIDS MOST_BIDS (member_within (codes "bids") (m (codes "limits"))))
+            × (l.text ≡ whole_or MOST_TEXT MOST_TEXT (member_within (codes "text") (m (codes "limits"))))
+            → (day ≡ text_or_empty (m (codes "day"))) × (now ≡ whole_or 0 MOST_NOW (m (codes "now")))
+            → HasParts r day now ps found rs l (m (codes "base")) (m (codes "day")) (m (codes "campaigns")) → IsRoster t r
+        roster_on l r day now e (auctions, bids, text) (day_is, now_is) p =
+            let zip : AllZip (Say (bidder_rows [])) bs r.bidders = subst (AllZip (Say (bidder_rows [])) bs) (sym p.bidders) says in
+            let told_by : AllZip (Say (campaign_rows (bidder_names (Some t)) [])) cs r.campaigns =
+            subst (λ ns. AllZip (Say (campaign_rows ns [])) cs r.campaigns) (sym named) (subst (AllZip (Say (campaign_rows (names qs) [])) cs) (sym p.campaigns) told) in
+            let texts = p.replies ∙ ap (map _) are in (
+              limits_off None e,
+              (
+                p.day ∙ day_is,
+                (
+                  p.base,
+                  (
+                    p.now ∙ now_is,
+                    (
+                      tt,
+                      (
+                        tt,
+                        (
+                          zip,
+                          (
+                            tt,
+                            (
+                              tt,
+                              (
+                                told_by,
+                                (
+                                  tt,
+                                  (
+                                    tt,
+                                    (
+                                      texts,
+                                      (
+                                        tt,
+                                        (
+                                          ap (λ (x : Limits). x.auctions) p.limits ∙ auctions,
+                                          (
+                                            ap (λ (x : Limits). x.bids) p.limits ∙ bids,
+                                            (ap (λ (x : Limits). x.text) p.limits ∙ text, (p.digest, tt)),
+                                          ),
+                                        ),
+                                      ),
+                                    ),
+                                  ),
+                                ),
+                              ),
+                            ),
+                          ),
+                        ),
+                      ),
+                    ),
+                  ),
+                ),
+              ),
+            )

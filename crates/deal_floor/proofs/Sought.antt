@@ -48,7 +48,8 @@ module _ {X : Type 0} (p : X → Bool) where
       let is : position_or_len p all ≡ length all = position_or_len_is p all (length all) x (omega arith) (λ k low. h k x low) (λ low. absurd (omega arith)) in
       ap (λ (n : ℕ). cond (nat_lt n (length all)) (Some n) None) is ∙ ap (λ b. cond b (Some (length all)) None) (not_less (length all) _ refl)
 
-  pub some_is : (xs : List X) (i : ℕ) (d : X) → i < length xs → p (get_or xs i d) ≡ true → ((k : ℕ) → k < i → p (get_or xs k d) ≡ false) → position p xs ≡ Some i
+  pub some_is : (xs : List X) (i : ℕ) (d : X) → i < length xs → p (get_or xs i d) ≡ true → ((k : ℕ) → k < i → p (get_or xs k d) ≡ false)
+      → position p xs ≡ Some i
   some_is xs i d low h before =
       ap (λ (n : ℕ). cond (nat_lt n (length xs)) (Some n) None) (position_or_len_is p xs i d (omega arith) before (λ _. h))
       ∙ ap (λ b. cond b (Some i) None) (less_by i (length xs) _ refl low)
@@ -103,14 +104,16 @@ module _ (cs : List Campaign) (order : List ℕ) (sorted : IsOrder (map pair_of 
       (λ k low. is_false _ (λ h. let same = only i k d found (let l = place_low i found in omega arith) h in omega arith))
 
   -- the campaign that is found, where it is the bidder's
-  pub found_place : (bidder i : ℕ) (c : Campaign) → IsFound (map pair_of cs) order pair i → c ≡ get_or cs (place_at order i) c → (c.bidder == bidder) ≡ true → position (is_campaign bidder seat cid) cs ≡ Some (place_at order i)
+  pub found_place : (bidder i : ℕ) (c : Campaign) → IsFound (map pair_of cs) order pair i → c ≡ get_or cs (place_at order i) c
+      → (c.bidder == bidder) ≡ true → position (is_campaign bidder seat cid) cs ≡ Some (place_at order i)
   found_place bidder i c found is own =
       some_is (is_campaign bidder seat cid) cs (place_at order i) c (place_low i found)
       (ap₂ (λ a b. a && b) (ap (λ (x : Campaign). x.bidder == bidder) (sym is) ∙ own) (has_found i c found))
       (λ k low. is_false _ (λ h. let same = only i k c found (let l = place_low i found in omega arith) (and_both _ _ h).1 in omega arith))
 
   -- and where it is another bidder's
-  pub found_other : (bidder i : ℕ) (c : Campaign) → IsFound (map pair_of cs) order pair i → c ≡ get_or cs (place_at order i) c → (c.bidder == bidder) ≡ false → position (is_campaign bidder seat cid) cs ≡ None
+  pub found_other : (bidder i : ℕ) (c : Campaign) → IsFound (map pair_of cs) order pair i → c ≡ get_or cs (place_at order i) c
+      → (c.bidder == bidder) ≡ false → position (is_campaign bidder seat cid) cs ≡ None
   found_other bidder i c found is other =
       none_is (is_campaign bidder seat cid) cs (λ k d low. is_false _ (λ h.
       let same : k ≡ place_at order i = only i k d found low (and_both _ _ h).1 in
@@ -126,16 +129,20 @@ slice_get_is (x ∷ xs) zero d low = refl
 slice_get_is (x ∷ xs) (suc i) d low = slice_get_is xs i d (omega arith)
 
 -- what is found stands in a list that isn't empty
-pub found_some : (cs : List Campaign) (order : List ℕ) → IsOrder (map pair_of cs) order → (seat cid : List ℕ) (i : ℕ) → IsFound (map pair_of cs) order (seat, cid) i → list_any (has_pair seat cid) cs ≡ true
+pub found_some : (cs : List Campaign) (order : List ℕ) → IsOrder (map pair_of cs) order → (seat cid : List ℕ) (i : ℕ)
+    → IsFound (map pair_of cs) order (seat, cid) i → list_any (has_pair seat cid) cs ≡ true
 found_some [] order sorted seat cid i found = absurd (let low = sorted.below i found.in_range in omega arith)
 found_some (c ∷ cs) order sorted seat cid i found = found_any (c ∷ cs) order sorted seat cid i c found
 
-pub pair_found : (cs : List Campaign) (order : List ℕ) → IsOrder (map pair_of cs) order → (seat cid : List ℕ) (i : ℕ) → IsFound (map pair_of cs) order (seat, cid) i → position (has_pair seat cid) cs ≡ Some (place_at order i)
+pub pair_found : (cs : List Campaign) (order : List ℕ) → IsOrder (map pair_of cs) order → (seat cid : List ℕ) (i : ℕ)
+    → IsFound (map pair_of cs) order (seat, cid) i → position (has_pair seat cid) cs ≡ Some (place_at order i)
 pair_found [] order sorted seat cid i found = absurd (let low = sorted.below i found.in_range in omega arith)
 pair_found (c ∷ cs) order sorted seat cid i found = found_pair (c ∷ cs) order sorted seat cid i c found
 
 -- the bidder's campaign was read at the place that was read, or another bidder's
-pub own_place : (cs : List Campaign) (order : List ℕ) → IsOrder (map pair_of cs) order → (seat cid : List ℕ) (bidder i n : ℕ) → IsFound (map pair_of cs) order (seat, cid) i → n ≡ place_at order i → option_map_or (λ (c : Campaign). c.bidder == bidder) (slice_get cs n) false ≡ true → Some n ≡ position (is_campaign bidder seat cid) cs
+pub own_place : (cs : List Campaign) (order : List ℕ) → IsOrder (map pair_of cs) order → (seat cid : List ℕ) (bidder i n : ℕ)
+    → IsFound (map pair_of cs) order (seat, cid) i → n ≡ place_at order i
+    → option_map_or (λ (c : Campaign). c.bidder == bidder) (slice_get cs n) false ≡ true → Some n ≡ position (is_campaign bidder seat cid) cs
 own_place [] order sorted seat cid bidder i n found read own = absurd (let low = sorted.below i found.in_range in omega arith)
 own_place (x ∷ xs) order sorted seat cid bidder i n found read own =
     let cs = x ∷ xs in
@@ -145,7 +152,9 @@ own_place (x ∷ xs) order sorted seat cid bidder i n found read own =
     let here : slice_get cs n ≡ Some c = slice_get_is cs n x low in
     ap Some read ∙ sym (found_place cs order sorted seat cid bidder i c found is (sym (ap (λ o. option_map_or (λ (c : Campaign). c.bidder == bidder) o false) here) ∙ own))
 
-pub other_place : (cs : List Campaign) (order : List ℕ) → IsOrder (map pair_of cs) order → (seat cid : List ℕ) (bidder i n : ℕ) → IsFound (map pair_of cs) order (seat, cid) i → n ≡ place_at order i → option_map_or (λ (c : Campaign). c.bidder == bidder) (slice_get cs n) false ≡ false → None ≡ position (is_campaign bidder seat cid) cs
+pub other_place : (cs : List Campaign) (order : List ℕ) → IsOrder (map pair_of cs) order → (seat cid : List ℕ) (bidder i n : ℕ)
+    → IsFound (map pair_of cs) order (seat, cid) i → n ≡ place_at order i
+    → option_map_or (λ (c : Campaign). c.bidder == bidder) (slice_get cs n) false ≡ false → None ≡ position (is_campaign bidder seat cid) cs
 other_place [] order sorted seat cid bidder i n found read other = absurd (let low = sorted.below i found.in_range in omega arith)
 other_place (x ∷ xs) order sorted seat cid bidder i n found read other =
     let cs = x ∷ xs in
@@ -156,7 +165,9 @@ other_place (x ∷ xs) order sorted seat cid bidder i n found read other =
     sym (found_other cs order sorted seat cid bidder i c found is (sym (ap (λ o. option_map_or (λ (c : Campaign). c.bidder == bidder) o false) here) ∙ other))
 
 -- one more campaign behind the others
-pub order_more : (cs seen news : List Campaign) (order seen_order newer : List ℕ) (c : Campaign) (at n : ℕ) → IsOrder (map pair_of cs) order → seen ≡ cs → seen_order ≡ order → IsGap (map pair_of seen) seen_order (pair_of c) at → news ≡ cs ++ c ∷ [] → n ≡ length cs → newer ≡ insert order at n → IsOrder (map pair_of news) newer
+pub order_more : (cs seen news : List Campaign) (order seen_order newer : List ℕ) (c : Campaign) (at n : ℕ) → IsOrder (map pair_of cs) order
+    → seen ≡ cs → seen_order ≡ order → IsGap (map pair_of seen) seen_order (pair_of c) at → news ≡ cs ++ c ∷ [] → n ≡ length cs
+    → newer ≡ insert order at n → IsOrder (map pair_of news) newer
 order_more cs seen news order seen_order newer c at n sorted seen_is order_is gap more count put =
     let pairs_are : map pair_of news ≡ map pair_of cs ++ pair_of c ∷ [] = ap (map pair_of) more ∙ map-append pair_of cs (c ∷ []) in
     let order_new : newer ≡ insert order at (length (map pair_of cs)) = put ∙ ap (insert order at) (count ∙ sym (length-map cs pair_of)) in

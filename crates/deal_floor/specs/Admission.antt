@@ -1,16 +1,15 @@
 -- Which bids an exchange admits, and why it refuses one: the first of seven rules that fails.
 -- The objects and attributes are OpenRTB 2.6's (BidRequest, Imp, Pmp, Deal, SeatBid, Bid). The order of the rules and
 -- what `charge` and `life` are is this project's own.
-use Rattle.std.specs.Prelude.{ℕ, ◌+◌, min, List, length, [], ◌∷◌, Bool, false, ◌&&◌, ◌||◌, not, nat_lt, nat_le, ◌==◌, if◌then◌else◌, is_some, is_ok, slice_get, Option, Some, None, Result, Ok, Err}
+use Rattle.std.specs.Prelude.{ℕ, ◌+◌, min, List, length, Bool, false, ◌&&◌, ◌||◌, not, nat_lt, nat_le, ◌==◌, if◌then◌else◌, is_some, is_ok, slice_get, Option, Some, None, Result, Ok, Err}
 use Rattle.std.specs.List.{list_all, list_any, position}
 use Rattle.adx_units.specs.Money.{units}
 use Rattle.adx_units.specs.declared.units.Units.{Units}
 use Rattle.adx_units.specs.declared.price.PriceFault.{PriceFault}
 use Rattle.adx_units.specs.declared.offer.Offer.{Offer}
 use Rattle.adx_units.specs.declared.offer.TheConstants.{ADMITTED}
-use Rattle.adx_json.specs.Checks.{Check, check, judged}
 use Rattle.adx_units.specs.Among.{is_among}
-use Rattle.rtb_request.specs.Seen.{deal_has_id, imp_has_id}
+use Rattle.rtb_request.specs.Ids.{deal_has_id, imp_has_id}
 use Rattle.rtb_request.specs.declared.bid_request.BidRequest.{BidRequest}
 use Rattle.rtb_request.specs.declared.imp.Imp.{Imp}
 use Rattle.rtb_request.specs.declared.deal.Deal.{Deal}
@@ -143,25 +142,28 @@ floor_met c = names_deal c.bid || nat_le (number_or_zero (λ (i : Imp). i.floor.
 abbrev pub deal_floor_met : Case → Bool
 deal_floor_met c = not (names_deal c.bid) || nat_le (number_or_zero (λ (d : Deal). d.floor.0) (deal_of c)) (price_units c)
 
--- 6. and 7. no adomain is in BidRequest's badv, and no cat in its bcat
+-- 6. no advertiser of the bid is in the request's badv
 abbrev pub advertiser_allowed : Case → Bool
 advertiser_allowed c = not (list_any (is_among c.request.badv) c.bid.adomain)
 
--- rule 7: no category of the bid is in the request's bcat
+-- 7. no category of the bid is in the request's bcat
 abbrev pub category_allowed : Case → Bool
 category_allowed c = not (list_any (is_among c.request.bcat) c.bid.cat)
 
--- the rules in their order
-abbrev pub rules : Case → List (Check Reason)
-rules c =
-    check (can_be_sold c) NotEligible
-    ∷ check (seat_allowed c) SeatNotAllowed
-    ∷ check (deal_eligible c) DealNotEligible
-    ∷ check (floor_met c) BelowFloor
-    ∷ check (deal_floor_met c) BelowDealFloor
-    ∷ check (advertiser_allowed c) BlockedAdvertiser
-    ∷ check (category_allowed c) BlockedCategory
-    ∷ []
+-- what later rules say where this one holds, and else its reason
+abbrev pub refused_unless : Bool → Reason → Option Reason → Option Reason
+refused_unless holds reason later = if holds then later else Some reason
+
+-- the first of the rules that fails
+abbrev pub refusal_of : Case → Option Reason
+refusal_of c =
+    refused_unless (can_be_sold c) NotEligible
+    (refused_unless (seat_allowed c) SeatNotAllowed
+    (refused_unless (deal_eligible c) DealNotEligible
+    (refused_unless (floor_met c) BelowFloor
+    (refused_unless (deal_floor_met c) BelowDealFloor
+    (refused_unless (advertiser_allowed c) BlockedAdvertiser
+    (refused_unless (category_allowed c) BlockedCategory None))))))
 
 -- what is paid: the price, or the floor of a fixed deal
 abbrev pub charge_by : Option Deal → ℕ → Units
@@ -182,9 +184,14 @@ offer c = record {
   reason = ADMITTED;
 }
 
+-- the offer where there is no reason to refuse it
+abbrev pub admitted_by : Offer → Option Reason → Result Offer Reason
+admitted_by o None = Ok o
+admitted_by o (Some reason) = Err reason
+
 -- the bid as it is admitted, or the first rule that fails
 abbrev pub admitted : Case → Result Offer Reason
-admitted c = judged (rules c) (offer c)
+admitted c = admitted_by (offer c) (refusal_of c)
 
 -- the place that was found, or this other one
 abbrev pub place_or : ℕ → Option ℕ → ℕ

@@ -4,18 +4,12 @@ use Rattle.std.specs.List.{list_all, enumerate_from, position}
 use Rattle.std.specs.Option.{unwrap_or}
 use Rattle.std.specs.Str.{bytes_eq}
 use Rattle.adx_json.specs.Tree.{Tree}
-use Rattle.adx_json.specs.Named.{member_in}
 use Rattle.adx_units.specs.Number.{is_digit, begins_with}
 use Rattle.adx_units.specs.Money.{budget_of}
 use Rattle.adx_units.specs.declared.units.Units.{Units}
 use Rattle.adx_units.specs.declared.price.PriceFault.{PriceFault}
 use Rattle.adx_units.specs.declared.price.PriceFault.TheVariants.{NotNumber}
 use Rattle.adx_json.specs.Values.{text_in, number_in, whole_by}
-
--- a member of an object that may be absent
-abbrev pub member_within : List ℕ → Option Tree → Option Tree
-member_within name None = None
-member_within name (Some t) = member_in name t
 
 -- a byte of a date by its place: `-` behind the year and behind the month, and else a digit
 abbrev pub is_date_byte : ℕ → ℕ → Bool

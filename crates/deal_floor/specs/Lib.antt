@@ -2,7 +2,6 @@ pub mod Faults
 pub mod Forms
 pub mod Pairs
 pub mod Rosters
-pub mod Seen
 pub mod Reasons
 pub mod Admission
 pub mod Sales

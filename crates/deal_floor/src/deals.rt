@@ -1,7 +1,7 @@
 //! The rules on lists of names, and on deals.
 ghost use Rattle.std.specs.Prelude.{◌≡◌, Some, option_map};
 ghost use Rattle.std.specs.List.{position};
-ghost use Rattle.rtb_request.specs.Seen.{deal_has_id};
+ghost use Rattle.rtb_request.specs.Ids.{deal_has_id};
 ghost use Rattle.deal_floor.specs.Admission.{allows as allows_by, advertisers_allowed, deal_is_open_to, deal_eligible_by, deal_in as deal_in_by, deal_by, charge_by};
 
 use adx_units::{Text, Units, all_among, is_among};

@@ -1,4 +1,4 @@
-//! Why a roster gives no view.
+//! Why a tree is no roster's.
 ghost use Rattle.std.specs.Prelude.{◌≡◌};
 ghost use Rattle.deal_floor.specs.Faults.{name_of};
 ghost use Rattle.deal_floor.specs.declared.fault.RosterFault.TheVariants.{BadField};
@@ -65,7 +65,7 @@ impl Field {
     }
 }
 
-/// Why a roster gives no view: the first test that fails, or want of memory.
+/// Why a tree is no roster's: the first test that fails, or want of memory.
 #[derive(Clone, Copy, Debug, PartialEq, Eq)]
 pub enum RosterFault {
     /// A member that is absent or isn't of its form.

@@ -1,6 +1,6 @@
 //! The roster of a day, and which bids an exchange admits (OpenRTB 2.6): floors, deals and blocks.
 //!
-//! A roster's tree has a view or a first fault, and `Roster::of` gives just that; ranges and distinct names are facts
+//! A roster's tree has a first fault or is a roster's, and `Roster::of` gives just that; ranges and distinct names are facts
 //! of the types. `admit` gives the offer that a bid is, or the first of seven rules that fails.
 //!
 //! Stands on `adx_units`, `adx_json`, `rtb_request`, `rtb_response` and `sha2`.

@@ -1,18 +1,23 @@
-//! The view of a roster's tree, or its first fault.
-ghost use Rattle.std.specs.Prelude.{◌≡◌, ℕ, ◌≤◌, List, ◌++◌, map, length, Some, true, IfOk, OnOk, string_bytes};
+//! What a roster's tree says, or its first fault.
+ghost use Rattle.std.specs.Prelude.{◌≡◌, ◌≤◌, ◌++◌, [], codes, map, length, Some, true, IfOk, OnOk, string_bytes};
+ghost use Rattle.std.specs.List.{AllZip};
+ghost use Rattle.std.specs.Option.{unwrap_or};
 ghost use Rattle.adx_json.specs.Spelling.{spelling};
 ghost use Rattle.adx_json.specs.View.{tree_of, trees_of};
-ghost use Rattle.adx_json.specs.Checks.{Gives};
+ghost use Rattle.adx_json.specs.FoundMembers.{member_within};
+ghost use Rattle.adx_json.specs.Rows.{Answers, Reads, Says};
+ghost use Rattle.adx_json.specs.Tree.{null};
+ghost use Rattle.adx_json.specs.Values.{items_in as items_by, text_or_empty};
 ghost use Rattle.rtb_request.specs.Distinct.{all_distinct};
 ghost use Rattle.deal_floor.specs.Faults.{lacks_memory};
-ghost use Rattle.deal_floor.specs.Forms.{is_date};
+ghost use Rattle.deal_floor.specs.Forms.{is_date, whole_or as whole_or_by};
 ghost use Rattle.deal_floor.specs.Pairs.{pair_of, all_pairs_distinct, have_bidders};
-ghost use Rattle.deal_floor.specs.Rosters.{roster_in, or_null};
-ghost use Rattle.deal_floor.specs.Seen.{seen_place, seen_campaign, seen_limits, seen_roster};
+ghost use Rattle.deal_floor.specs.Rosters.{bidder_rows, campaign_rows, roster_rows};
 ghost use Rattle.deal_floor.specs.declared.campaign.TheConstants.{MOST_CAMPAIGNS};
 ghost use Rattle.deal_floor.specs.declared.place.TheConstants.{MOST_BIDDERS};
+ghost use Rattle.deal_floor.specs.declared.limits.TheConstants as most;
 ghost use Rattle.deal_floor.specs.declared.roster.TheConstants.{MOST_NOW};
-ghost use Rattle.deal_floor.specs.Reading.{bidder_list_found, campaign_list_found, digest_by, given, head_found, limits_found, names_of, replies_found, roster_of_parts};
+ghost use Rattle.deal_floor.specs.Reading.{HasParts, bidder_list_fault, campaign_list_fault, digest_by, given, head_fault, limits_fault, names_of, replies_fault};
 
 use crate::bidder_reader::bidders_of;
 use crate::campaign::MOST_CAMPAIGNS;
@@ -20,23 +25,24 @@ use crate::campaign_reader::campaigns_of;
 use crate::campaigns::Campaigns;
 use crate::fault::{Field, RosterFault, bad_field};
 use crate::limits::{Limits, MOST_AUCTIONS, MOST_BIDS, MOST_TEXT};
-use crate::members::{RosterMembers, members_of_limits, roster_members};
+use crate::members::{RosterMembers, roster_members};
 use crate::place::{MOST_BIDDERS, Place};
 use crate::replies::{are_replies, replies_of};
 use crate::roster::{MOST_NOW, Roster};
 use crate::value::{date_in, text_or, whole_or};
 use adx_json::{
-    Json, is_list_if_given, is_object_if_given, is_text_if_given, items_in, push_value,
+    Json, find_members, is_list_if_given, is_object_if_given, is_text_if_given, items_in,
+    push_value,
 };
 use adx_units::{OutOfMemory, Sequence, Text};
 use sha2::{Digest, Sha256};
 use std::alloc::Global;
 
 impl Roster {
-    /// The view of a roster, or its first fault. A member that is null is there and isn't of its form; members that no
+    /// A roster, or its first fault. A member that is null is there and isn't of its form; members that no
     /// test names are passed over.
     pub fn of(alloc: Global, tree: &Json) -> Result<Roster, RosterFault>
-        ensures { Gives lacks_memory seen_roster result (roster_in (tree_of tree.now)) }
+        ensures { Reads lacks_memory roster_rows (tree_of tree.now) result }
     {
         let found = roster_members(tree);
         let head = match head_of(found.day, found.base, found.now) {
@@ -84,7 +90,7 @@ fn roster_with(
     requires distinct_pairs { all_pairs_distinct (map pair_of campaigns) ≡ true }
     requires known_bidders { have_bidders (length bidders) campaigns ≡ true }
     requires few_replies { length replies.now ≤ length bidders }
-    ensures { IfOk result (λ r. seen_roster r ≡ roster_of_parts head.entry.day.now head.entry.now bidders campaigns (trees_of replies.now) limits
+    ensures { IfOk result (λ r. HasParts r head.entry.day.now head.entry.now bidders campaigns (trees_of replies.now) limits
         (given found.entry.base) (given found.entry.day) (given found.entry.campaigns)) }
 {
     Ok(Roster {
@@ -112,8 +118,8 @@ fn head_of<'a>(
     base: Option<&Json>,
     now: Option<&Json>,
 ) -> Result<Head<'a>, RosterFault>
-    ensures gives { Gives {V = List ℕ × ℕ} lacks_memory (λ h. (h.day.now, h.now)) result
-        (head_found (given day.entry) (given base.entry) (given now.entry)) }
+    ensures gives { Answers lacks_memory (head_fault (given day.entry) (given base.entry) (given now.entry))
+        (λ h. (h.day.now ≡ text_or_empty (given day.entry)) × (h.now ≡ whole_or_by 0 MOST_NOW (given now.entry))) result }
     ensures dated { IfOk result (λ h. is_date h.day.now ≡ true) }
     ensures small { IfOk result (λ h. h.now ≤ MOST_NOW) }
 {
@@ -131,7 +137,8 @@ fn head_of<'a>(
 
 /// The trees of the replies to so many bidders, or the first fault of the list.
 fn reply_trees_of(bidders: usize, value: Option<&Json>) -> Result<&[Json], RosterFault>
-    ensures gives { Gives lacks_memory (λ ts. trees_of ts.now) result (replies_found bidders (given value.entry)) }
+    ensures gives { Answers lacks_memory (replies_fault bidders (given value.entry))
+        (λ ts. trees_of ts.now ≡ items_by (given value.entry)) result }
     ensures few { IfOk result (λ ts. length ts.now ≤ bidders) }
 {
     if !is_list_if_given(value) {
@@ -149,7 +156,8 @@ fn reply_trees_of(bidders: usize, value: Option<&Json>) -> Result<&[Json], Roste
 
 /// The bidders that a value is, or the first fault of the list.
 fn bidders_in(alloc: Global, value: Option<&Json>) -> Result<Sequence<Place>, RosterFault>
-    ensures gives { Gives lacks_memory (λ ps. map seen_place ps) result (bidder_list_found (given value.entry)) }
+    ensures gives { Answers lacks_memory (bidder_list_fault (given value.entry))
+        (λ ps. AllZip (λ t p. Says (bidder_rows []) (Some t) p) (items_by (given value.entry)) ps) result }
     ensures distinct { IfOk result (λ ps. all_distinct (names_of ps) ≡ true) }
     ensures some { IfOk result (λ ps. 1 ≤ length ps) }
     ensures few { IfOk result (λ ps. length ps ≤ MOST_BIDDERS) }
@@ -174,7 +182,8 @@ fn campaigns_in(
     value: Option<&Json>,
 ) -> Result<Campaigns, RosterFault>
     requires bidders { length bidders.now ≤ MOST_BIDDERS }
-    ensures gives { Gives lacks_memory (λ cs. map seen_campaign cs) result (campaign_list_found (names_of bidders.now) (given value.entry)) }
+    ensures gives { Answers lacks_memory (campaign_list_fault (names_of bidders.now) (given value.entry))
+        (λ cs. AllZip (λ t c. Says (campaign_rows (names_of bidders.now) []) (Some t) c) (items_by (given value.entry)) cs) result }
     ensures distinct { IfOk result (λ cs. all_pairs_distinct (map pair_of cs) ≡ true) }
     ensures known { IfOk result (λ cs. have_bidders (length bidders.now) cs ≡ true) }
     ensures some { IfOk result (λ cs. 1 ≤ length cs) }
@@ -187,24 +196,32 @@ fn campaigns_in(
     if trees.len() > MOST_CAMPAIGNS {
         return Err(RosterFault::TooMany);
     }
-    campaigns_of(alloc, bidders, trees)
+    match campaigns_of(alloc, bidders, trees) {
+        Ok(campaigns) => Ok(campaigns),
+        Err(fault) => Err(fault),
+    }
 }
 
 /// The limits that a value gives, or the first fault of any of them.
 fn limits_in(value: Option<&Json>) -> Result<Limits, RosterFault>
-    ensures { Gives lacks_memory seen_limits result (limits_found (given value.entry)) }
+    ensures { Answers lacks_memory (limits_fault (given value.entry))
+        (λ l. (l.auctions ≡ whole_or_by most.MOST_AUCTIONS most.MOST_AUCTIONS (member_within (codes "auctions") (given value.entry)))
+        × (l.bids ≡ whole_or_by most.MOST_BIDS most.MOST_BIDS (member_within (codes "bids") (given value.entry)))
+        × (l.text ≡ whole_or_by most.MOST_TEXT most.MOST_TEXT (member_within (codes "text") (given value.entry)))) result }
 {
-    let found = members_of_limits(value);
+    let mut found = [None; 3];
+    find_members(value, &["auctions", "bids", "text"], &mut found);
+    let [auctions, bids, text] = found;
     if !is_object_if_given(value) {
         return Err(bad_field(Field::Limits));
     }
-    let Some(auctions) = whole_or(found.auctions, MOST_AUCTIONS, MOST_AUCTIONS) else {
+    let Some(auctions) = whole_or(auctions, MOST_AUCTIONS, MOST_AUCTIONS) else {
         return Err(bad_field(Field::LimitsAuctions));
     };
-    let Some(bids) = whole_or(found.bids, MOST_BIDS, MOST_BIDS) else {
+    let Some(bids) = whole_or(bids, MOST_BIDS, MOST_BIDS) else {
         return Err(bad_field(Field::LimitsBids));
     };
-    let Some(text) = whole_or(found.text, MOST_TEXT, MOST_TEXT) else {
+    let Some(text) = whole_or(text, MOST_TEXT, MOST_TEXT) else {
         return Err(bad_field(Field::LimitsText));
     };
     Ok(Limits {
@@ -232,7 +249,7 @@ fn digest_of(
 }
 
 fn push_or_null(out: &mut String, value: Option<&Json>) -> Result<(), OutOfMemory>
-    ensures { OnOk result (string_bytes out.new ≡ string_bytes out.old ++ spelling (or_null (given value.entry))) }
+    ensures { OnOk result (string_bytes out.new ≡ string_bytes out.old ++ spelling (unwrap_or (given value.entry) null)) }
 {
     match value {
         Some(value) => push_value(out, value),

@@ -1,6 +1,7 @@
 -- What a board that was published shows, and what a reader that was told of it has read.
-use Rattle.std.proofs.Common.{◌≡◌, ℕ, List, length, Bool, true, if◌then◌else◌, refl, subst, sym, ap, ◌∙◌, arith}
+use Rattle.std.proofs.Common.{◌≡◌, ℕ, List, length, Bool, true, if◌then◌else◌, Option, Some, None, IfSome, sym, ap, ◌∙◌, arith}
 use Rattle.std.proofs.lemmas.Bool.{le-leb}
+use Rattle.std.specs.Prelude.{is_some}
 use mathlib.Core.List.{IsPrefix}
 use Rattle.logbook.specs.Pages.{Book}
 use Rattle.adx_desk.specs.declared.shared.OpenedWith.{OpenedWith}
@@ -39,10 +40,6 @@ read_whole shown before now m count long told later is same =
 pub same_again : (p q s : DeskPass) → IsSamePass p q → IsSamePass q s → IsSamePass p s
 same_again p q s a b = (b.0 ∙ a.0, b.1 ∙ a.1, b.2 ∙ a.2, b.3 ∙ a.3, b.4 ∙ a.4)
 
--- a pass that was told stays the same pass
-pub same_told : (p q p_now : DeskPass) → p_now ≡ told p q → IsSamePass p p_now
-same_told p q p_now is = subst (λ (v : DeskPass). IsSamePass p v) (sym is) (refl, refl, refl, refl, refl)
-
 -- a board's pass is of the desk
 pub of_desk : (first p : DeskPass) (desk : TurnstileState OpenedWith) → IsOf first desk → IsIdle first p → IsOf p desk
 of_desk first p desk of idle = (idle.turnstile ∙ of.0, idle.fixed ∙ of.1)
@@ -61,5 +58,11 @@ board_on first book list list_now p q is same turns later board = record {
 }
 
 -- what was read, where that is what was published
-pub shown_read : (seen_now : List Entry) (shown now : List MeterStep) (whole : Bool) → (whole ≡ true → now ≡ shown) → shown ≡ steps_of seen_now → whole ≡ true → now ≡ steps_of seen_now
-shown_read seen_now shown now whole is all e = is e ∙ all
+pub shown_read : {T : Type 0} (seen_now : List Entry) (shown now : List MeterStep) (r : Option T) → IfSome r (λ _. now ≡ shown) → shown ≡ steps_of seen_now → IfSome r (λ _. now ≡ steps_of seen_now)
+shown_read seen_now shown now (Some m) is all = is ∙ all
+shown_read seen_now shown now None is all = tt
+
+-- and by whether something was
+pub shown_where : {T : Type 0} (seen_now : List Entry) (now : List MeterStep) (r : Option T) (b : Bool) → b ≡ is_some r → IfSome r (λ _. now ≡ steps_of seen_now) → b ≡ true → now ≡ steps_of seen_now
+shown_where seen_now now (Some m) b is shown e = shown
+shown_where seen_now now None b is shown e = absurd (cc (is, e))

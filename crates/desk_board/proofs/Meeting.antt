@@ -8,7 +8,7 @@ use Rattle.day_rules.specs.declared.entry.Entry.{Entry}
 use Rattle.adx_desk.specs.declared.shared.OpenedWith.{OpenedWith}
 use Rattle.adx_desk.specs.declared.turn.Turn.{Turn}
 use Rattle.turnstile.specs.Passes.{PassView, told}
-use Rattle.turnstile.specs.Places.{AreOneList}
+use Rattle.turnstile.specs.Places.{AreOneList, greater}
 use Rattle.day_rules.specs.declared.step.MeterStep.{MeterStep}
 use Rattle.day_rules.specs.DayMeters.{steps_of}
 use Rattle.meter_board.proofs.Beginnings.{still_begins}
@@ -22,6 +22,13 @@ met_seen p q p' is one =
       subst (λ (l : List Entry). IsPrefix p.seen l) (sym seen) one.0,
       subst (λ (l : List Entry). IsPrefix q.seen l) (sym seen) one.1,
     )
+
+-- and it knows of no fewer faults
+pub met_faults : (p q p' : PassView Entry OpenedWith Turn) → p' ≡ told p q → p.faults ≤ p'.faults
+met_faults p q p' is = subst (λ (n : ℕ). p.faults ≤ n) (sym (ap (λ (v : PassView Entry OpenedWith Turn). v.faults) is)) (first_less p.faults q.faults)
+  where
+    first_less : (a b : ℕ) → a ≤ greater a b
+    first_less a b = grind arith
 
 -- a look adds nothing to what its pass finds
 pub looked_seen : (opened : OpenedWith) (before : List Entry) (n : ℕ) (p q : PassView Entry OpenedWith Turn) → Passed opened before [] n p q → IsPrefix p.seen q.seen

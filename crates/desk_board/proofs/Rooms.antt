@@ -1,8 +1,8 @@
 -- What bringing an outbox up makes of it, and of the pass beside it.
-use Rattle.std.proofs.Common.{◌≡◌, ℕ, ◌+◌, List, [], ◌∷◌, ◌++◌, ◌≤◌, length, take, drop, Option, Some, Ok, Err, OnOk, OnErr, refl, sym, ap, ◌∙◌, subst, append_assoc, append-nil, length-append, arith}
+use Rattle.std.proofs.Common.{◌≡◌, ℕ, ◌+◌, List, [], ◌∷◌, ◌++◌, ◌≤◌, length, take, drop, Option, Ok, Err, OnOk, OnErr, refl, sym, ap, ◌∙◌, subst, append_assoc, append-nil, length-append, arith}
 use Rattle.std.proofs.Math.Seq.{drop-append_seam, take-append_seam, take-length}
 use Rattle.std.proofs.lemmas.List.{take-append-drop, take_all}
-use Rattle.std.specs.Prelude.{min, ◌-◌, ◌^◌, Result}
+use Rattle.std.specs.Prelude.{min, ◌-◌, ◌^◌, Result, IfOk}
 use mathlib.Core.List.{IsPrefix}
 use Rattle.adx_desk.specs.declared.shared.OpenedWith.{OpenedWith}
 use Rattle.adx_desk.specs.Shared.{terms_in}
@@ -20,9 +20,10 @@ use Rattle.outbox.specs.declared.report.Report.{Report}
 use Rattle.shared_desk.specs.Callers.{DeskPass, IsRightPass, Looks}
 use Rattle.turnstile.specs.Passes.{IsOf, TurnstileState}
 use Rattle.shared_desk.specs.Idle.{IsIdle}
-use Rattle.desk_board.specs.Rooms.{BringsUp, FollowsUp, GoesOver, HasTended, IsMailroom, IsTended, KeepsUp, Tends}
+use Rattle.desk_board.specs.Rooms.{BringsUp, FollowsUp, GoesOver, HasTended, IsMailroom, IsTended, KeepsUp, Tends, TendsTold}
 use Rattle.desk_board.specs.Tending.{AreTriedOnce, due_behind}
 use Rattle.desk_board.specs.declared.mail.Mail.{Mail}
+use Rattle.desk_board.specs.declared.mailroom.TheConstants.{PIECE}
 use Rattle.desk_board.proofs.Tending.{Tried, none_left, tended_first, tended_more, tended_on, tended_part}
 
 module _ {A : Type 0} where
@@ -53,6 +54,11 @@ module _ {T : Type 0} where
   on_ok : (a : Result T OutOfMemory) (P Q : Type 0) → (P → Q) → OnOk a P → OnOk a Q
   on_ok (Ok x) P Q f p = f p
   on_ok (Err e) P Q f p = tt
+
+  -- what holds anyway
+  if_ok : (a : Result T OutOfMemory) (P : Type 0) → P → OnOk a P
+  if_ok (Ok x) P p = p
+  if_ok (Err e) P p = tt
 
 module _ {L : Type 0} (l : links.Ghosts L) where
   -- a new outbox
@@ -182,17 +188,37 @@ module _ {L : Type 0} (l : links.Ghosts L) where
     between = new;
     again = again;
     over = over;
+    each_over = tt;
     keeps = keeps_none history entries link new wanting (tended_over history link first most old new again over h);
   }
 
+  -- pending posts were tried, and memory was wanting then
+  pub tends_short : {T : Type 0} (history entries : List Entry) (link : L) (first most : ℕ) (old between new : Mail L) (again : Result Report OutOfMemory) (r : Result T OutOfMemory) (wanting : OutOfMemory) →
+      GoesOver l first most old between again → HasTended l history link old → (HasTended l history link between → KeepsUp l history entries link between new r) → TendsTold l history entries link first most old new (Err wanting)
+  tends_short history entries link first most old between new again r wanting over h keeps = record {
+    tends = record {
+      between = between;
+      again = again;
+      over = over;
+      each_over = tt;
+      keeps = keeps_else history entries link between new r (Err wanting) tt (keeps (tended_over history link first most old between again over h));
+    };
+    report = tt;
+  }
+
   -- pending posts were tried, and then it kept up
-  pub tends_by : {T S : Type 0} (history entries : List Entry) (link : L) (first most : ℕ) (old between new : Mail L) (again : Result Report OutOfMemory) (r : Result T OutOfMemory) (s : Result S OutOfMemory) →
-      GoesOver l first most old between again → OnOk s (OnErr r ⊥) → HasTended l history link old → (HasTended l history link between → KeepsUp l history entries link between new r) → Tends l history entries link first most old new s
-  tends_by history entries link first most old between new again r s over ok h keeps = record {
-    between = between;
-    again = again;
-    over = over;
-    keeps = keeps_else history entries link between new r s ok (keeps (tended_over history link first most old between again over h));
+  pub tends_told : {T : Type 0} (history entries : List Entry) (link : L) (first most : ℕ) (old between new : Mail L) (again : Result Report OutOfMemory) (r : Result T OutOfMemory) (report : Report) →
+      GoesOver l first most old between again → again ≡ Ok report → OnErr r ⊥ → HasTended l history link old → (HasTended l history link between → KeepsUp l history entries link between new r) →
+      TendsTold l history entries link first most old new (Ok report)
+  tends_told history entries link first most old between new again r report over is done h keeps = record {
+    tends = record {
+      between = between;
+      again = again;
+      over = over;
+      each_over = ok_of again (length over.outcomes ≡ length (part_of first most old.outbox.pending)) (subst (λ (a : Result Report OutOfMemory). OnErr a ⊥) (sym is) tt) over.all;
+      keeps = keeps_else history entries link between new r (Ok report) done (keeps (tended_over history link first most old between again over h));
+    };
+    report = subst (λ (a : Result Report OutOfMemory). IfOk a (λ x. x ≡ report_of over.outcomes)) is over.report;
   }
 
   -- the pass is of the desk that the first one is of
@@ -245,8 +271,9 @@ module _ {L : Type 0} (l : links.Ghosts L) where
         }
 
     -- and what that makes of the posts
-    pub is_tended : entries ≡ drop old.outbox.followed p.seen → IsRightPass opened p → TendsAny → IsMailroom l first link old p → IsTended l link p.seen old new r
-    is_tended are right tends room =
+    pub is_tended : entries ≡ drop old.outbox.followed p.seen → IsRightPass opened p → TendsAny → (length old.outbox.pending ≤ PIECE → (place ≡ 0) × (most ≡ PIECE)) → IsMailroom l first link old p →
+        IsTended l link p.seen old new r
+    is_tended are right tends few room =
         let t = room.tended in
         let on = tended_on_it are right tends room in record {
           before = t.before;
@@ -257,6 +284,7 @@ module _ {L : Type 0} (l : links.Ghosts L) where
           seen_is = on.1;
           first = place;
           most = most;
+          few = λ short. if_ok r ((place ≡ 0) × (most ≡ PIECE)) (few short);
           tends = on.2;
         }
 
@@ -272,7 +300,8 @@ module _ {L : Type 0} (l : links.Ghosts L) where
         seen_is = t.seen_is;
         first = t.first;
         most = t.most;
-        tends = record { between = u.between; again = u.again; over = u.over; keeps = keeps_else t.history t.entries t.before u.between new r s ok u.keeps };
+        few = λ short. on_ok s (OnErr r ⊥) ((t.first ≡ 0) × (t.most ≡ PIECE)) (λ w. ok_of r ((t.first ≡ 0) × (t.most ≡ PIECE)) w (t.few short)) ok;
+        tends = record { between = u.between; again = u.again; over = u.over; each_over = on_ok s (OnErr r ⊥) (length u.over.outcomes ≡ length (part_of t.first t.most old.outbox.pending)) (λ w. ok_of r (length u.over.outcomes ≡ length (part_of t.first t.most old.outbox.pending)) w u.each_over) ok; keeps = keeps_else t.history t.entries t.before u.between new r s ok u.keeps };
       }
 
   -- nothing was followed, and no post was tried
@@ -288,6 +317,7 @@ module _ {L : Type 0} (l : links.Ghosts L) where
         seen_is = behind_front t.history q.seen t.begins;
         first = 0;
         most = 0;
+        few = λ short. tt;
         tends = tends_none t.history entries t.before 0 0 mail mail (Ok (report_of [])) wanting (none_over mail) t.has;
       }
     where

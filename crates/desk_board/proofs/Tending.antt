@@ -1,5 +1,5 @@
 -- What following entries, and trying posts, makes of what became of the posts of a history.
-use Rattle.std.proofs.Common.{◌≡◌, ℕ, suc, pred, List, [], ◌∷◌, ◌++◌, length, take, drop, All, Contains, IsPermutation, Bool, true, false, if◌then◌else◌, refl, sym, ap, ◌∙◌, subst, append_assoc, append-nil, arith}
+use Rattle.std.proofs.Common.{◌≡◌, ℕ, suc, pred, List, [], ◌∷◌, ◌++◌, length, take, drop, All, Contains, IsPermutation, Bool, true, false, if◌then◌else◌, refl, sym, ap, ◌∙◌, subst, append_assoc, append-nil}
 use Rattle.std.proofs.lemmas.List.{take-append-drop}
 use Rattle.std.proofs.lemmas.List.Elements.{All-append, All-contains, All-contains_itself, All-nil, All-take, All-weaker, Contains-append_left, Contains-append_right, Contains-get_or}
 use Rattle.std.proofs.lemmas.List.Sorted.{All-permutation, IsPermutation-append, IsPermutation-append_comm, IsPermutation-append_left, IsPermutation-append_right, IsPermutation-cons, IsPermutation-middle, IsPermutation-refl, IsPermutation-sym, IsPermutation-trans}
@@ -10,7 +10,7 @@ use Rattle.outbox.specs.Pumping.{AreTried, left_of, stays}
 use Rattle.outbox.specs.declared.outbox.TheConstants.{ANSWER_LIMIT}
 use Rattle.outbox.specs.declared.post.Post.{Post}
 use Rattle.outbox.specs.declared.report.Outcome.{Outcome}
-use Rattle.desk_board.specs.Tending.{AreTended, AreTriedOnce, due_behind, settled_by}
+use Rattle.desk_board.specs.Tending.{AreTended, settled_by}
 
 -- the posts of some entries and then of others
 posts_append : (before es fs : List Entry) → posts_behind before (es ++ fs) ≡ posts_behind before es ++ posts_behind (before ++ es) fs

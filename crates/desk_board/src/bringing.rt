@@ -3,7 +3,7 @@ ghost use Rattle.std.specs.Prelude.{◌≡◌, ◌++◌, List, [], IfOk, IfErr};
 ghost use Rattle.day_rules.specs.DayState.{IsDay};
 ghost use Rattle.day_rules.specs.Terms.{Terms};
 ghost use Rattle.day_rules.specs.declared.entry.Entry.{Entry as EntryValue};
-ghost use Rattle.desk_board.specs.Rooms.{BringsUp, FollowsUp, GoesOver, HasTended, KeepsUp, Tends};
+ghost use Rattle.desk_board.specs.Rooms.{BringsUp, FollowsUp, GoesOver, HasTended, KeepsUp, TendsTold};
 
 use crate::mail::Mail;
 use adx_links::Link;
@@ -92,7 +92,7 @@ impl<L: Link + Drop> Mail<L> {
     ) -> Result<Report, OutOfMemory>
         ensures { (terms : Terms) (history : List EntryValue) (link : L)
             → IsDay terms (history ++ entries.now) → HasTended L.Link history link self.old
-            → Tends L.Link history entries.now link first most self.old self.new result }
+            → TendsTold L.Link history entries.now link first most self.old self.new result }
     {
         match self.go_over(first, most) {
             Ok(report) => match self.keep_up(entries) {

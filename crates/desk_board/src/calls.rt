@@ -57,6 +57,7 @@ impl<R: Wait + Drop, D: Disk + Drop> Board<R, D> {
         ensures met { IfOk result (λ _. IsPrefix pass.new.seen self.new.pass.seen) }
         ensures later { IsPrefix self.old.pass.seen self.new.pass.seen }
         ensures pass_later { IsPrefix pass.old.seen pass.new.seen }
+        ensures pass_faults { pass.old.faults ≤ pass.new.faults }
         ensures same { IsSameBoard self.old.board self.new.board }
     {
         desk.meet(&mut self.pass, pass)?;

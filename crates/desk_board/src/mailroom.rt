@@ -1,9 +1,10 @@
 //! An outbox, its link, and a pass of the desk whose history it follows, for a lock.
-ghost use Rattle.std.specs.Prelude.{◌≡◌, Some};
+ghost use Rattle.std.specs.Prelude.{◌≡◌, ◌≤◌, Some};
 ghost use Rattle.turnstile.specs.Passes.{IsOf};
 ghost use Rattle.shared_desk.specs.Callers.{Looks};
 ghost use Rattle.shared_desk.specs.Idle.{IsIdle};
 ghost use Rattle.desk_board.specs.Rooms.{IsTended, IsTendedTo};
+ghost use Rattle.desk_board.specs.declared.mailroom.TheConstants.{PIECE as piece_size};
 
 use crate::mail::Mail;
 use crate::mail_names::MailNames;
@@ -37,7 +38,9 @@ struct Turn {
 
 impl Turn {
     /// Which of so many pending posts are tried again now: all, where they are few, and else some of them once it is time.
-    fn piece(self, pending: usize, now: u64) -> Piece {
+    fn piece(self, pending: usize, now: u64) -> Piece
+        ensures { pending ≤ piece_size → (result.first ≡ 0) × (result.most ≡ piece_size) }
+    {
         if pending <= PIECE {
             return Piece {
                 first: 0,

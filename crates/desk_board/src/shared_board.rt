@@ -1,7 +1,8 @@
 //! A board of a shared desk's meters, for a lock.
-ghost use Rattle.std.specs.Prelude.{◌≡◌, true, IfOk};
+ghost use Rattle.std.specs.Prelude.{◌≡◌, ◌≤◌, true, IfOk, IfSome};
 ghost use mathlib.Core.List.{IsPrefix};
 ghost use Rattle.day_rules.specs.DayMeters.{steps_of};
+ghost use Rattle.day_rules.specs.Steps.{meters_of};
 ghost use Rattle.turnstile.specs.Passes.{IsOf, IsSamePass};
 ghost use Rattle.meter_board.specs.Words.{list_of, list_read, published, seen};
 ghost use Rattle.shared_desk.specs.Idle.{IsIdle};
@@ -11,6 +12,7 @@ use crate::board_names::BoardNames;
 use adx_desk::Desk;
 use adx_units::OutOfMemory;
 use day_journal::Disk;
+use day_rules::Meters;
 use meter_board::MeterReader;
 use shared_desk::SharedDesk;
 use std::alloc::Global;
@@ -56,22 +58,31 @@ fn publish<R: Wait + Drop, D: Disk + Drop, W: Wait>(
     ensures pass { IsSamePass pass.old pass.new }
     ensures turns { pass.new.turns ≡ pass.old.turns }
     ensures later { IsPrefix pass.old.seen pass.new.seen }
+    ensures faults { pass.old.faults ≤ pass.new.faults }
     ensures published { IfOk result (λ _. published board.new.board ≡ steps_of pass.new.seen) }
 {
     board.publish(rt, alloc, desk, pass)?;
     desk.meet(&mut board.pass, pass)
 }
 
-/// Tells a reader of what is published, and lets it read. Whether what it read is just that.
-fn read<R: Wait + Drop, D: Disk + Drop>(board: &Board<R, D>, reader: &mut MeterReader) -> bool
+/// Tells a reader of what is published, and lets it read. None where what it read isn't just that.
+fn read<R: Wait + Drop, D: Disk + Drop>(
+    board: &Board<R, D>,
+    reader: &mut MeterReader,
+) -> Option<Meters>
     requires reader { list_read reader.old ≡ list_of board.now.board }
     ensures reader { list_read reader.new ≡ list_read reader.old }
     ensures later { IsPrefix (seen reader.old) (seen reader.new) }
-    ensures whole { result ≡ true → seen reader.new ≡ published board.now.board }
+    ensures meters { IfSome result (λ m. m ≡ meters_of (seen reader.new)) }
+    ensures whole { IfSome result (λ _. seen reader.new ≡ published board.now.board) }
 {
     let told = board.tell(reader);
     let meters = reader.read();
-    meters.entries == told
+    if meters.entries == told {
+        Some(meters)
+    } else {
+        None
+    }
 }
 
 impl<R: Wait + Drop, D: Disk + Drop, J: BoardNames> SharedBoard<R, D, J> {
@@ -87,9 +98,35 @@ impl<R: Wait + Drop, D: Disk + Drop, J: BoardNames> SharedBoard<R, D, J> {
         }
     }
 
-    /// Publishes with a pass, tells a reader, and lets it read once. True says that what it read are the meters of all that
-    /// the pass has seen then; false that memory was refused, or that the read had another number of entries than were
-    /// told, which no run reaches.
+    /// Publishes with a pass, tells a reader, and lets it read once: the meters of all that the pass has seen then. None says
+    /// that memory was refused, or that the read had another number of entries than were told, which no run reaches.
+    pub fn bring<W: Wait>(
+        &mut self,
+        rt: &W,
+        alloc: Global,
+        desk: &SharedDesk<D>,
+        pass: &mut Pass<Desk<D>>,
+        reader: &mut MeterReader,
+    ) -> Option<Meters>
+        requires desk { IsOf J.first desk.now }
+        requires pass { IsOf pass.old desk.now }
+        requires reader { list_read reader.old ≡ J.book }
+        ensures pass { IsSamePass pass.old pass.new }
+        ensures turns { pass.new.turns ≡ pass.old.turns }
+        ensures later { IsPrefix pass.old.seen pass.new.seen }
+        ensures faults { pass.old.faults ≤ pass.new.faults }
+        ensures reader { list_read reader.new ≡ J.book }
+        ensures read { IsPrefix (seen reader.old) (seen reader.new) }
+        ensures meters { IfSome result (λ m. m ≡ meters_of (seen reader.new)) }
+        ensures shown { IfSome result (λ _. seen reader.new ≡ steps_of pass.new.seen) }
+    {
+        match publish(&mut self.board, rt, alloc, desk, pass) {
+            Ok(()) => read(&self.board, reader),
+            Err(_) => None,
+        }
+    }
+
+    /// Does the same, and answers whether what was read are the meters of all that the pass has seen then.
     pub fn show<W: Wait>(
         &mut self,
         rt: &W,
@@ -108,10 +145,7 @@ impl<R: Wait + Drop, D: Disk + Drop, J: BoardNames> SharedBoard<R, D, J> {
         ensures read { IsPrefix (seen reader.old) (seen reader.new) }
         ensures shown { result ≡ true → seen reader.new ≡ steps_of pass.new.seen }
     {
-        match publish(&mut self.board, rt, alloc, desk, pass) {
-            Ok(()) => read(&self.board, reader),
-            Err(_) => false,
-        }
+        self.bring(rt, alloc, desk, pass, reader).is_some()
     }
 
     /// Gives the pass back.

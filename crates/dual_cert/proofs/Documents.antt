@@ -190,10 +190,6 @@ more_behind bytes alphas betas bound (b ∷ rest) n r some = record {
   whole = tt;
 }
 
-pub none_behind_last : (bytes alphas betas : List ℕ) (bound : ℕ) (rest : List ℕ) (n : ℕ) → IsBehindLast bytes alphas betas bound rest n → rest ≡ [] → bytes ≡ flat_map ended (rows_lines alphas betas ++ bound_line bound ∷ [])
-none_behind_last bytes alphas betas bound rest n r none =
-    r.document ∙ ap (λ (t : List ℕ). flat_map ended (rows_lines alphas betas ++ bound_line bound ∷ []) ++ t) none ∙ append-nil (flat_map ended (rows_lines alphas betas ++ bound_line bound ∷ []))
-
 -- the first line
 pub first_cut : (bytes : List ℕ) → IsOneLine bytes → IsCut Follows nothing IsWhole bytes
 first_cut bytes one = record { lines = []; told = nothing; piece = bytes; document = refl; no_newline = one; before = no_line nothing; open_ended = λ w. w }

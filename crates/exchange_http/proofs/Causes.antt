@@ -72,9 +72,6 @@ stops_writing a b c fault same w = subst (λ (n : ℕ). (n ≤ c) × Rises n c) 
 pub stops_failing : {T : Type 0} (a b c : ℕ) (failed : Failed) → b ≡ a → HasCause {T = T} b c (Err failed) → StopsBy a c Stop.WriteFault
 stops_failing a b c failed same cause = subst (λ (n : ℕ). (n ≤ c) × Rises n c) same (cause.later, cause.failed)
 
-pub stops_after : (a b c : ℕ) (stop : Stop) → b ≡ a → StopsBy b c stop → StopsBy a c stop
-stops_after a b c stop same by = subst (λ (n : ℕ). StopsBy n c stop) same by
-
 -- an end that says so is that of its messages
 ends_at : (held sunk : Option (List ℕ)) (fault : HttpFault) (end : ConnEnd) → EndsAt held sunk fault (Ok end) → IsEndOf (Over.Fault fault) end
 ends_at held sunk fault ConnEnd.Cut e = inr (inl (refl, e.0))

@@ -5,9 +5,9 @@ use Rattle.std.proofs.lemmas.List.{take-append-drop}
 use Rattle.adx_http.specs.Written.{Writes, WritesBy}
 use Rattle.adx_http.specs.declared.reply.WriteFault.{WriteFault}
 use Rattle.adx_io.specs.Streams.{HasCause, Tape, Took}
-use Rattle.desk_calls.specs.Steps.{Step}
-use Rattle.desk_calls.specs.Together.{TakesNotices}
-use Rattle.desk_calls.specs.declared.day_desk.DayDesk.{Ghosts as DeskGhosts}
+use Rattle.adx_desk.specs.Steps.{Step}
+use Rattle.adx_desk.specs.Together.{TakesNotices}
+use Rattle.adx_desk.specs.declared.day_desk.DayDesk.{Ghosts as DeskGhosts}
 use Rattle.day_rules.specs.Laws.{Arrival}
 use Rattle.day_rules.specs.declared.answer.Answer.{Answer}
 use Rattle.deal_floor.specs.declared.roster.Roster.{Roster}

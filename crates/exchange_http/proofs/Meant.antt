@@ -1,5 +1,5 @@
 -- No message is without a meaning, and none has two.
-use Rattle.std.proofs.Common.{◌≡◌, ◌≢◌, inl, inr, ℕ, List, Bool, true, false, Option, Some, None, Ok, Err, refl, sym, ap, ◌∙◌, subst}
+use Rattle.std.proofs.Common.{◌≡◌, ◌≢◌, inl, inr, ℕ, List, Bool, true, false, Option, Some, None, refl, sym, ap, ◌∙◌, subst}
 use Rattle.adx_json.specs.Faults.{IsFault}
 use Rattle.adx_json.specs.Grammar.{IsJson}
 use Rattle.adx_json.specs.Tree.{Tree}
@@ -8,15 +8,13 @@ use Rattle.adx_json.proofs.OneTree.{one_json}
 use Rattle.adx_http.specs.Targets.{path_of, query_of}
 use Rattle.http_connection.specs.Messages.{Request}
 use Rattle.http_grammar.specs.Requests.{verb_of_method}
-use Rattle.rtb_request.specs.Requests.{request_checks, request_view}
-use Rattle.rtb_request.specs.Seen.{seen_request}
+use Rattle.rtb_request.specs.Requests.{request_fault}
 use Rattle.rtb_request.specs.declared.fault.RequestFault.{RequestFault}
 use Rattle.script_lines.specs.Rosters.{RefusesRosterLine}
 use Rattle.script_lines.specs.declared.refusal.RosterRefusal.{RosterRefusal}
 use Rattle.script_lines.proofs.OneFault.{one_fault}
 use Rattle.script_lines.proofs.SomeMeaning.{some_first}
 use Rattle.script_lines.proofs.SomeRequest.{some_request}
-use Rattle.adx_json.specs.Checks.{first_fault, judged_by}
 use Rattle.exchange_http.specs.Laws.{AreOne, HasMeaning, HasOneMeaning}
 use Rattle.exchange_messages.specs.Meanings.{BodyMeans, Meaning, MeansBy, PathMeans, ServedMeans, TreeMeans, asks, budget_query_meaning, query_meaning, refused, wants_books, wants_meters}
 use Rattle.exchange_messages.specs.Paths.{is_served, path_named}
@@ -37,17 +35,17 @@ text_or_fault body unread sound = some_first body (λ r is. unread is.0 is.1) (�
     by why (inr (f, other, fault, is)) = sound f other fault
 
 -- a tree is a request for bids, or has a first fault
-tree_means : (t : Tree) (o : Option RequestFault) → first_fault (request_checks t) ≡ o → (m : Meaning) × TreeMeans t m
-tree_means t (Some f) e = (refused (Refusal.Request f), inr (f, ap (judged_by (request_view t)) e, refl))
+tree_means : (t : Tree) (o : Option RequestFault) → request_fault t ≡ o → (m : Meaning) × TreeMeans t m
+tree_means t (Some f) e = (refused (Refusal.Request f), inr (f, e, refl))
 tree_means t None e =
     let asked = some_request t e in
-    (asks t asked.0, inl (asked.0, ap (judged_by (request_view t)) e ∙ ap Ok asked.1, refl))
+    (asks t asked.0, inl (asked.0, (e, asked.1), refl))
 
 body_means : (body : List ℕ) → ((m : Meaning) → BodyMeans body m → ⊥) → ⊥
 body_means body none =
     text_or_fault body
     (λ t is.
-    let means = tree_means t (first_fault (request_checks t)) refl in
+    let means = tree_means t (request_fault t) refl in
     none means.0 (inl (t, is, means.1)))
     (λ f other fault. none (refused (Refusal.Json f)) (inr (f, other, fault, refl)))
 
@@ -77,10 +75,10 @@ same_one x y is = is
 
 one_tree_meaning : (t : Tree) (x y : Meaning) → TreeMeans t x → TreeMeans t y → AreOne x y
 one_tree_meaning t x y (inl (asked, req, is)) (inl (other, again, also)) = subst (λ (m : Meaning). AreOne m y) (sym is) (subst (AreOne (asks t asked)) (sym also) refl)
-one_tree_meaning t x y (inl (asked, req, is)) (inr (f, fails, also)) = absurd (let e : Ok (seen_request asked) ≡ Err f = sym req ∙ fails in cc e)
-one_tree_meaning t x y (inr (f, fails, is)) (inl (other, again, also)) = absurd (let e : Ok (seen_request other) ≡ Err f = sym again ∙ fails in cc e)
+one_tree_meaning t x y (inl (asked, req, is)) (inr (f, fails, also)) = absurd (let e : None ≡ Some f = sym req.0 ∙ fails in cc e)
+one_tree_meaning t x y (inr (f, fails, is)) (inl (other, again, also)) = absurd (let e : None ≡ Some f = sym again.0 ∙ fails in cc e)
 one_tree_meaning t x y (inr (f, fails, is)) (inr (g, again, also)) =
-    let same : Err f ≡ Err g = sym fails ∙ again in
+    let same : Some f ≡ Some g = sym fails ∙ again in
     let one : f ≡ g = cc same in
     same_one x y (also ∙ ap (λ (h : RequestFault). refused (Refusal.Request h)) (sym one) ∙ sym is)
 
@@ -95,7 +93,8 @@ one_path_meaning : (path : Path) (request : Request) (x y : Meaning) → PathMea
 one_path_meaning Path.OpenRtb request x y means other = one_body_meaning request.body x y means other
 one_path_meaning path request x y means other = same_one x y (other ∙ sym means)
 
-one_served_meaning : (served : Bool) (path : Path) (request : Request) (x y : Meaning) → ServedMeans served path request x → ServedMeans served path request y → AreOne x y
+one_served_meaning : (served : Bool) (path : Path) (request : Request) (x y : Meaning) → ServedMeans served path request x
+    → ServedMeans served path request y → AreOne x y
 one_served_meaning true path request x y means other = one_path_meaning path request x y means other
 one_served_meaning false path request x y means other = same_one x y (other ∙ sym means)
 

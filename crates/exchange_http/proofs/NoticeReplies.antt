@@ -11,8 +11,8 @@ use Rattle.day_rules.specs.Replies.{answered, is_of_auction, known_reply, notice
 use Rattle.day_rules.specs.declared.answer.Answer.{Answer}
 use Rattle.day_rules.specs.declared.entry.Entry.{Entry}
 use Rattle.deal_floor.specs.declared.roster.Roster.{Roster}
-use Rattle.desk_calls.specs.Steps.{Step, took}
-use Rattle.desk_calls.specs.Together.{AreNoticed, IsOutcome, noticed}
+use Rattle.adx_desk.specs.Steps.{Step, took}
+use Rattle.adx_desk.specs.Together.{AreNoticed, IsOutcome, noticed}
 use Rattle.fan_out.specs.declared.lane.Lane.{Lane}
 use Rattle.fan_out.specs.Lanes.{Outcome}
 use Rattle.http_connection.specs.Messages.{Request}

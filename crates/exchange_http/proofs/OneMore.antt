@@ -4,8 +4,8 @@ use Rattle.std.specs.Io.KnownBytes.{append_known}
 use Rattle.std.proofs.lemmas.List.Elements.{All-nil}
 use Rattle.adx_io.specs.Streams.{Tape}
 use Rattle.http_grammar.specs.Requests.{is_kept}
-use Rattle.desk_calls.specs.Steps.{Step}
-use Rattle.desk_calls.specs.declared.day_desk.DayDesk.{Ghosts as DeskGhosts}
+use Rattle.adx_desk.specs.Steps.{Step}
+use Rattle.adx_desk.specs.declared.day_desk.DayDesk.{Ghosts as DeskGhosts}
 use Rattle.day_machine.specs.declared.batch.TheConstants.{BATCH_LIMIT}
 use Rattle.adx_links.specs.declared.link.Link.{Ghosts as LinkGhosts}
 use Rattle.exchange_messages.specs.Floors.{AnswersHere, GivesUpHere, IsMomentOf}

@@ -16,8 +16,8 @@ use Rattle.http_service.specs.Connections.{Replies}
 use Rattle.http_service.specs.Replies.{reply_to}
 use Rattle.rtb_request.specs.declared.bid_request.BidRequest.{BidRequest}
 use Rattle.answer_lines.specs.Table.{closing_table}
-use Rattle.desk_calls.specs.Calls.{Called, Ended, wanted_memory, was_done, was_given_up}
-use Rattle.desk_calls.specs.Steps.{Step, looked, metered, took}
+use Rattle.adx_desk.specs.Called.{Called, Ended, wanted_memory, was_done, was_given_up}
+use Rattle.adx_desk.specs.Steps.{Step, looked, metered, took}
 use Rattle.exchange_messages.specs.Floors.{IsMomentOf}
 use Rattle.day_rules.specs.declared.meters.Meters.{Meters}
 use Rattle.exchange_messages.specs.Meters.{meters_text}

@@ -25,22 +25,22 @@ use Rattle.day_rules.specs.Replies.{Call, ask, set_budget, tick, ask_reply, budg
 use Rattle.day_rules.specs.declared.meters.Meters.{Meters}
 use Rattle.day_rules.specs.Runs.{IsCall, Turn}
 use Rattle.day_rules.proofs.Running.{run_legal}
-use Rattle.desk_calls.specs.Calls.{Called, IsRoomy, MayEnd, turn_of, was_done, was_given_up}
-use Rattle.desk_calls.specs.Desks.{IsAsked, IsChanged, IsNoticed, IsTicked, Looks, Reads, RanTogether, Takes, ended_by, fault_of_disk}
-use Rattle.desk_calls.specs.Steps.{AreSteps, alone, took}
-use Rattle.desk_calls.specs.Together.{call_by, took_in_turn}
-use Rattle.desk_calls.proofs.Notices.{in_turn}
-use Rattle.desk_calls.specs.Records.{RunsOn}
-use Rattle.desk_calls.proofs.RunsCalls.{runs_none}
-use Rattle.desk_calls.proofs.RunsOfCalls.{runs_done, runs_given_up, runs_notice, runs_refused, runs_ticked, runs_unticked}
-use Rattle.desk_calls.proofs.RunsTogether.{batch_done}
+use Rattle.adx_desk.specs.Called.{Called, IsRoomy, MayEnd, turn_of, was_done, was_given_up}
+use Rattle.adx_desk.specs.DayDesks.{IsAsked, IsChanged, IsNoticed, IsTicked, Looks, Reads, RanTogether, Takes, ended_by, fault_of_disk}
+use Rattle.adx_desk.specs.Steps.{AreSteps, alone, took}
+use Rattle.adx_desk.specs.Together.{call_by, took_in_turn}
+use Rattle.adx_desk.proofs.Notices.{in_turn}
+use Rattle.adx_desk.specs.Records.{RunsOn}
+use Rattle.adx_desk.proofs.RunsCalls.{runs_none}
+use Rattle.adx_desk.proofs.RunsOfCalls.{runs_done, runs_given_up, runs_notice, runs_refused, runs_ticked, runs_unticked}
+use Rattle.adx_desk.proofs.RunsTogether.{batch_done}
 use Rattle.day_machine.specs.Batches.{AreApart, BatchState, answers_in_turn, entries_in_turn}
 use Rattle.day_machine.specs.declared.batch.TheConstants.{BATCH_LIMIT}
 use Rattle.day_machine.proofs.InTurn.{arrivals_are}
 use Rattle.exchange_http.specs.OwnLaws.{told_notices}
 use Rattle.exchange_http.specs.Owned.{OwnLost, OwnRuns}
-use Rattle.desk_calls.specs.Meanings.{Told}
-use Rattle.desk_calls.specs.OnDisk.{FullOnly}
+use Rattle.adx_desk.specs.Meanings.{Told}
+use Rattle.adx_desk.specs.OnDisk.{FullOnly}
 
 -- a call is answered that the journal is full only where it may be
 full_may : (terms : DeskTerms) (history : List Entry) (entry : Option Entry) (size : ℕ) → FullOnly terms history entry (Some (Fault.JournalFull size)) → MayBeFull terms history entry size

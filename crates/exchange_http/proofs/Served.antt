@@ -12,10 +12,10 @@ use Rattle.day_rules.specs.declared.entry.Entry.{Entry}
 use Rattle.day_rules.specs.Legal.{IsLegal}
 use Rattle.day_rules.specs.Runs.{AreTurns, IsCall, Turn}
 use Rattle.deal_floor.specs.declared.roster.Roster.{Roster}
-use Rattle.desk_calls.specs.Calls.{turn_of}
-use Rattle.desk_calls.specs.Steps.{AreSteps, Step, alone, history_behind, looked, metered, took, turns_of}
-use Rattle.desk_calls.specs.declared.day_desk.DayDesk.{Ghosts as DeskGhosts}
-use Rattle.desk_calls.proofs.Chains.{owned_now}
+use Rattle.adx_desk.specs.Called.{turn_of}
+use Rattle.adx_desk.specs.Steps.{AreSteps, Step, alone, history_behind, looked, metered, took, turns_of}
+use Rattle.adx_desk.specs.declared.day_desk.DayDesk.{Ghosts as DeskGhosts}
+use Rattle.adx_desk.proofs.Chains.{owned_now}
 use Rattle.day_rules.proofs.RunBooks.{run_books}
 use Rattle.fan_out.specs.declared.lane.Lane.{Lane}
 use Rattle.http_connection.specs.Messages.{Request}

@@ -5,9 +5,9 @@ use Rattle.std.specs.List.{AllZip}
 use Rattle.std.proofs.Math.Nat.{eq-or-lt_of_le}
 use Rattle.std.proofs.lemmas.List.Elements.{All-nil, All-cons, All-append}
 use Rattle.adx_io.specs.Streams.{Tape, WhereTold}
-use Rattle.desk_calls.specs.Steps.{Step}
-use Rattle.desk_calls.specs.Together.{TakesNotices}
-use Rattle.desk_calls.specs.declared.day_desk.DayDesk.{Ghosts as DeskGhosts}
+use Rattle.adx_desk.specs.Steps.{Step}
+use Rattle.adx_desk.specs.Together.{TakesNotices}
+use Rattle.adx_desk.specs.declared.day_desk.DayDesk.{Ghosts as DeskGhosts}
 use Rattle.day_machine.specs.declared.batch.TheConstants.{BATCH_LIMIT}
 use Rattle.day_rules.specs.Laws.{Arrival}
 use Rattle.exchange_messages.proofs.Requested.{JoinsSteps}

@@ -3,7 +3,7 @@ use Rattle.std.specs.Prelude.{◌≡◌, ℕ, not, suc, ◌<◌, List, [], Bool,
 use Rattle.adx_io.specs.Streams.{Tape}
 use Rattle.adx_links.specs.declared.link.Link.{Ghosts as LinkGhosts}
 use Rattle.day_rules.specs.Laws.{Arrival}
-use Rattle.desk_calls.specs.declared.day_desk.DayDesk.{Ghosts as DeskGhosts}
+use Rattle.adx_desk.specs.declared.day_desk.DayDesk.{Ghosts as DeskGhosts}
 use Rattle.exchange_messages.specs.Floors.{IsMomentOf}
 use Rattle.fan_out.specs.Lanes.{works}
 use Rattle.exchange_messages.specs.declared.clock.Clock.{Ghosts as ClockGhosts}

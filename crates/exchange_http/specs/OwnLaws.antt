@@ -7,18 +7,18 @@ use Rattle.day_rules.specs.declared.answer.Answer.{Answer}
 use Rattle.day_rules.specs.declared.entry.Entry.{Entry}
 use Rattle.day_rules.specs.Laws.{Arrival}
 use Rattle.day_rules.specs.Legal.{IsLegal}
-use Rattle.desk_calls.specs.Steps.{AreSteps, Step, alone, looked, metered, took}
-use Rattle.desk_calls.specs.Together.{AreNoticed, noticed}
-use Rattle.desk_calls.proofs.Chains.{from_earlier, alone_on, steps_join}
+use Rattle.adx_desk.specs.Steps.{AreSteps, Step, alone, looked, metered, took}
+use Rattle.adx_desk.specs.Together.{AreNoticed, noticed}
+use Rattle.adx_desk.proofs.Chains.{from_earlier, alone_on, steps_join}
 use Rattle.day_machine.specs.Batches.{AreApart}
 use Rattle.day_machine.specs.declared.batch.TheConstants.{BATCH_LIMIT}
 use Rattle.exchange_http.specs.Owned.{OwnLost, OwnRuns}
-use Rattle.desk_calls.specs.Records.{RunsOn}
-use Rattle.desk_calls.specs.Told.{told_all, told_as, told_by, told_of}
-use Rattle.desk_calls.proofs.RunsCalls.{runs_legal, runs_none}
-use Rattle.desk_calls.proofs.RunsJoined.{runs_join}
-use Rattle.desk_calls.proofs.RunsTogether.{batch_given_up}
-use Rattle.desk_calls.specs.Meanings.{Told}
+use Rattle.adx_desk.specs.Records.{RunsOn}
+use Rattle.adx_desk.specs.Told.{told_all, told_as, told_by, told_of}
+use Rattle.adx_desk.proofs.RunsCalls.{runs_legal, runs_none}
+use Rattle.adx_desk.proofs.RunsJoined.{runs_join}
+use Rattle.adx_desk.proofs.RunsTogether.{batch_given_up}
+use Rattle.adx_desk.specs.Meanings.{Told}
 
 -- the calls of steps after steps
 told_append : (first rest : List Step) → told_of (first ++ rest) ≡ told_of first ++ told_of rest

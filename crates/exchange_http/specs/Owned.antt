@@ -7,10 +7,10 @@ use Rattle.adx_desk.specs.declared.fault.DeskFault.{DeskFault}
 use Rattle.day_journal.specs.declared.disk.Disk.{Ghosts}
 use Rattle.day_rules.specs.Laws.{Arrival}
 use Rattle.day_rules.specs.Legal.{IsLegal}
-use Rattle.desk_calls.specs.Steps.{AreSteps, Step, alone}
+use Rattle.adx_desk.specs.Steps.{AreSteps, Step, alone}
 use Rattle.day_machine.specs.Batches.{entries_in_turn}
-use Rattle.desk_calls.specs.Records.{RunsOn}
-use Rattle.desk_calls.specs.Told.{told_of}
+use Rattle.adx_desk.specs.Records.{RunsOn}
+use Rattle.adx_desk.specs.Told.{told_of}
 
 -- These steps were made on a desk that nobody else calls: each at the history that those before it leave, and with all that
 -- the disk keeps of their calls.

@@ -5,9 +5,9 @@ use Rattle.std.specs.Io.KnownBytes.{append_known}
 use Rattle.adx_io.specs.Streams.{Rises, Tape, Took, WhereTold}
 use Rattle.adx_io.specs.declared.failed.Failed.{Failed}
 use Rattle.http_service.specs.Steps.{WritesRefusal}
-use Rattle.desk_calls.specs.Steps.{Step}
-use Rattle.desk_calls.specs.Together.{TakesNotices}
-use Rattle.desk_calls.specs.declared.day_desk.DayDesk.{Ghosts as DeskGhosts}
+use Rattle.adx_desk.specs.Steps.{Step}
+use Rattle.adx_desk.specs.Together.{TakesNotices}
+use Rattle.adx_desk.specs.declared.day_desk.DayDesk.{Ghosts as DeskGhosts}
 use Rattle.day_rules.specs.Laws.{Arrival}
 use Rattle.day_rules.specs.declared.answer.Answer.{Answer}
 use Rattle.deal_floor.specs.declared.roster.Roster.{Roster}

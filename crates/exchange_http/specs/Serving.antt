@@ -4,8 +4,8 @@ use Rattle.adx_io.specs.Streams.{Tape}
 use Rattle.day_journal.specs.declared.disk.Disk.{Ghosts as DiskGhosts}
 use Rattle.adx_links.specs.declared.link.Link.{Ghosts as LinkGhosts}
 use Rattle.adx_desk.specs.Desks.{OnDisk}
-use Rattle.desk_calls.specs.Steps.{AreSteps, Step, alone, turns_of}
-use Rattle.desk_calls.specs.declared.day_desk.DayDesk.{Ghosts as DeskGhosts}
+use Rattle.adx_desk.specs.Steps.{AreSteps, Step, alone, turns_of}
+use Rattle.adx_desk.specs.declared.day_desk.DayDesk.{Ghosts as DeskGhosts}
 use Rattle.day_machine.specs.declared.batch.TheConstants.{BATCH_LIMIT}
 use Rattle.deal_floor.specs.declared.roster.Roster.{Roster}
 use Rattle.fan_out.specs.declared.lane.Lane.{Lane}
@@ -15,13 +15,13 @@ use Rattle.http_grammar.specs.declared.fault.HttpFault.{HttpFault}
 use Rattle.http_service.specs.Connections.{Answering, GivingUp, AreSpent, Brings, CloseLast, FailsRefusing, GoOn, Replies, TookWithFront, EndsWith as EndsService}
 use Rattle.http_service.specs.declared.limits.TheConstants.{REQUEST_LIMIT}
 use Rattle.day_rules.specs.RunBooks.{HasBooks}
-use Rattle.desk_calls.specs.Told.{told_of}
+use Rattle.adx_desk.specs.Told.{told_of}
 use Rattle.exchange_messages.specs.Floors.{IsMomentOf}
 use Rattle.fan_out.specs.Lanes.{works}
 use Rattle.exchange_messages.specs.declared.clock.Clock.{Ghosts as ClockGhosts}
 use Rattle.exchange_messages.specs.declared.floor.Floor.{Floor}
 use Rattle.exchange_messages.specs.Courses.{AnswersOn, Course, GivesUpOn, begun}
-use Rattle.desk_calls.specs.Records.{RunsOn}
+use Rattle.adx_desk.specs.Records.{RunsOn}
 
 -- nothing is said of the rest
 abbrev pub IsAny : List ℕ → Type 0

@@ -10,10 +10,10 @@ ghost use Rattle.exchange_http.specs.Running.{EndsAt, EndsOver, IsEndOf, IsSettl
 use crate::keeping::{Keeping, put_all_out};
 use crate::outlet::Outlet;
 use crate::over::Over;
+use adx_desk::DayDesk;
 use adx_http::{ConnEnd, HttpFault};
 use adx_io::Failed;
 use adx_links::Link;
-use desk_calls::DayDesk;
 use exchange_messages::{Clock, Floor, Given, Round};
 
 /// Ends a connection whose next message is refused, by its reply.

@@ -8,9 +8,9 @@ ghost use Rattle.exchange_http.specs.Running.{IsSettled};
 
 use crate::outlet::Outlet;
 use crate::waiting::Waiting;
+use adx_desk::DayDesk;
 use adx_io::Failed;
 use adx_links::Link;
-use desk_calls::DayDesk;
 use exchange_messages::{Clock, Floor, Given, Round};
 
 /// What is kept from one message to the next: the notices that wait, where replies go out, and room for a body.

@@ -8,9 +8,9 @@ ghost use Rattle.exchange_http.specs.Going.{GoesOn, IsNotice, Stops, StopsIn, Ta
 use crate::keeping::Keeping;
 use crate::outlet::Outlet;
 use crate::waiting::write_outcome;
+use adx_desk::{DayDesk, take_one};
 use adx_io::Failed;
 use adx_links::Link;
-use desk_calls::{DayDesk, take_one};
 use exchange_messages::{Clock, Floor, Given, Round};
 use notice_book::NoticeKind;
 

@@ -1,11 +1,10 @@
 //! A desk that nobody else calls.
-use adx_desk::{Desk, DeskFault, Done};
+use adx_desk::{DayDesk, Desk, DeskFault, Done};
 use adx_units::{OutOfMemory, Units};
 use day_journal::Disk;
 use day_machine::Batch;
 use day_rules::{Answer, Ask, Meters, Seen};
 use deal_floor::Roster;
-use desk_calls::DayDesk;
 use notice_book::NoticeKind;
 
 /// A desk that is lent to one who calls it alone.
@@ -17,7 +16,7 @@ pub struct OwnDesk<'a, D: Disk> {
 
 impl<D: Disk> DayDesk for OwnDesk<'_, D> {
     ghost use Rattle.std.specs.Prelude.{[], ◌∷◌};
-    ghost use Rattle.desk_calls.specs.Steps.{alone};
+    ghost use Rattle.adx_desk.specs.Steps.{alone};
     ghost use Rattle.exchange_http.specs.Owned.{OwnLost, OwnRuns};
     ghost use Rattle.exchange_http.specs.OwnLaws.{own_join, own_none, own_retried};
 
@@ -94,6 +93,6 @@ impl<D: Disk> DayDesk for OwnDesk<'_, D> {
 
     fn push_books(&mut self, out: &mut String, roster: &Roster) -> Result<(), OutOfMemory> {
         let _entries = self.desk.entries();
-        desk_calls::push_books(out, self.desk, roster)
+        adx_desk::push_books(out, self.desk, roster)
     }
 }

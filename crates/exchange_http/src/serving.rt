@@ -1,5 +1,5 @@
 //! A connection, from its first message to its end.
-ghost use Rattle.std.specs.Prelude.{◌≡◌, ◌≤◌, [], drop, false, vec_capacity};
+ghost use Rattle.std.specs.Prelude.{◌≡◌, ◌≤◌, [], drop, false, IfOk, vec_capacity};
 ghost use Rattle.adx_desk.specs.Rosters.{desk_terms};
 ghost use Rattle.http_service.specs.Connections.{HasCauses};
 ghost use Rattle.http_service.specs.declared.limits.TheConstants.{REQUEST_LIMIT as request_limit};
@@ -17,13 +17,13 @@ use crate::outlet::Outlet;
 use crate::own_desk::OwnDesk;
 use crate::stop::Stop;
 use crate::waiting::Waiting;
-use adx_desk::Desk;
+use adx_desk::{DayDesk, Desk};
 use adx_http::{Conn, ConnEnd};
 use adx_io::{Sink, Source};
 use adx_links::Link;
+use adx_units::OutOfMemory;
 use day_journal::Disk;
 use deal_floor::Roster;
-use desk_calls::DayDesk;
 use exchange_messages::{Clock, Floor, Given, Round, in_turn};
 use fan_out::Lane;
 use http_service::REQUEST_LIMIT;
@@ -98,8 +98,21 @@ fn serve_over<
     }
 }
 
+/// The room of an earlier connection, emptied, or else new room.
+fn conn_of(alloc: Global, kept: &mut Option<Conn>) -> Result<Conn, OutOfMemory>
+    ensures { IfOk result (λ c. c ≡ record { held = []; failed = false; limit = request_limit }) }
+{
+    if let Some(mut conn) = kept.take() {
+        if conn.clear_for(REQUEST_LIMIT) {
+            return Ok(conn);
+        }
+    }
+    Conn::new(alloc, REQUEST_LIMIT)
+}
+
 /// Serves a connection on a floor, over any desk that one calls: what `serve_connection` does, with the floor's desk and with
 /// its lanes asked as the floor asks them. Memory that is refused before the first message (`OutOfMemory`) leaves all as it was.
+/// `kept` is room for messages that goes from one connection to the next; where it is None it is made.
 pub fn serve_floor<
     Y: DayDesk,
     L: Link + Drop,
@@ -107,7 +120,13 @@ pub fn serve_floor<
     F: Fn(Round<'_, L>) -> Given<L>,
     S: Source,
     K: Sink,
->(alloc: Global, floor: &mut Floor<'_, Y, L, C, F>, source: &mut S, sink: &mut K) -> ConnEnd
+>(
+    alloc: Global,
+    floor: &mut Floor<'_, Y, L, C, F>,
+    kept: &mut Option<Conn>,
+    source: &mut S,
+    sink: &mut K,
+) -> ConnEnd
     requires floor { IsFloor Y.DayDesk floor.old }
     requires always { F.IsAlwaysCallable floor.old.gatherer }
     requires gives { (x y : _) → F.post floor.old.gatherer x y → Gave L.Link x y }
@@ -119,7 +138,7 @@ pub fn serve_floor<
     ensures source { S.place source.new ≡ S.place source.old }
     ensures sink { K.place sink.new ≡ K.place sink.old }
 {
-    let Ok(mut conn) = Conn::new(alloc, REQUEST_LIMIT) else {
+    let Ok(mut conn) = conn_of(alloc, kept) else {
         return ConnEnd::OutOfMemory;
     };
     let Ok(waiting) = Waiting::new(alloc) else {
@@ -131,6 +150,7 @@ pub fn serve_floor<
     let mut keeping = keeping_over(alloc, waiting, bytes, &mut *sink);
     let end = serve_over(alloc, floor, &mut keeping, &mut conn, source);
     let _ = close(keeping);
+    *kept = Some(conn);
     end
 }
 
@@ -175,5 +195,5 @@ pub fn serve_connection<'a, S: Source, K: Sink, D: Disk, L: Link + Drop, C: Cloc
             ensures { Gave L.Link round.entry result }
         { in_turn(alloc, round) },
     };
-    serve_floor(alloc, &mut floor, source, sink)
+    serve_floor(alloc, &mut floor, &mut None, source, sink)
 }

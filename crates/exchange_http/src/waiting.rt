@@ -8,12 +8,12 @@ ghost use Rattle.adx_io.specs.Streams.{HasCause};
 ghost use Rattle.exchange_http.specs.Running.{FlushFails, Flushes, outcome_bytes, outcomes_bytes};
 
 use crate::outlet::Outlet;
+use adx_desk::{DayDesk, take_all};
 use adx_http::WriteFault;
 use adx_io::Failed;
 use adx_units::OutOfMemory;
 use day_machine::{BATCH_LIMIT, Batch};
 use day_rules::Answer;
-use desk_calls::{DayDesk, take_all};
 use exchange_messages::notice_reply;
 use notice_book::NoticeKind;
 use std::alloc::Global;

@@ -17,13 +17,13 @@ use Rattle.day_rules.specs.Replies.{Call, ask, set_budget, tick, ask_reply, budg
 use Rattle.day_rules.specs.Entries.{BudgetChange}
 use Rattle.day_rules.specs.Terms.{AreTerms}
 use Rattle.deal_floor.specs.declared.roster.Roster.{Roster}
-use Rattle.desk_calls.specs.Calls.{Called, Ended, was_done, was_given_up}
-use Rattle.desk_calls.specs.Desks.{IsAsked, IsChanged, IsDoneAt, Takes, ended_as, ended_by, fault_of_disk}
-use Rattle.desk_calls.specs.Steps.{AreSteps, Step, Way, took}
-use Rattle.desk_calls.proofs.Chains.{legal_behind}
+use Rattle.adx_desk.specs.Called.{Called, Ended, was_done, was_given_up}
+use Rattle.adx_desk.specs.DayDesks.{IsAsked, IsChanged, IsDoneAt, Takes, ended_as, ended_by, fault_of_disk}
+use Rattle.adx_desk.specs.Steps.{AreSteps, Step, Way, took}
+use Rattle.adx_desk.proofs.Chains.{legal_behind}
 use Rattle.fan_out.specs.declared.answer.BidderAnswer.{BidderAnswer}
 use Rattle.rtb_request.specs.declared.bid_request.BidRequest.{BidRequest}
-use Rattle.desk_calls.proofs.ToldAnswers.{change_about, same_ask}
+use Rattle.adx_desk.proofs.ToldAnswers.{change_about, same_ask}
 use Rattle.exchange_messages.proofs.Numbers.{lent_fits, told_fits}
 use Rattle.exchange_messages.specs.Replies.{Reply, fault_reply, tick_fault_reply}
 use Rattle.exchange_messages.specs.Selling.{MayBeTold}

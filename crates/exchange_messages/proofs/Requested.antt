@@ -17,9 +17,9 @@ use Rattle.day_rules.specs.Entries.{BudgetChange}
 use Rattle.day_rules.specs.declared.meters.Meters.{Meters}
 use Rattle.deal_floor.specs.declared.place.Place.{Place}
 use Rattle.deal_floor.specs.declared.roster.Roster.{Roster}
-use Rattle.desk_calls.specs.Desks.{Looks}
-use Rattle.desk_calls.specs.Steps.{Step, looked, metered, took}
-use Rattle.desk_calls.specs.declared.day_desk.DayDesk.{Ghosts as DeskGhosts}
+use Rattle.adx_desk.specs.DayDesks.{Looks}
+use Rattle.adx_desk.specs.Steps.{Step, looked, metered, took}
+use Rattle.adx_desk.specs.declared.day_desk.DayDesk.{Ghosts as DeskGhosts}
 use Rattle.fan_out.specs.declared.answer.BidderAnswer.{BidderAnswer}
 use Rattle.fan_out.specs.declared.answer.TheConstants.{ANSWER_LIMIT}
 use Rattle.fan_out.specs.declared.lane.Lane.{Lane}

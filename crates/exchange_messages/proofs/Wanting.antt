@@ -57,10 +57,6 @@ no_auction kind query none = ap (λ (o : Option (List ℕ)). Some (notice_meanin
 pub no_award : (kind : NoticeKind) (query auction : List ℕ) → value_of (codes "auction") query ≡ Some auction → whole_by LAST_AWARD (value_of (codes "bid") query) ≡ None → Some (refused Refusal.Call) ≡ Some (query_meaning kind query)
 no_award kind query auction some none = ap₂ (λ (o : Option (List ℕ)) (n : Option ℕ). Some (notice_meaning kind o n)) (sym some) (sym none)
 
-pub names_both : (kind : NoticeKind) (query auction : List ℕ) (award : ℕ) → value_of (codes "auction") query ≡ Some auction → whole_by LAST_AWARD (value_of (codes "bid") query) ≡ Some award
-    → Some (notifies kind auction award) ≡ Some (query_meaning kind query)
-names_both kind query auction award some told = ap₂ (λ (o : Option (List ℕ)) (n : Option ℕ). Some (notice_meaning kind o n)) (sym some) (sym told)
-
 -- what a budget's query means: it names not all four texts, or it names them
 module _ (query : List ℕ) where
   pub no_seat : value_of (codes "seat") query ≡ None → Some (refused Refusal.Call) ≡ Some (budget_query_meaning query)

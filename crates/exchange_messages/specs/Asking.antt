@@ -4,8 +4,8 @@ use Rattle.day_rules.specs.declared.entry.Entry.{Entry}
 use Rattle.day_rules.specs.declared.meters.Meters.{Meters}
 use Rattle.day_rules.specs.Replies.{Call, ask, tick}
 use Rattle.deal_floor.specs.declared.roster.Roster.{Roster}
-use Rattle.desk_calls.specs.Calls.{Called, was_done}
-use Rattle.desk_calls.specs.Steps.{Step, metered, took}
+use Rattle.adx_desk.specs.Called.{Called, was_done}
+use Rattle.adx_desk.specs.Steps.{Step, metered, took}
 use Rattle.fan_out.specs.declared.answer.BidderAnswer.{BidderAnswer}
 use Rattle.rtb_request.specs.declared.bid_request.BidRequest.{BidRequest}
 use Rattle.exchange_messages.specs.Replies.{Reply}

@@ -4,8 +4,8 @@ use Rattle.std.proofs.Common.{Global}
 use Rattle.adx_desk.specs.Rosters.{desk_terms}
 use Rattle.adx_links.specs.declared.link.Link.{Ghosts as LinkGhosts}
 use Rattle.deal_floor.specs.declared.roster.Roster.{Roster}
-use Rattle.desk_calls.specs.Steps.{Step}
-use Rattle.desk_calls.specs.declared.day_desk.DayDesk.{Ghosts as DeskGhosts}
+use Rattle.adx_desk.specs.Steps.{Step}
+use Rattle.adx_desk.specs.declared.day_desk.DayDesk.{Ghosts as DeskGhosts}
 use Rattle.fan_out.specs.declared.answer.TheConstants.{ANSWER_LIMIT}
 use Rattle.fan_out.specs.declared.lane.Lane.{Lane}
 use Rattle.fan_out.specs.declared.answer.BidderAnswer.{BidderAnswer}

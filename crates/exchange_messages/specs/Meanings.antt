@@ -13,8 +13,7 @@ use Rattle.adx_http.specs.Targets.{path_of, query_of, value_of}
 use Rattle.http_connection.specs.Messages.{Request}
 use Rattle.http_grammar.specs.Requests.{verb_of_method}
 use Rattle.notice_book.specs.declared.kind.NoticeKind.{NoticeKind}
-use Rattle.rtb_request.specs.Requests.{request_in}
-use Rattle.rtb_request.specs.Seen.{seen_request}
+use Rattle.rtb_request.specs.Requests.{IsRequest, request_fault}
 use Rattle.rtb_request.specs.declared.bid_request.BidRequest.{BidRequest}
 use Rattle.rtb_request.specs.declared.fault.RequestFault.{RequestFault}
 use Rattle.script_lines.specs.Members.{change_number}
@@ -37,8 +36,8 @@ pub data Meaning : Type 0 where
 -- what the tree of a body means: a request for bids, or its first fault
 abbrev pub TreeMeans : Tree → Meaning → Type 0
 TreeMeans t m =
-    ((asked : BidRequest) × (request_in t ≡ Ok (seen_request asked)) × (m ≡ asks t asked))
-    ⊎ ((f : RequestFault) × (request_in t ≡ Err f) × (m ≡ refused (Refusal.Request f)))
+    ((asked : BidRequest) × IsRequest t asked × (m ≡ asks t asked))
+    ⊎ ((f : RequestFault) × (request_fault t ≡ Some f) × (m ≡ refused (Refusal.Request f)))
 
 -- what a body means, in any spelling of its tree; bytes that are no JSON text are refused by their fault
 -- Example: `seat=s1&cid=c1&change=1&budget=0.02` sets 20,000,000 units.

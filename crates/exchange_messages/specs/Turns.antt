@@ -25,8 +25,8 @@ use Rattle.http_connection.specs.Messages.{Request}
 use Rattle.rtb_request.specs.ForBidders.{request_for_bidders}
 use Rattle.rtb_request.specs.declared.bid_request.BidRequest.{BidRequest}
 use Rattle.rtb_response.specs.declared.bid_answer.BidAnswer.{BidAnswer}
-use Rattle.desk_calls.specs.Calls.{Called, Ended, wanted_memory, was_done, was_given_up}
-use Rattle.desk_calls.specs.Steps.{Step, looked, metered, took}
+use Rattle.adx_desk.specs.Called.{Called, Ended, wanted_memory, was_done, was_given_up}
+use Rattle.adx_desk.specs.Steps.{Step, looked, metered, took}
 use Rattle.day_rules.specs.declared.meters.Meters.{Meters}
 use Rattle.script_lines.specs.Changes.{pair_place}
 use Rattle.http_service.specs.declared.answer.Methods.{Methods}

@@ -8,9 +8,9 @@ ghost use Rattle.exchange_messages.specs.Courses.{reply_of};
 ghost use Rattle.script_lines.specs.Changes.{change_told};
 
 use crate::replies::{answer_done, answer_fault};
+use adx_desk::DayDesk;
 use adx_units::OutOfMemory;
 use deal_floor::Roster;
-use desk_calls::DayDesk;
 use http_service::Answer as HttpAnswer;
 use script_lines::Change;
 use std::alloc::Global;

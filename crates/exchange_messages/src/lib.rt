@@ -10,7 +10,7 @@
 //! A `Floor` takes messages one at a time, over a desk that is owned or shared and with lanes that are asked in turn or
 //! at once. `make_ask` is the ask of a request and its answers.
 //!
-//! Uses `desk_calls` for the desk, `fan_out` for the bidders, and `http_service` for messages.
+//! Uses `adx_desk` for the desk, `fan_out` for the bidders, and `http_service` for messages.
 #![tactic(auto)]
 
 mod asking;

@@ -1,4 +1,4 @@
-mod Meters
+mod Shown
 mod Rounds
 mod Workers
 mod Finished

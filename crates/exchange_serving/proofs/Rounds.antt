@@ -1,6 +1,6 @@
 -- What a round of a worker gives, and what is so of the pair that was served.
-use Rattle.std.proofs.Common.{◌≡◌, inl, inr, ℕ, ◌≤◌, List, [], ◌∷◌, ◌++◌, length, take, Bool, true, false, not, ◌||◌, if◌then◌else◌, Option, Some, None, IfSome, option_map, refl, sym, ap, ◌∙◌, subst, arith, append_assoc, append-nil, Ok, Err}
-use Rattle.std.specs.Prelude.{Result, unwrap_or}
+use Rattle.std.proofs.Common.{◌≡◌, inl, inr, ℕ, ◌≤◌, List, [], ◌∷◌, ◌++◌, length, Bool, true, false, not, ◌||◌, if◌then◌else◌, Option, Some, None, IfSome, option_map, refl, sym, ap, ◌∙◌, subst, arith, append-nil}
+use Rattle.std.specs.Prelude.{unwrap_or}
 use Rattle.std.specs.List.{AllZip}
 use Rattle.std.specs.Io.KnownBytes.{append_known}
 use Rattle.std.proofs.lemmas.List.Elements.{All-nil}
@@ -11,8 +11,7 @@ use Rattle.adx_desk.specs.Rosters.{desk_terms}
 use Rattle.adx_desk.specs.Shared.{terms_in}
 use Rattle.adx_desk.specs.declared.shared.OpenedWith.{OpenedWith}
 use Rattle.adx_desk.specs.declared.turn.Turn.{Turn}
-use Rattle.adx_io.specs.Streams.{Moves, Tape, Took}
-use Rattle.adx_io.specs.declared.failed.Failed.{Failed}
+use Rattle.adx_io.specs.Streams.{Tape, Took}
 use Rattle.adx_links.specs.declared.link.Link as links
 use Rattle.day_rules.specs.DayMeters.{steps_of}
 use Rattle.day_rules.specs.DayState.{IsDay}
@@ -20,8 +19,8 @@ use Rattle.day_rules.specs.Legal.{IsLegal}
 use Rattle.day_rules.specs.declared.entry.Entry.{Entry}
 use Rattle.deal_floor.specs.declared.roster.Roster.{Roster}
 use Rattle.desk_board.proofs.Meeting.{prefix_on, prefix_short}
-use Rattle.desk_calls.specs.Steps.{AreSteps, Step, calls_of, meters_read, shared}
-use Rattle.desk_calls.proofs.Chains.{shared_on, steps_join}
+use Rattle.adx_desk.specs.Steps.{AreSteps, Step, Way, calls_of, meters_read, shared}
+use Rattle.adx_desk.proofs.Chains.{GoOn, shared_on, steps_join}
 use Rattle.exchange_messages.specs.Floors.{AreLanes}
 use Rattle.exchange_http.specs.Serving.{EndsSo, Talked}
 use Rattle.exchange_messages.specs.Courses.{Course, begun}
@@ -31,31 +30,28 @@ use Rattle.http_connection.specs.declared.conn.ConnEnd.{ConnEnd}
 use Rattle.http_grammar.specs.Requests.{is_kept}
 use Rattle.http_service.specs.Connections.{HasCauses}
 use Rattle.adx_links.specs.Serving.{ServedPair}
+use Rattle.day_rules.specs.declared.meters.Meters.{Meters}
 use Rattle.day_rules.specs.declared.step.MeterStep.{MeterStep}
-use Rattle.shared_desk.specs.Passes.{IsNotedAs}
+use Rattle.shared_desk.specs.Passes.{AreRead, IsNotedAs}
 use Rattle.shared_desk.specs.Callers.{DeskPass, IsRightPass}
 use Rattle.shared_desk.proofs.Steps.{as_many}
-use Rattle.exchange_serving.specs.Sharing.{ServesShared}
+use Rattle.exchange_serving.specs.Showing.{ServesShown}
 use Rattle.turnstile.specs.Passes.{IsSamePass}
 use Rattle.turnstile.specs.declared.noted.Noted.{Noted}
-use Rattle.exchange_serving.specs.Served.{AreServedOver, Connection, IsServed, IsServedOver, as_new, shown_after, shown_by, talk_of, untaken}
-use Rattle.exchange_serving.specs.Rounds.{AreOwn, IsRound, IsWhole, bytes_of, is_out_of_memory}
-use Rattle.exchange_serving.proofs.Meters.{meters_longer, meters_read_in, read_on}
+use Rattle.exchange_serving.specs.Served.{AreServedOver, Connection, IsServed, IsServedOver, as_new, showing, shown_after, shown_by, talk_of, untaken}
+use Rattle.exchange_serving.specs.Rounds.{AreOwn, IsRound, IsWhole, is_out_of_memory}
 
 -- a longer history after some steps
-pub steps_longer : (terms : DeskTerms) (seen now more : List Entry) (steps : List Step) → AreSteps shared terms seen steps now → IsPrefix now more → AreSteps shared terms seen steps more
-steps_longer terms seen now more steps are p = subst (λ (l : List Step). AreSteps shared terms seen l more) (append-nil steps) (steps_join shared shared_on terms seen now more steps [] are p)
+pub steps_longer : (way : Way) (on : GoOn way) (terms : DeskTerms) (seen now more : List Entry) (steps : List Step) → AreSteps way terms seen steps now → way.goes now more → AreSteps way terms seen steps more
+steps_longer way on terms seen now more steps are p = subst (λ (l : List Step). AreSteps way terms seen l more) (append-nil steps) (steps_join way on terms seen now more steps [] are p)
+
+-- lists that were read go on
+read_on : (seen now : List MeterStep) (ms : List Meters) → AreRead seen ms now → IsPrefix seen now
+read_on seen now [] are = are
+read_on seen now (m ∷ ms) are = prefix_on seen are.0 now are.1 (read_on are.0 now ms are.3)
 
 same_again : (p q s : DeskPass) → IsSamePass p q → IsSamePass q s → IsSamePass p s
 same_again p q s a b = (b.0 ∙ a.0, b.1 ∙ a.1, b.2 ∙ a.2, b.3 ∙ a.3, b.4 ∙ a.4)
-
--- a call of the source moves bytes from those left to those taken
-pub whole_moved : (t old new : Option Tape) (out : List ℕ) (result : Result ℕ Failed) → IsWhole t old → Moves old new out result → IsWhole t new
-whole_moved t None new out result whole moves = ap bytes_of moves ∙ whole
-whole_moved t (Some b) None out result whole moves = absurd moves
-whole_moved t (Some b) (Some c) out (Ok n) whole moves =
-    ap (λ (l : List ℕ). Some l) (ap (λ (l : List ℕ). l ++ c.left) moves.taken ∙ (append_assoc b.taken (take n out) c.left ∙ ap (λ (l : List ℕ). b.taken ++ l) (sym moves.left))) ∙ whole
-whole_moved t (Some b) (Some c) out (Err e) whole moves = ap (λ (x : Tape). bytes_of (Some x)) moves ∙ whole
 
 -- a sink that took nothing
 known_none : (held : Option (List ℕ)) → append_known held [] ≡ held
@@ -63,21 +59,15 @@ known_none None = refl
 known_none (Some h) = ap (λ (bytes : List ℕ). Some bytes) (append-nil h)
 
 -- by the tests of a round
-shown_is : (shown short : Bool) → (not shown || short) ≡ false → shown ≡ true
-shown_is true short e = refl
-shown_is false short e = absurd (cc e)
+shown_is : (shown missed short : Bool) → ((not shown || missed) || short) ≡ false → (shown ≡ true) × (missed ≡ false)
+shown_is true false short e = (refl, refl)
+shown_is true true short e = absurd (cc e)
+shown_is false missed short e = absurd (cc e)
 
-short_is : (shown short : Bool) → short ≡ true → (not shown || short) ≡ true
-short_is true short e = e
-short_is false short e = refl
-
-pub then_is : (shown short : Bool) → shown ≡ false → (not shown || short) ≡ not shown
-then_is true short e = absurd (cc e)
-then_is false short e = refl
-
-pub else_is : (shown short : Bool) → shown ≡ true → (not shown || short) ≡ short
-else_is true short e = refl
-else_is false short e = absurd (cc e)
+short_is : (shown missed short : Bool) → short ≡ true → ((not shown || missed) || short) ≡ true
+short_is true false short e = e
+short_is true true short e = refl
+short_is false missed short e = refl
 
 no_causes : (read write : ℕ) → HasCauses read read write write ConnEnd.OutOfMemory
 no_causes read write = record {
@@ -129,19 +119,18 @@ module _ {L : Type 0} (l : links.Ghosts L) (IsMoment : ℕ → Type 0) (r : Rost
   }
 
   -- a connection between two looks at the board
-  pub served_between : (opened : OpenedWith) (p p1 p2 q : DeskPass) (before now : PairTold) (lanes lanes_now : List (Lane L)) (b0 b1 b2 b3 : List MeterStep) (end : ConnEnd) (shown : Bool) →
+  pub served_between : (opened : OpenedWith) (p p1 p2 q : DeskPass) (before now : PairTold) (lanes lanes_now : List (Lane L)) (b0 b1 b2 b3 : List MeterStep) (end : ConnEnd) (shown missed : Bool) →
       terms_in opened ≡ desk_terms r → IsRightPass opened q →
       IsSamePass p p1 → p1.turns ≡ p.turns → IsPrefix p.seen p1.seen → IsPrefix b0 b1 → b1 ≡ steps_of p1.seen →
-      ServesShared l IsMoment r (talk_of before) (talk_of now) lanes lanes_now p1 p2 b1 b2 end → IsWhole before.tape now.tape →
+      ServesShown l IsMoment r (talk_of before) (talk_of now) lanes lanes_now p1 p2 b1 b2 end missed → IsWhole before.tape now.tape →
       HasCauses before.read_faults now.read_faults before.write_faults now.write_faults end →
       IsSamePass p2 q → q.turns ≡ p2.turns → IsPrefix p2.seen q.seen → IsPrefix b2 b3 → (shown ≡ true → b3 ≡ steps_of q.seen) →
-      IsRound l IsMoment r p q before now lanes lanes_now (length b0) (length b3) (not shown || is_out_of_memory end)
-  served_between opened p p1 p2 q before now lanes lanes_now b0 b1 b2 b3 end shown terms right same1 turns1 start read1 first serves whole causes same2 turns2 later read last =
+      IsRound l IsMoment r p q before now lanes lanes_now (length b0) (length b3) ((not shown || missed) || is_out_of_memory end)
+  served_between opened p p1 p2 q before now lanes lanes_now b0 b1 b2 b3 end shown missed terms right same1 turns1 start read1 first shows whole causes same2 turns2 later read last =
+      let serves = shows.serves in
       let g = serves.gains in
       let day = day_by opened q terms right in
       let long : length b1 ≡ length p1.seen = ap (λ (x : List MeterStep). length x) first ∙ as_many p1.seen in
-      let all : shown ≡ true → IsPrefix b2 (steps_of q.seen) = λ e. subst (IsPrefix b2) (last e) read in
-      let low : length p1.seen ≤ length b1 = omega (arith, long) in
       record {
         course = serves.course;
         end = end;
@@ -157,11 +146,11 @@ module _ {L : Type 0} (l : links.Ghosts L) (IsMoment : ℕ → Type 0) (r : Rost
         from = p1.seen;
         start = start;
         since = λ e. omega (arith, prefix_short b0 b1 read1, long);
-        along = steps_longer (desk_terms r) p1.seen p2.seen q.seen serves.course.steps g.along later;
-        meters = λ e. meters_read_in (desk_terms r).day q.seen day b1 b2 (meters_read serves.course.steps) (length p1.seen) low (all (shown_is shown (is_out_of_memory end) e)) serves.read;
-        shown = λ e. ap (λ (x : List MeterStep). length x) (last (shown_is shown (is_out_of_memory end) e)) ∙ as_many q.seen;
+        along = steps_longer shared shared_on (desk_terms r) p1.seen p2.seen q.seen serves.course.steps g.along later;
+        meters = λ e. steps_longer showing shared_on (desk_terms r) p1.seen p2.seen q.seen serves.course.steps (shows.shown (shown_is shown missed (is_out_of_memory end) e).1) later;
+        shown = λ e. ap (λ (x : List MeterStep). length x) (last (shown_is shown missed (is_out_of_memory end) e).0) ∙ as_many q.seen;
         no_fewer = prefix_short b0 b3 (prefix_on b0 b1 b3 read1 (prefix_on b1 b2 b3 (read_on b1 b2 (meters_read serves.course.steps) serves.read) read));
-        wanting = λ e. short_is shown (is_out_of_memory end) (ap is_out_of_memory e);
+        wanting = λ e. short_is shown missed (is_out_of_memory end) (ap is_out_of_memory e);
       }
 
   -- what the sink took
@@ -280,9 +269,9 @@ module _ {L : Type 0} (l : links.Ghosts L) (IsMoment : ℕ → Type 0) (r : Rost
             from = over.from;
             begins = over.begins;
             since = over.since;
-            along = steps_longer (desk_terms r) over.from history more served.course.steps over.along p;
+            along = steps_longer shared shared_on (desk_terms r) over.from history more served.course.steps over.along p;
             turns = over.turns;
-            meters = λ e. meters_longer history more (meters_read served.course.steps) (length over.from) p (over.meters e);
+            meters = λ e. steps_longer showing shared_on (desk_terms r) over.from history more served.course.steps (over.meters e) p;
             wanting = over.wanting;
           };
         }

@@ -5,3 +5,4 @@ pub mod Rounds
 pub mod Finishing
 pub mod Beginning
 pub mod Sharing
+pub mod Showing

@@ -13,7 +13,7 @@ use Rattle.adx_desk.specs.declared.turn.Turn.{Turn}
 use Rattle.day_rules.specs.Legal.{IsLegal}
 use Rattle.day_rules.specs.declared.entry.Entry.{Entry}
 use Rattle.deal_floor.specs.declared.roster.Roster.{Roster}
-use Rattle.desk_calls.specs.Steps.{AreSteps, calls_of, meters_read, shared}
+use Rattle.adx_desk.specs.Steps.{AreSteps, calls_of, shared}
 use Rattle.exchange_messages.specs.Floors.{AreLanes, IsMomentOf}
 use Rattle.exchange_http.specs.Serving.{EndsSo}
 use Rattle.exchange_messages.specs.Courses.{Course}
@@ -25,7 +25,7 @@ use Rattle.shared_desk.specs.Passes.{IsNotedAs}
 use Rattle.shared_desk.specs.Callers.{DeskPass}
 use Rattle.turnstile.specs.Passes.{IsOf, IsSamePass, TurnstileState}
 use Rattle.turnstile.specs.declared.noted.Noted.{Noted}
-use Rattle.exchange_serving.specs.Served.{AreMetersIn, AreServedOver, Connection, IsServed, shown_by, talk_of}
+use Rattle.exchange_serving.specs.Served.{AreServedOver, Connection, IsServed, showing, shown_by, talk_of}
 
 -- all bytes of a tape, where it is reported
 abbrev pub bytes_of : Option Tape → Option (List ℕ)
@@ -70,7 +70,7 @@ pub record IsRound {L : Type 0} (l : links.Ghosts L) (IsMoment : ℕ → Type 0)
   pub start : IsPrefix p.seen from
   pub since : short ≡ false → known ≤ length from
   pub along : AreSteps shared (desk_terms r) from course.steps q.seen
-  pub meters : short ≡ false → AreMetersIn q.seen (length from) (meters_read course.steps)
+  pub meters : short ≡ false → AreSteps showing (desk_terms r) from course.steps q.seen
   pub shown : short ≡ false → known_now ≡ length q.seen
   pub no_fewer : known ≤ known_now
   pub wanting : end ≡ ConnEnd.OutOfMemory → short ≡ true

@@ -2,7 +2,7 @@
 -- Example: two connections of one bill each, of different awards, opened at a history of one ask: there are two
 -- rows, each with one turn; the history has three entries, and which bill comes first is by the order of the
 -- turns.
-use Rattle.std.specs.Prelude.{◌≡◌, ◌≢◌, ◌⊎◌, ℕ, ◌<◌, ◌≤◌, List, [], ◌∷◌, ◌++◌, length, map, take, All, true, false, Some, IfSome, if◌then◌else◌, option_map, slice_get}
+use Rattle.std.specs.Prelude.{◌≡◌, ◌≢◌, ◌⊎◌, ℕ, ◌<◌, ◌≤◌, List, [], ◌∷◌, ◌++◌, length, map, All, true, false, Some, IfSome, if◌then◌else◌, option_map, slice_get}
 use Rattle.std.specs.List.{AllZip, flat_map}
 use mathlib.Core.List.{IsPrefix}
 use Rattle.adx_io.specs.Streams.{Rises, Tape}
@@ -23,7 +23,7 @@ use Rattle.adx_desk.specs.Endings.{IsWithinRise}
 use Rattle.adx_desk.specs.Rosters.{desk_terms}
 use Rattle.adx_desk.specs.Shared.{IsTakenAt, IsTurnAt, is_disk_fault}
 use Rattle.shared_desk.specs.Callers.{entry_of}
-use Rattle.desk_calls.specs.Steps.{AreSteps, calls_of, meters_read, shared}
+use Rattle.adx_desk.specs.Steps.{AreSteps, Way, calls_of, shared}
 use Rattle.shared_desk.specs.Passes.{IsNotedAs}
 use Rattle.deal_floor.specs.declared.roster.Roster.{Roster}
 use Rattle.fan_out.specs.declared.lane.Lane.{Lane}
@@ -31,7 +31,6 @@ use Rattle.http_connection.specs.declared.conn.ConnEnd.{ConnEnd}
 use Rattle.http_service.specs.Connections.{HasCauses}
 use Rattle.exchange_messages.specs.Courses.{Course}
 use Rattle.exchange_http.specs.Serving.{EndsSo, Talked}
-use Rattle.day_rules.specs.declared.meters.Meters.{Meters}
 use Rattle.outbox.specs.declared.post.Post.{Post}
 use Rattle.desk_board.specs.Tending.{AreTended, AreTriedOnce, due_behind}
 use Rattle.exchange_serving.specs.declared.ending.Ending.{Ending}
@@ -53,12 +52,10 @@ as_new p = record {
 abbrev pub talk_of : PairTold → Talked
 talk_of p = record { tape = p.tape; held = p.held }
 
--- each of these meters is that of a front of the history, the first of so many entries or more, and none is of a shorter
--- front than the one before it
-abbrev pub AreMetersIn : List Entry → ℕ → List Meters → Type 0
-AreMetersIn history least [] = Unit {0}
-AreMetersIn history least (m ∷ ms) =
-    (n : ℕ) × (least ≤ n) × (n ≤ length history) × (m ≡ meters_after (take n history)) × AreMetersIn history n ms
+-- Where others call a desk, they may add entries after the history; and the meters that are read are those of the history that
+-- was seen then.
+abbrev pub showing : Way
+showing = record { goes = IsPrefix; reads = λ history meters. meters ≡ meters_after history }
 
 -- a connection that was served: its pair as it was given back, the history that was seen after it, what its messages made,
 -- and how it ended
@@ -94,8 +91,9 @@ module _ {L : Type 0} (l : links.Ghosts L) (IsMoment : ℕ → Type 0) (r : Rost
     pub along : AreSteps shared (desk_terms r) from course.steps history
     -- its turns are the calls among them
     pub turns : AllZip IsNotedAs s.turns (calls_of course.steps)
-    -- the meters that it was shown are of fronts of the history, none shorter than what was seen when it began
-    pub meters : s.wanting ≡ false → AreMetersIn history (length from) (meters_read course.steps)
+    -- the meters that it was shown are each those of the history at its own message, which begins with all that the messages
+    -- before it left
+    pub meters : s.wanting ≡ false → AreSteps showing (desk_terms r) from course.steps history
     -- it is said where memory was refused for it
     pub wanting : end ≡ ConnEnd.OutOfMemory → s.wanting ≡ true
 

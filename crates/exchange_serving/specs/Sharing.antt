@@ -3,8 +3,8 @@ use Rattle.std.specs.Prelude.{◌≡◌, ℕ, List}
 use Rattle.adx_desk.specs.Rosters.{desk_terms}
 use Rattle.adx_links.specs.declared.link.Link.{Ghosts as LinkGhosts}
 use Rattle.deal_floor.specs.declared.roster.Roster.{Roster}
-use Rattle.desk_calls.specs.Steps.{Step, meters_read}
-use Rattle.desk_calls.specs.declared.day_desk.DayDesk.{Ghosts as DeskGhosts}
+use Rattle.adx_desk.specs.Steps.{Step, meters_read}
+use Rattle.adx_desk.specs.declared.day_desk.DayDesk.{Ghosts as DeskGhosts}
 use Rattle.exchange_http.specs.Serving.{EndsSo, Talked}
 use Rattle.exchange_messages.specs.Courses.{Course}
 use Rattle.fan_out.specs.declared.lane.Lane.{Lane}

@@ -15,6 +15,7 @@
 #![tactic(auto)]
 
 mod beginning;
+mod board_desk;
 mod ending;
 mod finishing_up;
 mod gathering;
@@ -23,6 +24,7 @@ mod names;
 mod round;
 mod serving;
 mod sharing;
+mod showing;
 mod talking;
 mod whole;
 mod worker;

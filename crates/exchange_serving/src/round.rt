@@ -12,7 +12,7 @@ use crate::gathering::Gathers;
 use crate::names::{Day, DayNames};
 use crate::talking::talk;
 use adx_desk::Desk;
-use adx_http::ConnEnd;
+use adx_http::{Conn, ConnEnd};
 use adx_io::{Sink, Source};
 use adx_links::Link;
 use day_journal::Disk;
@@ -44,8 +44,9 @@ fn is_short(end: ConnEnd) -> bool
     }
 }
 
-/// Serves a pair by a pass, and says whether memory was refused for it. Before the connection and after it what the pass
-/// has seen is published, and the reader learns of it; where that is refused before, the connection isn't begun.
+/// Serves a pair by a pass, and says whether memory was refused for it. Before the connection, at each message that asks for the
+/// meters, and after the connection what the pass has seen is published, and the reader learns of it; where that is refused before,
+/// the connection isn't begun.
 pub(crate) fn serve_pair<
     'a,
     R: Wait,
@@ -64,6 +65,7 @@ pub(crate) fn serve_pair<
     board: &Boards<'a, R, D, L, J>,
     pass: &mut Pass<Desk<D>>,
     lanes: &mut Vec<Lane<L>>,
+    kept: &mut Option<Conn>,
     pair: &mut (S, K),
     clock: &C,
     reader: &mut MeterReader,
@@ -86,13 +88,15 @@ pub(crate) fn serve_pair<
         desk.recall(pass);
         return true;
     }
-    let end = talk(
+    let talked = talk(
         rt,
         alloc,
         roster,
         desk,
+        board,
         pass,
         lanes,
+        kept,
         &mut pair.0,
         &mut pair.1,
         clock,
@@ -101,5 +105,5 @@ pub(crate) fn serve_pair<
     );
     let shown = board.lock(rt).show(rt, alloc, desk, pass, reader);
     desk.recall(pass);
-    !shown || is_short(end)
+    !shown | talked.short | is_short(talked.end)
 }

@@ -8,14 +8,13 @@ ghost use Rattle.exchange_messages.specs.Floors.{AreLanes, Gave, IsMomentOf};
 ghost use Rattle.exchange_http.specs.Serving.{talked};
 ghost use Rattle.exchange_serving.specs.Sharing.{ServesLent, ServesShared};
 
-use adx_desk::Desk;
-use adx_http::ConnEnd;
+use adx_desk::{DayDesk, Desk};
+use adx_http::{Conn, ConnEnd};
 use adx_io::{Sink, Source};
 use adx_links::Link;
 use day_journal::Disk;
 use day_rules::MeterView;
 use deal_floor::Roster;
-use desk_calls::DayDesk;
 use exchange_http::serve_floor;
 use exchange_messages::{Clock, Floor, Given, Round, at_once};
 use fan_out::Lane;
@@ -27,7 +26,7 @@ use std::thread::Threads;
 use turnstile::Pass;
 
 /// Serves a connection on a desk that is lent, with bidders that are asked by `gather`.
-fn serve_lent<
+pub(crate) fn serve_lent<
     'a,
     Y: DayDesk,
     S: Source,
@@ -40,6 +39,7 @@ fn serve_lent<
     roster: &'a Roster,
     desk: &'a mut Y,
     links: &'a mut Vec<Lane<L>>,
+    kept: &mut Option<Conn>,
     source: &mut S,
     sink: &mut K,
     clock: &'a C,
@@ -69,11 +69,12 @@ fn serve_lent<
             ensures { Gave L.Link round.entry result }
         { gather(round) },
     };
-    serve_floor(alloc, &mut floor, source, sink)
+    serve_floor(alloc, &mut floor, kept, source, sink)
 }
 
 /// Serves a connection as `serve_shared` does, with bidders that are asked by `gather`: it works the lanes of a round, and
-/// gives them back with what their bidders answered. So it may be called where nothing may be sent to another thread.
+/// gives them back with what their bidders answered. So it may be called where nothing may be sent to another thread. `kept` is
+/// room for messages that goes from one connection to the next; where it is None it is made.
 pub fn serve_gathering<
     'a,
     R: Wait,
@@ -91,6 +92,7 @@ pub fn serve_gathering<
     desk: &'a SharedDesk<D>,
     pass: &'a mut Pass<Desk<D>>,
     links: &'a mut Vec<Lane<L>>,
+    kept: &mut Option<Conn>,
     source: &mut S,
     sink: &mut K,
     clock: &'a C,
@@ -119,7 +121,9 @@ pub fn serve_gathering<
         roster,
         view: meters,
     };
-    serve_lent(alloc, roster, &mut own, links, source, sink, clock, gather)
+    serve_lent(
+        alloc, roster, &mut own, links, kept, source, sink, clock, gather,
+    )
 }
 
 /// Serves a connection as `serve_connection` does, by a pass of a desk that threads share. Others may call the desk between
@@ -166,6 +170,6 @@ pub fn serve_shared<
         ensures { Gave L.Link round.entry result }
     { at_once(rt, alloc, round) };
     serve_gathering(
-        rt, alloc, roster, desk, pass, links, source, sink, clock, meters, &gather,
+        rt, alloc, roster, desk, pass, links, &mut None, source, sink, clock, meters, &gather,
     )
 }

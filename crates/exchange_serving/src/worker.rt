@@ -15,6 +15,7 @@ use crate::gathering::Gathers;
 use crate::names::{Day, DayNames};
 use crate::round::{Boards, serve_pair};
 use adx_desk::Desk;
+use adx_http::Conn;
 use adx_links::{Acceptor, Link, Worker};
 use adx_units::OutOfMemory;
 use day_journal::Disk;
@@ -57,6 +58,8 @@ pub(crate) struct DayWorker<
     /// A turn at the posts is due.
     due: &'a AtomicBool,
     lanes: Vec<Lane<L>>,
+    /// Room for messages, from the first connection on.
+    kept: Option<Conn>,
     reader: MeterReader,
     gather: &'a G,
 }
@@ -110,6 +113,7 @@ impl<
             self.board,
             pass,
             &mut self.lanes,
+            &mut self.kept,
             pair,
             self.clock,
             &mut self.reader,
@@ -190,6 +194,7 @@ pub(crate) fn workers_of<
             mail,
             due,
             lanes,
+            kept: None,
             reader,
             gather,
         })?;

@@ -1,4 +1,3 @@
-pub mod Counts
 pub mod Lasts
 pub mod Worked
 pub mod Turns

@@ -1,13 +1,14 @@
 -- What the bytes that a bidder answers say: an HTTP response, its JSON, and the bids of that. The order of the tests, and
 -- that 200 and 204 are the two statuses that say anything of bids, are this project's own.
-use Rattle.std.specs.Prelude.{◌≡◌, ◌≢◌, ◌⊎◌, ℕ, List, Bool, true, false, not, ◌==◌, length, Ok, Err, ⊤}
+use Rattle.std.specs.Prelude.{◌≡◌, ◌≢◌, ◌⊎◌, ℕ, List, Bool, true, false, not, ◌==◌, length, Some, ⊤}
 use Rattle.std.specs.List.{list_any}
 use Rattle.adx_json.specs.Tree.{Tree}
 use Rattle.adx_json.specs.Grammar.{IsJson}
 use Rattle.adx_json.specs.Faults.{IsFault}
 use Rattle.adx_json.specs.declared.fault.JsonFault.{JsonFault}
-use Rattle.rtb_response.specs.Answers.{AnswerView, SeatView, answer_in}
-use Rattle.rtb_response.specs.Seen.{seen_answer}
+use Rattle.rtb_response.specs.Answers.{IsAnswer, answer_fault}
+use Rattle.rtb_response.specs.declared.bid_answer.BidAnswer.{BidAnswer}
+use Rattle.rtb_response.specs.declared.bid_answer.SeatBid.{SeatBid}
 use Rattle.rtb_response.specs.declared.fault.AnswerFault.{AnswerFault}
 use Rattle.http_grammar.specs.declared.fault.HttpFault.{HttpFault}
 use Rattle.httparse.specs.Grammar.{status_code}
@@ -15,33 +16,33 @@ use Rattle.http_connection.specs.Messages.{ResponseRead, IsResponseThen, Refuses
 use Rattle.fan_out.specs.declared.answer.BidderAnswer.{BidderAnswer}
 use Rattle.fan_out.specs.declared.answer.Refusal.{Refusal}
 
--- what a bidder said, without where it lies in memory
+-- what a bidder said
 pub data Said : Type 0 where
-  bids : AnswerView → Said
+  bids : BidAnswer → Said
   no_bid : Said
   refused : Refusal → Said
   link_fault : Said
 
 -- what a bidder's answer says, wherever it lies in memory
 abbrev pub said_by : BidderAnswer → Said
-said_by (BidderAnswer.Bids a) = bids (seen_answer a)
+said_by (BidderAnswer.Bids a) = bids a
 said_by BidderAnswer.NoBid = no_bid
 said_by (BidderAnswer.Refused r) = refused r
 said_by BidderAnswer.LinkFault = link_fault
 
 -- some seat has a bid
-abbrev pub has_bid : AnswerView → Bool
-has_bid a = list_any (λ (s : SeatView). not (length s.bids == 0)) a.seats
+abbrev pub has_bid : BidAnswer → Bool
+has_bid a = list_any (λ (s : SeatBid). not (length s.bids == 0)) a.seats
 
 -- What a body says to the auction with that id: the bids of its answer (RFC 8259; OpenRTB 2.6, section 4.2.1), that there
 -- are none, or why it isn't one.
 abbrev pub SaysBody : List ℕ → List ℕ → Said → Type 0
-SaysBody id body (bids a) = (t : Tree) × IsJson body t × (answer_in id t ≡ Ok a) × (has_bid a ≡ true)
-SaysBody id body no_bid = (t : Tree) × (a : AnswerView) × IsJson body t × (answer_in id t ≡ Ok a) × (has_bid a ≡ false)
+SaysBody id body (bids a) = (t : Tree) × IsJson body t × IsAnswer id t a × (has_bid a ≡ true)
+SaysBody id body no_bid = (t : Tree) × (a : BidAnswer) × IsJson body t × IsAnswer id t a × (has_bid a ≡ false)
 SaysBody id body (refused (Refusal.Http f)) = ⊥
 SaysBody id body (refused (Refusal.Status n)) = ⊥
 SaysBody id body (refused (Refusal.Json f)) = IsFault body f × (f ≢ JsonFault.OutOfMemory)
-SaysBody id body (refused (Refusal.Answer f)) = (t : Tree) × IsJson body t × (answer_in id t ≡ Err f) × (f ≢ AnswerFault.OutOfMemory)
+SaysBody id body (refused (Refusal.Answer f)) = (t : Tree) × IsJson body t × (answer_fault id t ≡ Some f) × (f ≢ AnswerFault.OutOfMemory)
 SaysBody id body link_fault = ⊥
 
 -- what a response with that status and body says (RFC 9110, sections 15.3.1 and 15.3.5)

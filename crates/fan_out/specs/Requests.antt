@@ -2,7 +2,7 @@
 -- own.
 use Rattle.std.specs.Prelude.{ℕ, List, ◌++◌, length, decimal, codes}
 use Rattle.httparse.specs.Ascii.{crlf_bytes}
-use Rattle.adx_http.specs.Replies.{field_line}
+use Rattle.adx_http.specs.Replies.{field_line, version_line}
 use Rattle.deal_floor.specs.declared.place.Place.{Place}
 
 -- the first line of what a bidder is sent
@@ -15,7 +15,7 @@ host_and_port p = p.host ++ codes ":" ++ decimal p.port
 
 -- that the body is a request of OpenRTB
 abbrev pub openrtb_lines : List ℕ
-openrtb_lines = field_line (codes "Content-Type") (codes "application/json") ++ field_line (codes "x-openrtb-version") (codes "2.6")
+openrtb_lines = field_line (codes "Content-Type") (codes "application/json") ++ version_line
 
 -- the end of the head: the connection closes after the answer
 abbrev pub last_lines : List ℕ

@@ -1,7 +1,6 @@
 //! An auction that hears what its bidders answer.
 ghost use Rattle.std.specs.Prelude.{◌≡◌, ◌==◌, IfOk, length, not};
 ghost use Rattle.std.specs.List.{list_any};
-ghost use Rattle.rtb_response.specs.Seen.{seen_answer};
 ghost use Rattle.fan_out.specs.Answers.{SaysBody, has_bid, said_by};
 
 use crate::answer::{BidderAnswer, Refusal};
@@ -27,7 +26,7 @@ fn one_bids(seats: &[SeatBid]) -> bool
 
 /// Whether an answer has a bid.
 fn bids_some(answer: &BidAnswer) -> bool
-    ensures { result ≡ has_bid (seen_answer answer.now) }
+    ensures { result ≡ has_bid answer.now }
 {
     one_bids(answer.seats.as_slice())
 }

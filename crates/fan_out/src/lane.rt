@@ -1,11 +1,12 @@
 //! A lane: a bidder, the link to it, and what it answered.
-ghost use Rattle.std.specs.Prelude.{◌≡◌, Option, Result};
+ghost use Rattle.std.specs.Prelude.{◌≡◌, IfOk, Option, Result};
 ghost use Rattle.adx_units.specs.declared.memory.OutOfMemory.{OutOfMemory};
 ghost use Rattle.fan_out.specs.declared.answer.BidderAnswer.{BidderAnswer};
+ghost use Rattle.fan_out.specs.declared.answer.TheConstants.{ANSWER_LIMIT as answer_limit};
 ghost use Rattle.fan_out.specs.Lanes.{outcome_of, works};
 ghost use Rattle.fan_out.specs.Lasts.{Leaves, answer_of, lane_of};
 
-use crate::answer::{BidderAnswer, Refusal};
+use crate::answer::{ANSWER_LIMIT, BidderAnswer, Refusal};
 use crate::auction::Auction;
 use crate::head::request_of;
 use adx_http::{Conn, HttpFault, exchange};
@@ -25,6 +26,34 @@ pub struct Lane<L> {
     pub conn: Conn,
     /// Where the lane's work leaves its answer; None between calls.
     pub last: Option<Result<BidderAnswer, OutOfMemory>>,
+}
+
+/// A copy of a place.
+fn copy_of(alloc: Global, place: &Place) -> Result<Place, OutOfMemory>
+    ensures { IfOk result (λ p. p ≡ place.now) }
+{
+    Ok(Place {
+        name: place.name.copy(alloc)?,
+        host: place.host.copy(alloc)?,
+        port: place.port,
+        path: place.path.copy(alloc)?,
+    })
+}
+
+impl<L: Drop> Lane<L> {
+    /// The lane to a bidder over a link. It has said nothing yet.
+    pub fn to(alloc: Global, place: &Place, link: L) -> Result<Lane<L>, OutOfMemory>
+        ensures place { IfOk result (λ l. l.place ≡ place.now) }
+        ensures limit { IfOk result (λ l. l.conn.limit ≡ answer_limit) }
+        ensures link { IfOk result (λ l. l.link ≡ link) }
+    {
+        Ok(Lane {
+            place: copy_of(alloc, place)?,
+            link,
+            conn: Conn::new(alloc, ANSWER_LIMIT)?,
+            last: None,
+        })
+    }
 }
 
 /// What is said of a bidder whose answer was heard.

@@ -20,8 +20,5 @@ day_false : (day : List ℕ) (b : Bool) → is_day day ≡ b → (map zeroed day
 day_false day true e h = absurd (h ((bytes_eq-Decides (map zeroed day) (codes "0000-00-00")).0 e))
 day_false day false e h = e
 
-pub not_so_long : (day : List ℕ) → (length day ≡ 10 → ⊥) → is_day day ≡ false
-not_so_long day h = day_false day (is_day day) refl (λ same. h (sym (length-map day zeroed) ∙ ap (λ (t : List ℕ). length t) same))
-
 pub not_shaped_at : (day : List ℕ) (k : ℕ) → k < length day → (zeroed (get_or day k 0) ≡ get_or (codes "0000-00-00") k 0 → ⊥) → is_day day ≡ false
 not_shaped_at day k below h = day_false day (is_day day) refl (λ same. h (sym (get_or-map zeroed day k 0 0 below) ∙ ap (λ (t : List ℕ). get_or t k 0) same))

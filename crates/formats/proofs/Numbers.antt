@@ -38,10 +38,6 @@ all_bytes [] h i = omega arith
 all_bytes (b ∷ l) h zero = ltb-true b 256 (and_parts (is_byte b) (list_all is_byte l) h).0
 all_bytes (b ∷ l) h (suc i) = all_bytes l (and_parts (is_byte b) (list_all is_byte l) h).1 i
 
-pub are_bytes : (l : List ℕ) → ((i : ℕ) → get_or l i 0 < 256) → list_all is_byte l ≡ true
-are_bytes [] h = refl
-are_bytes (b ∷ l) h = and_from (is_byte b) (list_all is_byte l) (lt-ltb b 256 (h 0)) (are_bytes l (λ i. h (suc i)))
-
 pub record IsWide (w : Width) (limit : ℕ) : Type 0 where
   pub len : (n : ℕ) → length (to_le_bytes w n) ≡ byte_len w
   pub back : (bytes : List ℕ) → length bytes ≡ byte_len w → ((i : ℕ) → get_or bytes i 0 < 256) → to_le_bytes w (from_le_bytes w bytes) ≡ bytes

@@ -2,18 +2,11 @@
 use Rattle.std.proofs.Common.{ℕ, List, [], ◌∷◌, inl, inr, ◌≢◌}
 use Rattle.std.proofs.lemmas.List.Elements.{All-nil, All-cons}
 use Rattle.formats.specs.Parts.{IsOneLine}
-use Rattle.formats.proofs.OneLines.{one_line_join, one_line_decimal}
-use Rattle.formats.specs.Formats.{Format, behind, ended_by, nothing, ◌⊗◌, worded}
-use Rattle.formats.specs.Numbers.{whole}
+use Rattle.formats.proofs.OneLines.{one_line_join}
+use Rattle.formats.specs.Formats.{Format, behind, ended_by, ◌⊗◌, worded}
 
 abbrev pub IsPlain : {X : Type 0} → Format X → Type 0
 IsPlain f = (x : _) → f.Fits x → IsOneLine (f.write x)
-
-pub whole-plain : (limit : ℕ) → IsPlain (whole limit)
-whole-plain limit n fits = one_line_decimal n
-
-pub nothing-plain : IsPlain nothing
-nothing-plain x fits = All-nil (λ b. b ≢ 10)
 
 module _ {X : Type 0} (f : Format X) where
   pub behind-plain : (word : List ℕ) → IsOneLine word → IsPlain f → IsPlain (behind word f)

@@ -28,13 +28,6 @@ none_there : (p : ℕ → Bool) (xs : List ℕ) → Stops p xs → prefix_len p 
 none_there p [] h = refl
 none_there p (x ∷ xs) h = rw h refl
 
-all_there : (p : ℕ → Bool) (xs : List ℕ) → list_all p xs ≡ true → prefix_len p xs ≡ length xs
-all_there p [] h = refl
-all_there p (x ∷ xs) h =
-    let both = and_parts (p x) (list_all p xs) h in
-    let rest = all_there p xs both.1 in
-    rw both.0 (omega (arith, rest))
-
 -- a run of one kind before bytes that don't begin so
 pub run_len : (p : ℕ → Bool) (run rest : List ℕ) → list_all p run ≡ true → Stops p rest → prefix_len p (run ++ rest) ≡ length run
 run_len p [] rest h s = none_there p rest s

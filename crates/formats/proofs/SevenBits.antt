@@ -116,16 +116,6 @@ pub spelt_end : (n rest : ℕ) (bytes : List ℕ) → rest < 128 → IsSpelt n b
 unfolding groups_bytes
 spelt_end n rest bytes small s = let one : ltb rest 128 ≡ true = lt-ltb rest 128 small in ap (λ (l : List ℕ). bytes ++ l) (sym (rw one refl)) ∙ s.spelled
 
-pub spelt_few : (n rest : ℕ) (bytes : List ℕ) → IsSpelt n bytes rest → length bytes ≤ 9
-spelt_few n rest bytes s = omega (arith, s.few)
-
-pub spelt_fewer : (n rest : ℕ) (bytes : List ℕ) → 128 ≤ rest → IsSpelt n bytes rest → length bytes < 9
-spelt_fewer n rest bytes large s = by_left s.left s.few s.small
-  where
-    by_left : (left : ℕ) → length bytes + left ≡ 9 → rest < room left → length bytes < 9
-    by_left zero few small = absurd (omega arith)
-    by_left (suc left) few small = omega arith
-
 -- the same after bytes that were there before
 pub record IsSpeltBehind (start : List ℕ) (n : ℕ) (bytes : List ℕ) (rest : ℕ) : Type 0 where
   pub groups : List ℕ
@@ -145,9 +135,3 @@ behind_more start n rest bytes large s = record {
 pub behind_end : (start : List ℕ) (n rest : ℕ) (bytes : List ℕ) → rest < 128 → IsSpeltBehind start n bytes rest → bytes ++ rest ∷ [] ≡ start ++ groups_bytes 10 n
 behind_end start n rest bytes small s =
     ap (λ (l : List ℕ). l ++ rest ∷ []) s.behind ∙ append_assoc start s.groups (rest ∷ []) ∙ ap (λ (l : List ℕ). start ++ l) (spelt_end n rest s.groups small s.spelt)
-
-pub behind_few : (start : List ℕ) (n rest : ℕ) (bytes : List ℕ) → IsSpeltBehind start n bytes rest → length bytes ≤ length start + 9
-behind_few start n rest bytes s = omega (arith, spelt_few n rest s.groups s.spelt, ap length s.behind, length-append start s.groups)
-
-pub behind_fewer : (start : List ℕ) (n rest : ℕ) (bytes : List ℕ) → 128 ≤ rest → IsSpeltBehind start n bytes rest → length bytes < length start + 9
-behind_fewer start n rest bytes large s = omega (arith, spelt_fewer n rest s.groups large s.spelt, ap length s.behind, length-append start s.groups)

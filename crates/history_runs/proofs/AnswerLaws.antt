@@ -12,8 +12,8 @@ use Rattle.deal_floor.specs.declared.campaign.Campaign.{Campaign}
 use Rattle.script_lines.specs.Meanings.{calls, refused}
 use Rattle.script_lines.specs.declared.refusal.Refusal.{Refusal}
 use Rattle.history_runs.specs.Answering.{AnswersCall, AnswersTo, LeavesUnwritten}
-use Rattle.desk_calls.specs.Answering.{LeavesCall}
-use Rattle.desk_calls.specs.Meanings.{Told, call_answer}
+use Rattle.adx_desk.specs.Answering.{LeavesCall}
+use Rattle.adx_desk.specs.Meanings.{Told, call_answer}
 use Rattle.history_runs.specs.Output.{writing}
 use Rattle.script_lines.specs.Refusals.{refusal_line}
 use Rattle.history_runs.specs.Script.{Means, terms_by, cut_line}

@@ -11,8 +11,8 @@ use Rattle.day_rules.specs.Replies.{Call, reply, with_entry}
 use Rattle.day_rules.specs.Terms.{Terms}
 use Rattle.deal_floor.specs.declared.campaign.Campaign.{Campaign}
 use Rattle.history_runs.specs.Answering.{AnswersCall}
-use Rattle.desk_calls.specs.Answering.{ServesCall}
-use Rattle.desk_calls.specs.Meanings.{call_answer}
+use Rattle.adx_desk.specs.Answering.{ServesCall}
+use Rattle.adx_desk.specs.Meanings.{call_answer}
 use Rattle.history_runs.specs.Output.{writing}
 
 -- the line of a call that was done, by the ask that was told with its answer

@@ -9,3 +9,4 @@ pub mod AnswerLaws
 pub mod AnsweredCalls
 pub mod Rosters
 pub mod PutLines
+pub mod RostersRuns

@@ -5,10 +5,10 @@ use Rattle.day_rules.specs.Replies.{Call}
 use Rattle.deal_floor.specs.declared.campaign.Campaign.{Campaign}
 use Rattle.deal_floor.specs.declared.roster.Roster.{Roster}
 use Rattle.script_lines.specs.Meanings.{calls}
-use Rattle.desk_calls.specs.Meanings.{IsLine, Told, call_answer}
+use Rattle.adx_desk.specs.Meanings.{IsLine, Told, call_answer}
 use Rattle.history_runs.specs.Output.{writing}
 use Rattle.history_runs.specs.Script.{Means, terms_by}
-use Rattle.desk_calls.specs.Answering.{ServesCall, ServesLine}
+use Rattle.adx_desk.specs.Answering.{ServesCall, ServesLine}
 
 -- a call of the desk was answered, and its line written behind what was there
 pub record AnswersCall {D : Type 0} (faults : D → ℕ) (may_leave : D → List ℕ → Type 0) (moment : D → ℕ)

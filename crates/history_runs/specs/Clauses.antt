@@ -8,7 +8,7 @@ use Rattle.adx_io.specs.declared.line_buffer.LineBuffer.{LineBuffer}
 use Rattle.day_rules.specs.Replies.{Call, notice}
 use Rattle.deal_floor.specs.declared.campaign.Campaign.{Campaign}
 use Rattle.deal_floor.specs.declared.roster.Roster.{Roster}
-use Rattle.desk_calls.specs.Answering.{LeavesCall}
+use Rattle.adx_desk.specs.Answering.{LeavesCall}
 use Rattle.script_lines.specs.declared.notice.Notice.{Notice}
 use Rattle.history_runs.specs.Answering.{AnswersCall, AnswersTo, LeavesUnwritten}
 use Rattle.command_runs.specs.Limits.{line_limit}

@@ -10,7 +10,7 @@ use Rattle.day_rules.specs.declared.answer.Answer.{Answer}
 use Rattle.day_rules.specs.declared.entry.Entry.{Entry}
 use Rattle.deal_floor.specs.declared.campaign.Campaign.{Campaign}
 use Rattle.script_lines.specs.Refusals.{refusal_line}
-use Rattle.desk_calls.specs.Meanings.{Writing}
+use Rattle.adx_desk.specs.Meanings.{Writing}
 
 -- the line of an answer, from the history that its call left: by the ask that stands there at the place that it names
 abbrev pub told_line : List Campaign → List Entry → Answer → List ℕ

@@ -15,12 +15,12 @@ ghost use Rattle.history_runs.specs.Runs.{RunsHistory};
 ghost use Rattle.script_lines.specs.Refusals.{roster_refused_line};
 ghost use Rattle.script_lines.specs.declared.refusal.RosterRefusal.TheVariants.{Long};
 
+use crate::on_roster::{OnRoster, run_on_roster};
 use crate::opening::tell_unopened;
-use crate::roster::{push_roster_lack, roster_of};
+use crate::roster::push_roster_lack;
 use adx_desk::Desk;
 use adx_io::{Rest, Sink, Source, Stop, Talk};
-use adx_units::OutOfMemory;
-use command_runs::{Led, NoLine, Outcome, put_end, run_led, skip_rest};
+use command_runs::{NoLine, Outcome, put_end, skip_rest};
 use day_journal::Disk;
 use day_rules::Entry;
 use deal_floor::Roster;
@@ -141,51 +141,30 @@ fn print_rest<P: Print, S: Source, K: Sink, D: Disk>(
     }
 }
 
-/// A command that prints something of a history, on a disk.
+/// A command that prints something of a history.
 #[derive(Drop)]
-struct Printing<'a, P: Print, D: Disk> {
+struct Printing<'a, P> {
     print: &'a P,
-    disk: &'a mut D,
 }
 
-impl<P: Print, D: Disk> Led for Printing<'_, P, D> {
-    ghost use Rattle.std.specs.Prelude.{◌≡◌, ◌∷◌, []};
-    ghost use Rattle.adx_io.specs.Streams.{WhereTold};
+impl<P: Print, D: Disk> OnRoster<D> for Printing<'_, P> {
     ghost use Rattle.command_runs.specs.Documents.{document};
     ghost use Rattle.history_runs.specs.Histories.{LeavesDay, Opening, tells};
-    ghost use Rattle.history_runs.specs.Rosters.{roster_heads};
-
-    type Head = Roster;
-
-    ghost heads = { roster_heads };
 
     ghost course = { Opening };
 
     ghost meaning = { λ r allowed o. document allowed (tells P.prints r o) };
 
-    ghost leaves = { λ old new r o result. LeavesDay D.Disk r o old.disk.now new.disk.now result × D.lasts old.disk.now new.disk.now };
+    ghost leaves = { λ _ r o old new result. LeavesDay D.Disk r o old new result };
 
-    ghost place = { λ s. s.disk.ghost_name ∷ [] };
-
-    fn head_of(
+    fn run_day<S: Source, K: Sink>(
+        &self,
         alloc: Global,
-        line: &[u8],
-        out: &mut String,
-    ) -> Result<Option<Roster>, OutOfMemory> {
-        roster_of(alloc, line, out)
-    }
-
-    fn push_lack(alloc: Global, out: &mut String, why: NoLine) -> Result<(), OutOfMemory> {
-        push_roster_lack(alloc, out, why)
-    }
-
-    fn run_rest<S: Source, K: Sink>(
-        &mut self,
-        alloc: Global,
-        head: Roster,
+        roster: &Roster,
+        disk: &mut D,
         talk: &mut Talk<'_, S, K>,
     ) -> Result<Outcome, Stop> {
-        print_rest(alloc, self.print, &head, self.disk, talk)
+        print_rest(alloc, self.print, roster, disk, talk)
     }
 }
 
@@ -210,6 +189,5 @@ pub fn run_history<P: Print, S: Source, K: Sink, D: Disk>(
     ensures runs { RunsHistory S.Source K.Sink D.Disk P.prints source.old source.new sink.old sink.new disk.old disk.new result }
     ensures lasts { D.lasts disk.old disk.new }
 {
-    let mut printing = Printing { print, disk };
-    run_led(alloc, &mut printing, source, sink)
+    run_on_roster(alloc, &Printing { print }, source, sink, disk)
 }

@@ -1,5 +1,5 @@
 -- A chunk's line, its data and what is wrong with them.
-use Rattle.std.proofs.Common.{◌≡◌, ℕ, ◌+◌, ◌≤◌, List, [], ◌∷◌, ◌++◌, length, take, drop, true, false, Option, refl, sym, ap, subst, ◌∙◌, append_assoc, append-nil, arith, length-append, length-drop, inl, inr}
+use Rattle.std.proofs.Common.{◌≡◌, ℕ, ◌+◌, ◌≤◌, List, [], ◌∷◌, ◌++◌, length, take, drop, true, false, Option, refl, sym, ap, ◌∙◌, append_assoc, append-nil, arith, length-append, length-drop, inl, inr}
 use Rattle.std.specs.Str.{bytes_eq}
 use Rattle.std.proofs.lemmas.Slice.Eq.{bytes_eq-Decides}
 use Rattle.std.proofs.lemmas.List.{length-take-le, take_at, nil_from_length}
@@ -8,12 +8,12 @@ use Rattle.httparse.specs.Ascii.{crlf_bytes}
 use Rattle.httparse.specs.Grammar.{ChunkLine, print_chunk_line}
 use Rattle.httparse.specs.Spans.{IsChunkLineAt}
 use Rattle.httparse.proofs.ChunkLemmas.{chunk_line_unique}
-use Rattle.http_connection.specs.BufferState.{BufferState, Takes, IsAtEnd}
-use Rattle.http_connection.specs.Lines.{ended, EndsAt, IsTooLong, IsOpen}
+use Rattle.http_connection.specs.BufferState.{BufferState, Takes}
+use Rattle.http_connection.specs.Lines.{ended, EndsAt, IsTooLong}
 use Rattle.http_connection.specs.declared.head.TheConstants.{HEAD_LIMIT}
-use Rattle.http_connection.specs.Chunks.{BeginsChunk, IsBadLine, IsOpenLine, EndsBadly}
+use Rattle.http_connection.specs.Chunks.{BeginsChunk, IsBadLine, EndsBadly}
 use Rattle.http_connection.specs.Steps.{coming, IsLineOf, IsNoLine, ends_behind}
-use Rattle.http_connection.proofs.Told.{told_map, told_end, flow}
+use Rattle.http_connection.proofs.Told.{told_map, flow}
 use Rattle.http_connection.proofs.BodyParts.{keeping, parts_of}
 
 -- so many bytes were passed over
@@ -77,14 +77,6 @@ pub line_long : (before mid : BufferState) (old new : Option Tape) → Takes bef
 line_long before mid old new t l =
     told_map old new (λ o n. coming before o ≡ coming mid n) (λ o n. IsBadLine (coming before o))
     (λ o n f. inr (l.line, l.rest ++ n.left, l.is_line, f ∙ ap (λ p. p ++ n.left) l.behind ∙ append_assoc l.line l.rest n.left, (let g = l.long in omega (arith, g))))
-    (flow before mid old new t)
-
-pub line_open : (before mid : BufferState) (old new : Option Tape) → Takes before mid old new → IsOpen 0 HEAD_LIMIT mid.pending → IsAtEnd new → WhereTold old new (λ o n. IsOpenLine (coming before o))
-line_open before mid old new t p end =
-    told_end old new (λ o n. coming before o ≡ coming mid n) (λ o n. IsOpenLine (coming before o)) end
-    (λ o n none f.
-    let all : coming before o ≡ mid.pending = f ∙ ap (λ l. mid.pending ++ l) none ∙ append-nil mid.pending in
-    subst IsOpenLine (sym all) (p.is_line, p.short))
     (flow before mid old new t)
 
 -- two bytes are at the front

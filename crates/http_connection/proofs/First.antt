@@ -1,5 +1,5 @@
 -- A head that the parser found at the front of the bytes is the one that ends there.
-use Rattle.std.proofs.Common.{◌≡◌, Bool, ℕ, zero, suc, ◌+◌, ◌-◌, ◌≤◌, List, [], ◌∷◌, length, take, drop, Option, Ok, Err, refl, sym, ap, subst, ◌∙◌, append-nil, arith, inr}
+use Rattle.std.proofs.Common.{◌≡◌, ℕ, zero, suc, ◌+◌, ◌-◌, ◌≤◌, List, [], ◌∷◌, length, take, drop, Option, Ok, Err, refl, sym, ap, subst, ◌∙◌, append-nil, arith, inr}
 use Rattle.std.proofs.lemmas.List.{drop-take}
 use Rattle.adx_io.specs.Streams.{Tape}
 use Rattle.httparse.specs.Spans.{span_bytes}
@@ -8,12 +8,10 @@ use Rattle.httparse.specs.Grammar.{ReadsRequest, print_request, RequestHead}
 use Rattle.http_connection.specs.BufferState.{BufferState}
 use Rattle.http_connection.specs.declared.head.TheConstants.{HEAD_LIMIT}
 use Rattle.http_grammar.specs.Requests as grammar
-use Rattle.http_grammar.specs.Judged.{FailsRequest}
 use Rattle.http_grammar.specs.declared.fault.HttpFault.{HttpFault}
 use Rattle.http_grammar.specs.declared.parts.FirstRequest.{FirstRequest}
 use Rattle.http_grammar.specs.declared.parts.RequestParts.{RequestParts}
 use Rattle.http_connection.specs.declared.chunks.TheConstants.{LINE_COUNT_LIMIT}
-use Rattle.http_connection.specs.Steps.{ReadsBy}
 use Rattle.http_connection.specs.Messages.{RefusesRequest, IsUnfinishedRequest}
 use Rattle.http_connection.specs.Found.{HasHead, HasRequestHead, FaultGives}
 use Rattle.http_connection.proofs.Printed.{request_ends, request_front}
@@ -79,19 +77,3 @@ pub first_refused : (limit : ℕ) (start : BufferState) (old : Option Tape) (fir
     → first.parts ≡ Err fault → FaultGives RefusesRequest IsUnfinishedRequest limit start old old fault
 first_refused limit start old first fault b least is =
     head_refused limit first.len start old fault (first_has limit start.pending first b least) (first_fails limit start.pending first fault b is)
-
--- a test that fails is no fault of the source
-fails_passes : (T : Type 0) (limit minor : ℕ) (post : Bool) (fields : List (List ℕ × List ℕ)) (fault : HttpFault) (faults : ℕ) → FailsRequest limit minor post fields fault → ReadsBy {T = T} faults faults (Err fault)
-fails_passes T limit minor post fields HttpFault.ReadFault faults fails = absurd fails
-fails_passes T limit minor post fields HttpFault.BadHead faults fails = refl
-fails_passes T limit minor post fields HttpFault.HeadTooLong faults fails = refl
-fails_passes T limit minor post fields HttpFault.LengthRequired faults fails = refl
-fails_passes T limit minor post fields HttpFault.BodyTooLong faults fails = refl
-fails_passes T limit minor post fields HttpFault.BadChunk faults fails = refl
-fails_passes T limit minor post fields HttpFault.Cut faults fails = refl
-fails_passes T limit minor post fields HttpFault.Coding faults fails = refl
-
-pub first_passes : (T : Type 0) (room limit faults : ℕ) (bytes : List ℕ) (first : FirstRequest) (fault : HttpFault) → grammar.BeginsWithRequest room limit bytes first → first.parts ≡ Err fault → ReadsBy {T = T} faults faults (Err fault)
-first_passes T room limit faults bytes first fault b is =
-    let h = grammar.BeginsWithRequest.h b in
-    fails_passes T limit h.minor (grammar.is_post h) (grammar.pairs h) fault faults (subst (grammar.Judges limit bytes h) is (grammar.BeginsWithRequest.judges b))

@@ -1,24 +1,14 @@
 -- What was found, as the answer of a call.
-use Rattle.std.proofs.Common.{◌≡◌, ℕ, List, [], ◌++◌, true, false, subst, take, drop, Option, Some, Ok, Err, refl, sym, ◌∙◌}
+use Rattle.std.proofs.Common.{◌≡◌, ℕ, List, [], ◌++◌, true, false, subst, Option, Err, refl, sym}
 use Rattle.adx_io.specs.Streams.{Tape, WhereTold}
-use Rattle.httparse.specs.Spans.{span_bytes}
 use Rattle.http_connection.specs.BufferState.{BufferState, Passes}
 use Rattle.http_grammar.specs.declared.fault.HttpFault.{HttpFault}
 use Rattle.http_connection.specs.Steps.{coming, Advances}
-use Rattle.http_connection.specs.Messages.{Request, IsRequestThen, RefusesRequest, IsUnfinishedRequest, ResponseRead, IsResponseThen, RefusesResponse, IsUnfinishedResponse}
+use Rattle.http_connection.specs.Messages.{RefusesRequest, IsUnfinishedRequest, RefusesResponse, IsUnfinishedResponse}
 use Rattle.http_connection.specs.State.{ConnState}
 use Rattle.http_connection.specs.Answers.{GivesMessage, GivesResponse, AnswersMessage, AnswersResponse}
-use Rattle.http_connection.specs.Found.{FoundShows, StatusShows, FaultGives, RequestGives, ResponseGives}
-use Rattle.http_connection.specs.declared.conn.Found.{Found}
-use Rattle.http_connection.specs.declared.conn.Message.{Message}
-use Rattle.http_connection.specs.declared.conn.Response.{Response}
+use Rattle.http_connection.specs.Found.{FaultGives}
 use Rattle.http_connection.proofs.Told.{told_map}
-
-pub message_given : (limit : ℕ) (start now : BufferState) (old new : Option Tape) (f : Found) (m : Message) → m.verb ≡ f.verb → m.target.now ≡ span_bytes (take f.head now.kept) f.target → m.body.now ≡ drop f.head now.kept → m.keep ≡ f.keep
-    → RequestGives limit start now old new (Ok (Some f)) → WhereTold old new (λ o n. GivesMessage limit (coming start o) (Ok (Some m)) (coming now n))
-message_given limit start now old new f m verb target body keep g =
-    told_map old new (λ o n. (r : Request) × IsRequestThen limit (coming start o) r (coming now n) × FoundShows f now.kept r) (λ o n. GivesMessage limit (coming start o) (Ok (Some m)) (coming now n))
-    (λ o n r. (r.0, r.1, record { verb = verb ∙ FoundShows.verb r.2; target = target ∙ FoundShows.target r.2; body = body ∙ FoundShows.body r.2; keep = keep ∙ FoundShows.keep r.2 })) g.1
 
 -- of all bytes that come a source that fails says nothing
 nothing : (old new : Option Tape) (P : Tape → Tape → Type 0) → Advances old new → ((o n : Tape) → P o n) → WhereTold old new P
@@ -34,12 +24,6 @@ refusal_given limit start now old new HttpFault.BodyTooLong a w = w
 refusal_given limit start now old new HttpFault.BadChunk a w = w
 refusal_given limit start now old new HttpFault.Cut a w = w
 refusal_given limit start now old new HttpFault.Coding a w = w
-
-pub response_given : (limit : ℕ) (start now : BufferState) (old new : Option Tape) (status head : ℕ) (m : Response) → m.status ≡ status → m.body.now ≡ drop head now.kept
-    → ResponseGives limit start now old new (Ok (status, head)) → WhereTold old new (λ o n. GivesResponse limit (coming start o) (Ok m) (coming now n))
-response_given limit start now old new status head m same body g =
-    told_map old new (λ o n. (r : ResponseRead) × IsResponseThen limit (coming start o) r (coming now n) × StatusShows status head now.kept r) (λ o n. GivesResponse limit (coming start o) (Ok m) (coming now n))
-    (λ o n r. (r.0, r.1, record { status = same ∙ StatusShows.status_is r.2; body = body ∙ StatusShows.body r.2 })) g.1
 
 pub response_refusal_given : (limit : ℕ) (start now : BufferState) (old new : Option Tape) (fault : HttpFault) → Advances old new → FaultGives RefusesResponse IsUnfinishedResponse limit start old new fault
     → WhereTold old new (λ o n. GivesResponse limit (coming start o) (Err fault) (coming now n))

@@ -124,9 +124,6 @@ pub record IsScanned (at : ℕ) (w : Walk) (bytes : List ℕ) : Type 0 where
   pub at_is : at ≡ length (flat_map ended lines)
   pub walk_is : walk Walk.Blank lines ≡ w
 
-pub scanned_none : (bytes : List ℕ) → IsScanned 0 Walk.Blank bytes
-scanned_none bytes = record { lines = []; are_lines = All-nil IsLine; bytes_are = refl; at_is = refl; walk_is = refl }
-
 pub scanned_within : (at : ℕ) (w : Walk) (bytes : List ℕ) → IsScanned at w bytes → at ≤ length bytes
 scanned_within at w bytes s =
     let e = ap length s.bytes_are in let k = s.at_is in omega (arith, e, k, length-append (flat_map ended s.lines) (drop at bytes))

@@ -195,7 +195,3 @@ reads_fault T U a b c HttpFault.BodyTooLong e r = r ∙ e
 reads_fault T U a b c HttpFault.BadChunk e r = r ∙ e
 reads_fault T U a b c HttpFault.Cut e r = r ∙ e
 reads_fault T U a b c HttpFault.Coding e r = r ∙ e
-
-pub reads_result : {T : Type 0} (a b c : ℕ) (r : Result T HttpFault) → b ≡ a → ReadsBy b c r → ReadsBy a c r
-reads_result a b c (Ok v) e r = r ∙ e
-reads_result {T = T} a b c (Err fault) e r = reads_fault T T a b c fault e r

@@ -1,8 +1,8 @@
 -- Parts of lists, cut by `drop` and `take`.
-use Rattle.std.proofs.Common.{◌≡◌, ℕ, ◌+◌, ◌-◌, ◌≤◌, List, [], ◌++◌, length, take, drop, sym, ap, ◌∙◌, arith}
+use Rattle.std.proofs.Common.{◌≡◌, ℕ, ◌+◌, ◌-◌, ◌≤◌, List, ◌++◌, length, take, drop, sym, ap, ◌∙◌, arith}
 use Rattle.std.specs.List.{copy_within}
 use Rattle.std.proofs.lemmas.List.Edits.{take-paste, drop-paste}
-use Rattle.std.proofs.lemmas.List.{take-take, drop-drop, drop-append-le, take-append-drop, length-take, length-drop, length-take-le, drop-take, drop_at, drop_all}
+use Rattle.std.proofs.lemmas.List.{take-take, drop-drop, drop-append-le, take-append-drop, length-drop, length-take-le, drop-take, drop_at}
 
 -- a part of a front that two lists share is shared
 pub part_below : {X : Type 0} (xs ys : List X) (i j n : ℕ) → j ≤ n → take n xs ≡ take n ys → drop i (take j xs) ≡ drop i (take j ys)
@@ -33,12 +33,6 @@ part_take xs i n k le = sym (part_is (take k xs) i n) ∙ ap (drop i) (take-take
 -- what comes after them
 pub part_drop : {X : Type 0} (xs : List X) (i n k : ℕ) → drop (i + n) (take k xs) ≡ drop n (drop i (take k xs))
 part_drop xs i n k = sym (drop-drop n i (take k xs))
-
-pub part_length : {X : Type 0} (xs : List X) (i j : ℕ) → j ≤ length xs → length (drop i (take j xs)) ≡ j - i
-part_length xs i j le = let a = length-drop i (take j xs) in let b : length (take j xs) ≡ j = length-take-le j xs le in omega (arith, a, b)
-
-pub part_none : {X : Type 0} (xs : List X) (i : ℕ) → drop i (take i xs) ≡ []
-part_none xs i = drop_all i (take i xs) (omega (arith, length-take i xs))
 
 -- what a copy to a place before moves
 pub copied : {X : Type 0} (xs ys : List X) (i j d : ℕ) → i ≤ j → j ≤ length xs → d ≤ i → ys ≡ copy_within xs i j d → drop d (take (d + (j - i)) ys) ≡ drop i (take j xs)

@@ -18,7 +18,7 @@ use Rattle.http_connection.specs.Found.{HasHead, HeadGives, StatusShows, FaultGi
 use Rattle.http_connection.proofs.Told.{told_map, told_then, told_same, flow, given}
 use Rattle.http_connection.proofs.BodyParts.{keeping}
 use Rattle.http_connection.proofs.Counts.{response_fields}
-use Rattle.http_connection.proofs.Heads.{begins, few_lines, kept_parts, refused, fault_carried, never_head, cut_head, HasManyLines, many_lines, nothing_comes}
+use Rattle.http_connection.proofs.Heads.{begins, few_lines, kept_parts, refused, fault_carried, never_head, cut_head, HasManyLines, many_lines}
 
 -- a length within the limit is one that a body may have
 pub response_fits : (limit status : ℕ) (fields : List (List ℕ × List ℕ)) (framing : Option Framing) → IsSoundResponse limit status fields framing → FitsBody limit (body_of_response framing)
@@ -155,12 +155,6 @@ body_refused limit end start kept now old new HttpFault.BadHead parts h says is 
 body_refused limit end start kept now old new HttpFault.HeadTooLong parts h says is w = absurd w
 body_refused limit end start kept now old new HttpFault.LengthRequired parts h says is w = absurd w
 body_refused limit end start kept now old new HttpFault.Coding parts h says is w = absurd w
-
--- nothing came
-pub nothing_came : (limit : ℕ) (start mid : BufferState) (old new : Option Tape) → Takes start mid old new → mid.pending ≡ [] → IsAtEnd new → FaultGives RefusesResponse IsUnfinishedResponse limit start old new HttpFault.Cut
-nothing_came limit start mid old new t none end =
-    told_map old new (λ o n. (coming start o ≡ []) × (coming mid n ≡ [])) (λ o n. RefusesResponse limit (coming start o) HttpFault.Cut) (λ o n e. inr (inr (e.0, refl)))
-    (nothing_comes start mid old new t none end)
 
 -- what was found of all bytes that come is found where some of them were still to be taken
 pub response_carried : (limit : ℕ) (start mid now : BufferState) (old m new : Option Tape) (result : Result (ℕ × ℕ) HttpFault) → Takes start mid old m

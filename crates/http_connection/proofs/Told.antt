@@ -1,5 +1,5 @@
 -- Relations of what a source reported, one step after another.
-use Rattle.std.proofs.Common.{◌≡◌, ℕ, List, [], ◌++◌, Option, Some, None, refl, sym, ap, subst, ◌∙◌, append_assoc, append-nil}
+use Rattle.std.proofs.Common.{◌≡◌, ℕ, List, [], ◌++◌, Option, Some, None, refl, sym, ap, subst, ◌∙◌, append_assoc}
 use Rattle.std.proofs.lemmas.List.{append_cancel_right}
 use Rattle.adx_io.specs.Streams.{Tape, WhereTold}
 use Rattle.http_connection.specs.BufferState.{BufferState, Passes, Takes, IsAtEnd}
@@ -46,9 +46,6 @@ pub advances_both : (a b c : Option Tape) → Advances a b → Advances b c → 
 advances_both a b c v w =
     told_then a b c (λ o n. (piece : List ℕ) × Passes piece o n) (λ o n. (piece : List ℕ) × Passes piece o n) (λ o n. (piece : List ℕ) × Passes piece o n)
     (λ o m n p q. (p.0 ++ q.0, passes_both p.0 q.0 o m n p.1 q.1)) v w
-
-pub advances_none : (a : Option Tape) → Advances a a
-advances_none a = told_same a (λ o n. (piece : List ℕ) × Passes piece o n) (λ t. ([], record { taken = sym (append-nil t.taken); left = refl }))
 
 -- what holds of the pending bytes holds of those that were pending before with those that were given
 pub given : (before mid : BufferState) (old new : Option Tape) (P : List ℕ → Type 0) → Takes before mid old new → P mid.pending → HasGiven before old new P

@@ -1,5 +1,5 @@
 //! A connection: messages read one after another from a source.
-ghost use Rattle.std.specs.Prelude.{◌≡◌, ◌≤◌, ◌<◌, ◌+◌, ◌*◌, ◌-◌, ℕ, List, [], None, Ok, Err, length, take, drop, IfOk, true, false};
+ghost use Rattle.std.specs.Prelude.{◌≡◌, ◌≤◌, ◌<◌, ◌+◌, ◌*◌, ◌-◌, ℕ, List, [], None, Ok, Err, length, take, drop, IfOk, MatchBool, true, false};
 ghost use Rattle.std.specs.Borrow.{sem};
 ghost use Rattle.std.specs.Io.BufRead.{Rests};
 ghost use Rattle.http_connection.specs.Steps.{Advances, ReadsBy};
@@ -123,6 +123,18 @@ impl Conn {
     {
         self.buffer.clear();
         self.failed = false;
+    }
+
+    /// Drops the bytes held and an earlier fault, and says true, where bodies are at most `body_limit` bytes; else it
+    /// changes nothing and says false.
+    pub fn clear_for(&mut self, body_limit: u32) -> bool
+        ensures { MatchBool result (self.new ≡ record { held = []; failed = false; limit = body_limit }) (self.new ≡ self.old) }
+    {
+        if self.limit != body_limit {
+            return false;
+        }
+        self.clear();
+        true
     }
 
     /// Whether the bytes that were taken and not handed out begin with a whole request; false after

@@ -89,17 +89,6 @@ finds ahead None new P Rest after f a w = w
 finds ahead (Some o) None P Rest after f a w = w
 finds ahead (Some o) (Some n) P Rest after f a w = (a.0, Passes.left a.1, f (ahead ++ o.left) (after n) w)
 
--- the source ended between messages
-pub closed_step : {S : Type 0} (answers : Answering S) (gives_up : GivingUp S) (c c_now : ConnState) (tape tape_now : Option Tape) (held : Option (List ℕ)) (s : S)
-    → c.failed ≡ false → AnswersMessage c c_now tape tape_now (Ok None)
-    → StepGives answers gives_up c.limit c.held c_now.held tape tape_now held held s s (Some ConnEnd.Closed)
-closed_step answers gives_up c c_now tape tape_now held s sound a =
-    inl (
-      refl,
-      refl,
-      finds c.held tape tape_now (λ bytes rest. (bytes ≡ []) × (rest ≡ [])) (λ rest. rest ≡ []) (λ n. c_now.held ++ n.left) (λ bytes rest h. h.0) (AnswersMessage.advances a) (AnswersMessage.told a sound),
-    )
-
 -- a fault that isn't the source's is one of all bytes
 refused_bytes : (limit : ℕ) (fault : HttpFault) (bytes rest : List ℕ) → GivesMessage limit bytes (Err fault) rest → (fault ≡ HttpFault.ReadFault → ⊥) → RefusesRequest limit bytes fault
 refused_bytes limit HttpFault.ReadFault bytes rest g other = absurd (other refl)
@@ -145,12 +134,6 @@ pub served_by : {S : Type 0} (answers : Answering S) (gives_up : GivingUp S) (c 
     → StepGives answers gives_up c.limit c.held c_now.held tape tape_now held held_now s now end
 served_by answers gives_up c c_now tape tape_now held held_now s now result m end is sound a ends =
     served_step answers gives_up c c_now tape tape_now held held_now s now m end sound (subst (λ (r : Result (Option Message) HttpFault). AnswersMessage c c_now tape tape_now r) is a) ends
-
-pub closed_by : {S : Type 0} (answers : Answering S) (gives_up : GivingUp S) (c c_now : ConnState) (tape tape_now : Option Tape) (held : Option (List ℕ)) (s : S) (result : Result (Option Message) HttpFault)
-    → result ≡ Ok None → c.failed ≡ false → AnswersMessage c c_now tape tape_now result
-    → StepGives answers gives_up c.limit c.held c_now.held tape tape_now held held s s (Some ConnEnd.Closed)
-closed_by answers gives_up c c_now tape tape_now held s result is sound a =
-    closed_step answers gives_up c c_now tape tape_now held s sound (subst (λ (r : Result (Option Message) HttpFault). AnswersMessage c c_now tape tape_now r) is a)
 
 pub fault_by : {S : Type 0} (answers : Answering S) (gives_up : GivingUp S) (c c_now : ConnState) (tape tape_now : Option Tape) (held held_now : Option (List ℕ)) (s : S) (result : Result (Option Message) HttpFault) (fault : HttpFault) (end : ConnEnd)
     → result ≡ Err fault → c.failed ≡ false → AnswersMessage c c_now tape tape_now result → FaultEnds held held_now fault end

@@ -1,10 +1,9 @@
 //! Bidders that answer well and badly, asked at the same time and one after the other.
 
-use adx_http::Conn;
 use adx_links::{Link, MemoryLink, Planned};
 use adx_units::{Id, OutOfMemory, Text};
 use deal_floor::Place;
-use fan_out::{ANSWER_LIMIT, BidderAnswer, Lane, gather, gather_in_turn};
+use fan_out::{BidderAnswer, Lane, gather, gather_in_turn};
 use std::alloc::Global;
 use std::fmt::Write;
 use std::marker::{Send, Sync};
@@ -83,13 +82,7 @@ fn place(alloc: Global) -> Result<Place, OutOfMemory> {
 
 /// A lane to that bidder.
 pub(crate) fn lane<L: Drop>(alloc: Global, link: L) -> Result<Lane<L>, OutOfMemory> {
-    let conn = Conn::new(alloc, ANSWER_LIMIT)?;
-    Ok(Lane {
-        place: place(alloc)?,
-        link,
-        conn,
-        last: None,
-    })
+    Lane::to(alloc, &place(alloc)?, link)
 }
 
 /// A link whose bidder answers so twice.

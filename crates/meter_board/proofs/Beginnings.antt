@@ -8,11 +8,6 @@ use Rattle.day_rules.specs.declared.step.MeterStep.{MeterStep}
 use Rattle.day_rules.specs.declared.step.StepKind.{StepKind}
 use Rattle.day_rules.specs.Steps.{after, after_kind, no_meters, meters_of}
 
--- each list begins with itself
-pub prefix_self : {A : Type 0} (xs : List A) → IsPrefix xs xs
-prefix_self [] = ([], refl)
-prefix_self (x ∷ xs) = let r = prefix_self xs in (r.0, ap (λ ys. x ∷ ys) r.1)
-
 -- of two beginnings of one list the shorter begins the longer
 pub prefix_shorter : {A : Type 0} (xs ys zs : List A) → IsPrefix xs zs → IsPrefix ys zs → length xs ≤ length ys → IsPrefix xs ys
 prefix_shorter [] ys zs p q le = (ys, refl)

@@ -121,15 +121,8 @@ gone_rows : (x y won : Bool) (b : Bid) (w : Award) → row_by_urls x y b (with_s
 gone_rows x y true b w = refl
 gone_rows x y false b w = refl
 
-gone_late : (x y won : Bool) (b : Bid) (w : Award) → row_by_urls x y b (with_state w won (Some End.Expired)) ≡ None
-gone_late x y true b w = refl
-gone_late x y false b w = refl
-
 pub lost_row : (b : Bid) (w : Award) → row_of (b, record w { end = Some End.Lost }) ≡ None
 lost_row b w = gone_rows (has_end_url b) (has_win_url b) w.won b w
-
-pub late_row : (b : Bid) (w : Award) → row_of (b, record w { end = Some End.Expired }) ≡ None
-late_row b w = gone_late (has_end_url b) (has_win_url b) w.won b w
 
 -- a moment: t says that the deadline is before it
 due_rows : (x y won t : Bool) (b : Bid) (w : Award) (end : Option End) → cond (is_open end && stays_by x y (with_state w won end) && t) None (row_by_urls x y b (with_state w won end)) ≡ row_by_urls x y b (cond (is_open end && t) (expired_award (with_state w won end)) (with_state w won end))

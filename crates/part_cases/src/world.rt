@@ -2,7 +2,8 @@
 //!
 //! The text is a roster of one bidder, a price line and the steps, with ` ; ` between them: `ask NOW REQUEST`, `win N`, `bill N`
 //! and `loss N` of an award, `tick NOW`, `budget CAMPAIGN CHANGE UNITS`, `pump FATES` with a letter for each message (`H` held,
-//! `M` without its reply, `T` through), `again N` of a message, `restart` of the exchange and `wake` of the bidder.
+//! `M` without its reply, `T` through), `again N` of a message, `ack N` of a reply on its way, `restart` of the exchange and
+//! `wake` of the bidder.
 ghost use Rattle.std.specs.Prelude.{◌≡◌, ◌<◌, ◌≤◌, ◌^◌, [], IfOk, IfSome, true};
 ghost use Rattle.campaign_book.specs.Accounts.{IsBudget};
 ghost use Rattle.two_books.specs.Steps.{IsTimely};
@@ -110,6 +111,7 @@ fn step_of(alloc: Global, word: &str, rest: &str) -> Option<Step> {
         "budget" => budget_of(rest),
         "pump" => pump_of(alloc, rest),
         "again" => Some(Step::Again { message: award }),
+        "ack" => Some(Step::Acknowledge { reply: award }),
         "restart" => Some(Step::RestartExchange),
         "wake" => Some(Step::RestartBidder),
         _ => None,
@@ -128,6 +130,7 @@ fn is_timely(step: &Step) -> bool
         Step::Notice { .. }
         | Step::Pump { .. }
         | Step::Again { .. }
+        | Step::Acknowledge { .. }
         | Step::RestartExchange
         | Step::RestartBidder => true,
     }

@@ -1,6 +1,5 @@
 -- What the numbers of a guarantee say of every assignment of the day's impressions.
-use Rattle.std.proofs.Common.{◌≡◌, ℕ, ◌*◌, ◌≤◌, sym, ap, arith}
-use Rattle.campaign_book.specs.Discount.{full_discount}
+use Rattle.std.proofs.Common.{◌≡◌, ℕ, ◌≤◌, arith}
 use Rattle.bid_record.specs.declared.record.Record.{Record}
 use Rattle.day_close.proofs.Accepted.{closing_holds}
 use Rattle.dual_cert.specs.Assignments.{Assignment, earned}

@@ -6,7 +6,7 @@ ghost use Rattle.exchange_messages.specs.Floors.{AreLanes};
 
 use crate::repeating::{Counting, Repeating};
 use adx_desk::{Desk, DeskFault};
-use adx_http::{Conn, ConnEnd, HttpFault};
+use adx_http::{ConnEnd, HttpFault};
 use adx_io::{MemorySink, MemorySource, Sink, Source};
 use adx_json::{Json, read};
 use adx_links::MemoryLink;
@@ -15,7 +15,7 @@ use day_journal::{Disk, MemoryDisk};
 use deal_floor::{Place, Roster};
 use exchange_http::serve_connection;
 use exchange_messages::FixedClock;
-use fan_out::{ANSWER_LIMIT, Lane};
+use fan_out::Lane;
 use std::alloc::{AllocError, Global};
 use std::fmt::Write;
 
@@ -267,33 +267,12 @@ fn desk_of(alloc: Global, roster: &Roster) -> Result<Desk<MemoryDisk>, OutOfMemo
     }
 }
 
-/// A copy of a bidder's place.
-fn copy_of(alloc: Global, place: &Place) -> Result<Place, OutOfMemory>
-    ensures { IfOk result (λ p. p ≡ place.now) }
-{
-    let name = place.name.copy(alloc)?;
-    let host = place.host.copy(alloc)?;
-    let path = place.path.copy(alloc)?;
-    let copy = Place {
-        name,
-        host,
-        port: place.port,
-        path,
-    };
-    Ok(copy)
-}
-
 /// The lane of a bidder, which isn't asked.
 fn lane_of(alloc: Global, place: &Place) -> Result<Lane<MemoryLink>, OutOfMemory>
     ensures place { IfOk result (λ l. l.place ≡ place.now) }
     ensures limit { IfOk result (λ l. l.conn.limit ≡ answer_limit) }
 {
-    Ok(Lane {
-        place: copy_of(alloc, place)?,
-        link: MemoryLink::new(alloc, &[])?,
-        conn: Conn::new(alloc, ANSWER_LIMIT)?,
-        last: None,
-    })
+    Lane::to(alloc, place, MemoryLink::new(alloc, &[])?)
 }
 
 /// The lanes of a roster's bidders.

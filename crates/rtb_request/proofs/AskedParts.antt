@@ -50,7 +50,8 @@ deal_at : (ms : Members) → members_asked parts.Deal true false ms ≡ with_val
 deal_at no_members = refl
 deal_at (member n t ms) = deal_step (bytes_eq n (codes "at")) n t ms (with_value (codes "at") one ms) (deal_at ms)
 
-deal_object : (fixed : Bool) (ms : Members) → object (members_asked parts.Deal (not fixed) false ms) ≡ cond fixed (object ms) (object (with_value (codes "at") one ms))
+deal_object : (fixed : Bool) (ms : Members)
+    → object (members_asked parts.Deal (not fixed) false ms) ≡ cond fixed (object ms) (object (with_value (codes "at") one ms))
 deal_object true ms = ap object (deal_members_are ms)
 deal_object false ms = ap object (deal_at ms)
 
@@ -164,7 +165,8 @@ none_asked true false = refl
 none_asked false true = refl
 none_asked false false = refl
 
-request_members_are : (at cur : Bool) (ms : Members) → members_asked parts.Request at cur ms ≡ put_cur cur (put_at at (changed (codes "imp") (with_each imp_for_bidders) ms))
+request_members_are : (at cur : Bool) (ms : Members)
+    → members_asked parts.Request at cur ms ≡ put_cur cur (put_at at (changed (codes "imp") (with_each imp_for_bidders) ms))
 request_members_are at cur no_members = none_asked at cur
 request_members_are at cur (member n t ms) =
     request_step (bytes_eq n (codes "at")) (bytes_eq n (codes "cur")) (names_apart n) at cur n (asked (member_part n parts.Request) t)
@@ -194,7 +196,8 @@ list_put p q t ts a b c d is part begun middle close =
     ∙ append_assoc a (91 ∷ []) (put ++ (93 ∷ []))
     ∙ ap (λ x. a ++ spelling (asked p x)) (sym (ap tree_of is ∙ tree_of-List ts))
 
-pub object_put : (p : Part) (at cur : Bool) (t : Json) (ms : Vec Member Global) (a b c d : List ℕ) → t ≡ json.Object ms → at ≡ gets_at p (tree_of t) → cur ≡ gets_cur p
+pub object_put : (p : Part) (at cur : Bool) (t : Json) (ms : Vec Member Global) (a b c d : List ℕ) → t ≡ json.Object ms → at ≡ gets_at p (tree_of t)
+    → cur ≡ gets_cur p
     → b ≡ a ++ (123 ∷ []) → c ≡ b ++ members_spelling (members_asked p at cur (members_of (members_view ms.items))) → d ≡ c ++ (125 ∷ []) → d ≡ a ++ spelling (asked p (tree_of t))
 object_put p at cur t ms a b c d is ats curs begun middle close =
     let shape = ap tree_of is ∙ tree_of-Object ms in

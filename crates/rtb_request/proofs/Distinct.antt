@@ -17,7 +17,8 @@ not_true : (a : Bool) → not a ≡ true → a ≡ false
 not_true true h = cc
 not_true false h = refl
 
-none_more : (n : List ℕ) (ms : List (List ℕ)) (x : List ℕ) → list_any (bytes_eq n) ms ≡ false → bytes_eq n x ≡ false → list_any (bytes_eq n) (ms ++ x ∷ []) ≡ false
+none_more : (n : List ℕ) (ms : List (List ℕ)) (x : List ℕ) → list_any (bytes_eq n) ms ≡ false → bytes_eq n x ≡ false
+    → list_any (bytes_eq n) (ms ++ x ∷ []) ≡ false
 none_more n ms x h k = list_any-append (bytes_eq n) ms (x ∷ []) ∙ ap₂ (λ a b. a || (b || false)) h k
 
 pub distinct_more : (ns : List (List ℕ)) (x : List ℕ) → all_distinct ns ≡ true → is_among ns x ≡ false → all_distinct (ns ++ x ∷ []) ≡ true

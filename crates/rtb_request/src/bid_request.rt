@@ -1,4 +1,4 @@
-//! A request for bids, as its view says it.
+//! A request for bids, as it is read.
 ghost use Rattle.std.specs.Prelude.{◌≡◌, ◌≤◌, map, length, true};
 ghost use Rattle.rtb_request.specs.declared.bid_request.TheConstants.{MOST_IMPS};
 ghost use Rattle.rtb_request.specs.Distinct.{all_distinct};

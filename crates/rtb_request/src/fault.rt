@@ -1,4 +1,4 @@
-//! Why a request has no view.
+//! Why a request is refused.
 ghost use Rattle.std.specs.Prelude.{◌≡◌};
 ghost use Rattle.rtb_request.specs.Faults.{name_of};
 ghost use Rattle.rtb_request.specs.declared.fault.RequestFault.TheVariants.{BadField};
@@ -54,7 +54,7 @@ impl Field {
     }
 }
 
-/// Why a request gave no view: the first test that fails, in the order in which the tests are read, or want of memory.
+/// Why a request is refused: the first test that fails, in the order in which the tests are read, or want of memory.
 #[derive(Debug, Drop)]
 pub enum RequestFault {
     /// No object, or no id of 1 to 128 bytes.

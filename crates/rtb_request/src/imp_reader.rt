@@ -1,97 +1,96 @@
-//! The view of an impression's tree, or its first fault.
-ghost use Rattle.std.specs.Prelude.{◌≡◌, ◌+◌, ◌++◌, ◌∷◌, [], map, length, option_map, true, IfOk, OnOk};
-ghost use Rattle.std.specs.List.{list_any};
+//! The impressions of a list, or the first fault of any of them.
+ghost use Rattle.std.specs.Prelude.{◌≡◌, [], map, length, option_map, true, false, Some, IfOk};
+ghost use Rattle.std.specs.List.{AllZip, list_any};
 ghost use Rattle.adx_json.specs.View.{tree_of, trees_of};
-ghost use Rattle.adx_json.specs.Checks.{Gives, judged};
+ghost use Rattle.adx_units.specs.Among.{is_among as is_among_by};
+ghost use Rattle.adx_json.specs.Rows.{Answers, Says, first_fault, first_among};
 ghost use Rattle.rtb_request.specs.Faults.{lacks_memory};
 ghost use Rattle.rtb_request.specs.Distinct.{all_distinct};
-ghost use Rattle.rtb_request.specs.Imps.{imp_checks, imps_checks, imp_view, is_zero_or_one_if_given as is_zero_or_one_by};
-ghost use Rattle.rtb_request.specs.Seen.{seen_imp, imp_has_id};
+ghost use Rattle.rtb_request.specs.Imps.{imp_rows, imp_id, is_zero_or_one_if_given as is_zero_or_one_by};
+ghost use Rattle.rtb_request.specs.Ids.{imp_has_id};
 
 use crate::amount::{floor_in, id_in, seconds_in};
 use crate::deal_reader::deals_of;
 use crate::fault::{Field, RequestFault, bad_field};
 use crate::imp::Imp;
-use crate::members::{imp_members, members_of_pmp};
 use adx_json::{
-    Json, is_absent_or, is_list_if_given, is_number_text, is_object_if_given, is_text_if_given,
-    items_in,
+    Json, find_given, is_absent_or, is_list_if_given, is_number_text, is_object_if_given,
+    is_text_if_given, items_in,
 };
 use adx_units::{Id, Sequence};
 use std::alloc::Global;
 
-/// The impressions of a list, or the first fault of any of them. `dollars` tells whether the request takes USD.
+/// The impressions of a list, or the first fault of any of them. `dollars` says whether the request takes USD.
 pub(crate) fn imps_of(
     alloc: Global,
     dollars: bool,
     trees: &[Json],
 ) -> Result<Vec<Imp>, RequestFault>
-    ensures gives { Gives lacks_memory (λ imps. map seen_imp imps.items) result
-        (judged (imps_checks [] (trees_of trees.now)) (map (imp_view dollars) (trees_of trees.now))) }
+    ensures gives { Answers lacks_memory (first_among (λ before. imp_rows dollars (map imp_id before)) [] (trees_of trees.now))
+        (λ imps. AllZip (λ t i. Says (imp_rows dollars []) (Some t) i) (trees_of trees.now) imps.items) result }
     ensures distinct { IfOk result (λ imps. all_distinct (map (λ i. i.id) imps.items) ≡ true) }
     ensures count { IfOk result (λ imps. length imps.items ≡ length trees.now) }
 {
     let mut imps = Vec::new(alloc);
     for tree in trees {
-        if let Err(fault) = add_imp(alloc, &mut imps, dollars, tree) {
-            return Err(fault);
-        }
+        let imp = match imp_of(alloc, &imps, dollars, tree) {
+            Ok(imp) => imp,
+            Err(fault) => return Err(fault),
+        };
+        imps.push(imp)?;
     }
     Ok(imps)
 }
 
-/// Adds an impression behind the others, or tells its first fault.
-#[tactic(auto, using(crate::proofs::ImpSteps::among_imps, crate::proofs::ImpSteps::pushed_seen, crate::proofs::ImpSteps::pushed_distinct))]
-fn add_imp(
-    alloc: Global,
-    imps: &mut Vec<Imp>,
-    dollars: bool,
-    tree: &Json,
-) -> Result<(), RequestFault>
-    ensures gives { Gives lacks_memory (λ _. map seen_imp imps.new.items) result
-        (judged (imp_checks (map (λ i. i.id) imps.old.items) (tree_of tree.now))
-        (map seen_imp imps.old.items ++ imp_view dollars (tree_of tree.now) ∷ [])) }
-    ensures distinct { all_distinct (map (λ i. i.id) imps.old.items) ≡ true
-        → OnOk result (all_distinct (map (λ i. i.id) imps.new.items) ≡ true) }
-    ensures count { OnOk result (length imps.new.items ≡ length imps.old.items + 1) }
+/// An impression after others, or its first fault.
+fn imp_of(alloc: Global, others: &Vec<Imp>, dollars: bool, tree: &Json) -> Result<Imp, RequestFault>
+    ensures gives { Answers lacks_memory (first_fault (imp_rows dollars (map (λ i. i.id) others.now.items)) (Some (tree_of tree.now)))
+        (Says (imp_rows dollars []) (Some (tree_of tree.now))) result }
+    ensures new { IfOk result (λ i. is_among_by (map (λ i. i.id) others.now.items) i.id ≡ false) }
 {
-    let found = imp_members(tree);
-    let pmp = members_of_pmp(found.pmp);
-    let Some(id) = id_in(alloc, found.id)? else {
+    let mut found = [None; 6];
+    find_given(
+        Some(tree),
+        &["id", "bidfloor", "bidfloorcur", "pmp", "qty", "exp"],
+        &mut found,
+    );
+    let [id, bidfloor, currency, pmp, qty, exp] = found;
+    let mut within = [None; 2];
+    find_given(pmp, &["private_auction", "deals"], &mut within);
+    let [private_auction, deals] = within;
+    let Some(id) = id_in(alloc, id)? else {
         return Err(bad_field(Field::ImpId));
     };
-    if is_among(imps, &id) {
+    if is_among(others, &id) {
         return Err(RequestFault::RepeatedImp { id });
     }
-    let Some(floor) = floor_in(found.bidfloor) else {
+    let Some(floor) = floor_in(bidfloor) else {
         return Err(bad_field(Field::ImpBidfloor));
     };
-    if !is_text_if_given(found.bidfloorcur) {
+    if !is_text_if_given(currency) {
         return Err(bad_field(Field::ImpBidfloorcur));
     }
-    if !is_object_if_given(found.pmp) {
+    if !is_object_if_given(pmp) {
         return Err(bad_field(Field::ImpPmp));
     }
-    if !is_zero_or_one_if_given(pmp.private_auction) {
+    if !is_zero_or_one_if_given(private_auction) {
         return Err(bad_field(Field::PmpPrivateAuction));
     }
-    if !is_list_if_given(pmp.deals) {
+    if !is_list_if_given(deals) {
         return Err(bad_field(Field::PmpDeals));
     }
-    let deals = match deals_of(alloc, items_in(pmp.deals)) {
+    let deals = match deals_of(alloc, items_in(deals)) {
         Ok(deals) => Sequence::from(deals),
         Err(fault) => return Err(fault),
     };
-    let imp = Imp {
+    Ok(Imp {
         id,
         floor,
-        sold: dollars && is_absent_or(found.bidfloorcur, "USD") && found.qty.is_none(),
-        private_only: is_number_text(pmp.private_auction, "1"),
+        sold: dollars && is_absent_or(currency, "USD") && qty.is_none(),
+        private_only: is_number_text(private_auction, "1"),
         deals,
-        exp: seconds_in(found.exp),
-    };
-    imps.push(imp)?;
-    Ok(())
+        exp: seconds_in(exp),
+    })
 }
 
 /// Whether a value is absent or the number 0 or 1.
@@ -103,6 +102,12 @@ fn is_zero_or_one_if_given(value: Option<&Json>) -> bool
 
 /// Whether one of the impressions has this id.
 fn is_among(imps: &[Imp], id: &Id) -> bool
+    ensures { result ≡ is_among_by (map (λ i. i.id) imps.now) id.now }
+{
+    any_has_id(imps, id)
+}
+
+fn any_has_id(imps: &[Imp], id: &Id) -> bool
     ensures { result ≡ list_any (imp_has_id id.now) imps.now }
 {
     imps.iter().any(|imp| imp.id.as_bytes() == id.as_bytes())

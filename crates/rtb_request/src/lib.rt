@@ -1,6 +1,6 @@
 //! Requests for bids (OpenRTB 2.6) as an exchange sees them.
 //!
-//! A request's tree has a view, which is what its members say, or a first fault; `BidRequest::of` gives just that, and
+//! A request's tree says something by its members, or has a first fault; `BidRequest::of` gives just that, and
 //! `OfferedImps::of` as much of it as a bidder reads. Ranges, lengths and distinct ids are facts of the types.
 //! `push_for_bidders` writes what bidders are asked.
 //!
@@ -15,7 +15,6 @@ mod deal_reader;
 mod fault;
 mod imp;
 mod imp_reader;
-mod members;
 mod offered_imps;
 mod request_reader;
 

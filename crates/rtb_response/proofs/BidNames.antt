@@ -26,10 +26,12 @@ some_if None b h f e = let k : false ≡ true = h ∙ ap not f in cc
 some_if (Some x) b h f e = cc
 
 -- whether a place is free, as a test told it
-pub free : {X : Type 0} (found : List (Option X)) (p : ℕ) (r : Option X) (b : Bool) → p < length found → is_some (get_or found p r) ≡ not b → b ≡ true → get_or found p None ≡ None
+pub free : {X : Type 0} (found : List (Option X)) (p : ℕ) (r : Option X) (b : Bool) → p < length found → is_some (get_or found p r) ≡ not b
+    → b ≡ true → get_or found p None ≡ None
 free found p r b low h t = any_default found p None r low ∙ none_if (get_or found p r) b h t
 
-pub taken : {X : Type 0} (found : List (Option X)) (p : ℕ) (r : Option X) (b : Bool) → p < length found → is_some (get_or found p r) ≡ not b → b ≡ false → get_or found p None ≢ None
+pub taken : {X : Type 0} (found : List (Option X)) (p : ℕ) (r : Option X) (b : Bool) → p < length found → is_some (get_or found p r) ≡ not b
+    → b ≡ false → get_or found p None ≢ None
 taken found p r b low h f e = some_if (get_or found p r) b h f (any_default found p r None low ∙ e)
 
 first_is : (b : Bool) (n : ℕ) → cond b 0 (suc n) ≡ 0 → b ≡ true
@@ -74,7 +76,8 @@ none_of f None h = refl
 none_of f (Some x) h = cc
 
 -- a member that isn't kept: its name isn't known, or was met before
-pub unmet : {X : Type 0} (f : X → Tree) (found : List (Option X)) (name : List ℕ) (t : Tree) (p k : ℕ) → p ≡ place_in bid_names name → k < 12 → (p < 12 → get_or found p None ≢ None)
+pub unmet : {X : Type 0} (f : X → Tree) (found : List (Option X)) (name : List ℕ) (t : Tree) (p k : ℕ) → p ≡ place_in bid_names name → k < 12
+    → (p < 12 → get_or found p None ≢ None)
     → option_map f (get_or found k None) ≡ with_member (get_or bid_names k []) (option_map f (get_or found k None)) (name, t)
 unmet f found name t p k is low taken =
     unmet_by (get_or bid_names k []) (option_map f (get_or found k None)) (name, t)
@@ -84,7 +87,8 @@ met_here : (name : List ℕ) (o : Option Tree) (m : List ℕ × Tree) → o ≡ 
 met_here name None m none same = sym (ap (λ b. cond b (Some m.1) None) same)
 met_here name (Some t) m none same = cc
 
-kept_by : {X : Type 0} (f : X → Tree) (found : List (Option X)) (name : List ℕ) (x : X) (p k : ℕ) → length found ≡ 12 → p ≡ place_in bid_names name → k < 12 → p < 12 → get_or found p None ≡ None → (k ≡ p) ⊎ (k ≢ p)
+kept_by : {X : Type 0} (f : X → Tree) (found : List (Option X)) (name : List ℕ) (x : X) (p k : ℕ) → length found ≡ 12 → p ≡ place_in bid_names name
+    → k < 12 → p < 12 → get_or found p None ≡ None → (k ≡ p) ⊎ (k ≢ p)
     → option_map f (get_or (set found p (Some x)) k None) ≡ with_member (get_or bid_names k []) (option_map f (get_or found k None)) (name, f x)
 kept_by f found name x p k all is low known free (inl here) =
     ap (λ n. option_map f (get_or (set found p (Some x)) n None)) here
@@ -95,12 +99,14 @@ kept_by f found name x p k all is low known free (inr other) =
     ∙ unmet_by (get_or bid_names k []) (option_map f (get_or found k None)) (name, f x) (λ _. other_name name k low (λ same. other (sym same ∙ sym is)))
 
 -- a member that is kept
-pub kept : {X : Type 0} (f : X → Tree) (found : List (Option X)) (name : List ℕ) (x : X) (p k : ℕ) → length found ≡ 12 → p ≡ place_in bid_names name → k < 12 → p < 12 → get_or found p None ≡ None
+pub kept : {X : Type 0} (f : X → Tree) (found : List (Option X)) (name : List ℕ) (x : X) (p k : ℕ) → length found ≡ 12 → p ≡ place_in bid_names name
+    → k < 12 → p < 12 → get_or found p None ≡ None
     → option_map f (get_or (set found p (Some x)) k None) ≡ with_member (get_or bid_names k []) (option_map f (get_or found k None)) (name, f x)
 kept f found name x p k all is low known free = kept_by f found name x p k all is low known free (cases_eq k p)
 
 -- behind the last member, what is kept at a name's place is the value of the tree's member
-pub all_kept : {X : Type 0} (f : X → Tree) (found : List (Option X)) (k : ℕ) (r : Option X) (name : List ℕ) (t : Tree) (items : List Member) (i : ℕ) → length found ≡ 12 → k < 12 → length items ≤ i → members_of (members_view items) ≡ members_by t
+pub all_kept : {X : Type 0} (f : X → Tree) (found : List (Option X)) (k : ℕ) (r : Option X) (name : List ℕ) (t : Tree) (items : List Member) (i : ℕ)
+    → length found ≡ 12 → k < 12 → length items ≤ i → members_of (members_view items) ≡ members_by t
     → found_or name (option_map f (get_or found k None)) (members_of (members_view (drop i items))) ≡ value_of name (members_of (members_view items)) → option_map f (get_or found k r) ≡ member_in name t
 all_kept f found k r name t items i all low end is h =
     ap (option_map f) (any_default found k r None (omega arith)) ∙ all_met name t items i (option_map f (get_or found k None)) end is h

@@ -2,5 +2,4 @@ pub mod BidNames
 pub mod Passed
 pub mod Chains
 pub mod Seats
-pub mod Seen
 pub mod Counts

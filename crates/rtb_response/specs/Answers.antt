@@ -1,70 +1,53 @@
 -- A bidder's answer (OpenRTB 2.6, sections 4.2.1 BidResponse and 4.2.2 SeatBid): its bids, or its first fault.
 -- This project's own: the order of the tests, the limit of bids, that USD is the one currency, and that the bids of a
 -- seat win together or not at all where the text of `group` is `1`.
-use Rattle.std.specs.Prelude.{ℕ, List, [], ◌∷◌, length, map, Bool, is_some, ◌&&◌, nat_le, codes, Result}
-use Rattle.std.specs.List.{list_all, sum_by}
+use Rattle.std.specs.Prelude.{◌≡◌, ℕ, List, [], ◌∷◌, length, Bool, is_some, ◌&&◌, nat_le, codes, Option, Some, None}
+use Rattle.std.specs.List.{sum_by}
 use Rattle.adx_json.specs.Tree.{Tree}
-use Rattle.adx_json.specs.Values.{given, text_in, text_or_empty, items_in, is_text, is_absent_or, is_list_if_given, is_number_text}
-use Rattle.adx_json.specs.Checks.{Check, check, judged}
-use Rattle.rtb_response.specs.Bids.{BidView, bid_view}
+use Rattle.adx_json.specs.Rows.{Row, test, value, each, all_count, first_fault, Says}
+use Rattle.adx_json.specs.Values.{given, given_within, text_in, text_or_empty, items_in, is_text, is_absent_or, is_list_if_given, is_number_text}
+use Rattle.rtb_response.specs.Bids.{bid_rows}
 use Rattle.rtb_response.specs.declared.bid.TheConstants.{MOST_BIDS}
+use Rattle.rtb_response.specs.declared.bid_answer.BidAnswer.{BidAnswer}
+use Rattle.rtb_response.specs.declared.bid_answer.SeatBid.{SeatBid}
 use Rattle.rtb_response.specs.declared.fault.Field.TheVariants.{Seatbid, SeatbidBid}
 use Rattle.rtb_response.specs.declared.fault.AnswerFault.{AnswerFault}
 use Rattle.rtb_response.specs.declared.fault.AnswerFault.TheVariants.{NoId, OtherId, OtherCurrency, BadField, TooManyBids}
 
--- the seats of an answer, as they are written
-abbrev pub seats_in : Tree → List Tree
-seats_in t = items_in (given (codes "seatbid") t)
+-- there is a list
+abbrev pub is_list : Option Tree → Bool
+is_list v = is_some v && is_list_if_given v
 
--- the bids of a seat, as they are written
-abbrev pub bids_in : Tree → List Tree
-bids_in seat = items_in (given (codes "bid") seat)
-
--- an object with a list of bids
-abbrev pub has_bids : Tree → Bool
-has_bids seat = is_some (given (codes "bid") seat) && is_list_if_given (given (codes "bid") seat)
+-- what a seat's object has to be, and the seat that it is: its name, whether all its bids have to win together, and its
+-- bids in their order
+abbrev pub seat_rows : List (Row SeatBid AnswerFault)
+seat_rows =
+    test given_within (codes "bid") is_list (BadField SeatbidBid)
+    ∷ value given_within (codes "seat") text_or_empty (λ (s : SeatBid). s.seat)
+    ∷ value given_within (codes "group") (is_number_text (codes "1")) (λ (s : SeatBid). s.all_or_none)
+    ∷ each given_within (codes "bid") (λ others. bid_rows) all_count (λ (s : SeatBid). s.bids)
+    ∷ []
 
 -- how many bids some seats have together
 abbrev pub bid_count : List Tree → ℕ
-bid_count seats = sum_by (λ seat. length (bids_in seat)) seats
+bid_count seats = sum_by (λ seat. length (items_in (given (codes "bid") seat))) seats
 
--- the tests of an answer to an auction, in their order
-abbrev pub answer_checks : List ℕ → Tree → List (Check AnswerFault)
-answer_checks auction t =
-    check (is_some (text_in (given (codes "id") t))) NoId
-    ∷ check (is_text auction (given (codes "id") t)) OtherId
-    ∷ check (is_absent_or (codes "USD") (given (codes "cur") t)) OtherCurrency
-    ∷ check (is_list_if_given (given (codes "seatbid") t)) (BadField Seatbid)
-    ∷ check (list_all has_bids (seats_in t)) (BadField SeatbidBid)
-    ∷ check (nat_le (bid_count (seats_in t)) MOST_BIDS) TooManyBids
+-- what the object of an answer to an auction has to be, and the answer that it is: the seats in their order
+abbrev pub answer_rows : List ℕ → List (Row BidAnswer AnswerFault)
+answer_rows auction =
+    test given_within (codes "id") (λ v. is_some (text_in v)) NoId
+    ∷ test given_within (codes "id") (is_text auction) OtherId
+    ∷ test given_within (codes "cur") (is_absent_or (codes "USD")) OtherCurrency
+    ∷ test given_within (codes "seatbid") is_list_if_given (BadField Seatbid)
+    ∷ each given_within (codes "seatbid") (λ others. seat_rows) all_count (λ (a : BidAnswer). a.seats)
+    ∷ test given_within (codes "seatbid") (λ v. nat_le (bid_count (items_in v)) MOST_BIDS) TooManyBids
+    ∷ value given_within (codes "bidid") text_or_empty (λ (a : BidAnswer). a.bidid)
     ∷ []
 
--- what a seat says: its name, whether all its bids have to win together, and its bids
-pub record SeatView : Type 0 where
-  pub seat : List ℕ
-  pub all_or_none : Bool
-  pub bids : List BidView
+-- the first fault of an answer to an auction
+abbrev pub answer_fault : List ℕ → Tree → Option AnswerFault
+answer_fault auction t = first_fault (answer_rows auction) (Some t)
 
--- what a seat says
-abbrev pub seat_view : Tree → SeatView
-seat_view t = record {
-  seat = text_or_empty (given (codes "seat") t);
-  all_or_none = is_number_text (codes "1") (given (codes "group") t);
-  bids = map bid_view (bids_in t);
-}
-
--- what an answer says
-pub record AnswerView : Type 0 where
-  pub bidid : List ℕ
-  pub seats : List SeatView
-
--- the seats in their order, and in each its bids in theirs
-abbrev pub answer_view : Tree → AnswerView
-answer_view t = record {
-  bidid = text_or_empty (given (codes "bidid") t);
-  seats = map seat_view (seats_in t);
-}
-
--- the bids of an answer to an auction, or the first fault of the answer
-abbrev pub answer_in : List ℕ → Tree → Result AnswerView AnswerFault
-answer_in auction t = judged (answer_checks auction t) (answer_view t)
+-- the tree has no fault as an answer to the auction, and is this answer
+abbrev pub IsAnswer : List ℕ → Tree → BidAnswer → Type 0
+IsAnswer auction t a = (answer_fault auction t ≡ None) × Says (answer_rows auction) (Some t) a

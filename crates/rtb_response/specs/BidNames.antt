@@ -3,7 +3,7 @@ use Rattle.std.specs.Prelude.{ℕ, suc, List, [], ◌∷◌, ◌++◌, codes, if
 use Rattle.std.specs.Str.{bytes_eq}
 use Rattle.rtb_response.specs.Bodies.{own_names}
 
--- those that the exchange writes itself, and then the others that a bid's view reads
+-- those that the exchange writes itself, and then the others that are read of a bid
 abbrev pub bid_names : List (List ℕ)
 bid_names = own_names ++ (codes "adid" ∷ codes "adomain" ∷ codes "cid" ∷ codes "cat" ∷ codes "dealid" ∷ codes "exp" ∷ [])
 

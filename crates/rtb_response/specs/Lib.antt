@@ -3,7 +3,7 @@ pub mod Bodies
 pub mod BidNames
 pub mod Bids
 pub mod Answers
-pub mod Seen
+pub mod Seats
 pub mod Faults
 pub mod Notices
 pub mod ExchangeAnswer

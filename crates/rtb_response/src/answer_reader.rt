@@ -1,14 +1,15 @@
-//! The view of an answer's tree, or its first fault.
-ghost use Rattle.std.specs.Prelude.{◌≡◌, ◌+◌, map, min, option_map, codes, IfOk, IfSome, IfNone, true, false};
-ghost use Rattle.std.specs.List.{list_all};
+//! What an answer's tree says, or its first fault.
+ghost use Rattle.std.specs.Prelude.{◌≡◌, ◌+◌, [], min, None, Some, IfOk, IfSome, IfNone, true, false};
+ghost use Rattle.std.specs.List.{AllZip};
 ghost use Rattle.adx_json.specs.View.{tree_of, trees_of};
-ghost use Rattle.adx_json.specs.Values.{given as given_in};
-ghost use Rattle.adx_json.specs.Checks.{Gives};
-ghost use Rattle.rtb_response.specs.Bids.{bid_view};
-ghost use Rattle.rtb_response.specs.Answers.{answer_in, bid_count, bids_in, has_bids, seat_view};
+ghost use Rattle.adx_json.specs.Rows.{Reads, Says, first_among};
+ghost use Rattle.rtb_response.specs.Bids.{bid_rows};
+ghost use Rattle.rtb_response.specs.Answers.{answer_rows, bid_count, seat_rows};
 ghost use Rattle.rtb_response.specs.Faults.{lacks_memory};
-ghost use Rattle.rtb_response.specs.Seen.{seen_answer, seen_bid, seen_seat};
+ghost use Rattle.rtb_response.specs.Seats.{bids_in, has_bids};
 ghost use Rattle.rtb_response.specs.declared.bid.TheConstants.{MOST_BIDS};
+ghost use Rattle.rtb_response.specs.declared.fault.AnswerFault.TheVariants.{BadField};
+ghost use Rattle.rtb_response.specs.declared.fault.Field.TheVariants.{SeatbidBid};
 
 use crate::bid::{Bid, MOST_BIDS};
 use crate::bid_answer::{BidAnswer, SeatBid};
@@ -23,58 +24,15 @@ use std::alloc::Global;
 /// The room with which the bodies of an answer's bids begin, in bytes: that of a short body.
 const SCRATCH_ROOM: usize = 1_024;
 
-/// The members of an answer that its view reads, as they lie in its tree.
-#[derive(Clone, Copy)]
-struct AnswerMembers<'a> {
-    id: Option<&'a Json>,
-    bidid: Option<&'a Json>,
-    cur: Option<&'a Json>,
-    seatbid: Option<&'a Json>,
-}
-
-/// The members of a seat that its view reads, as they lie in its tree.
-#[derive(Clone, Copy)]
-struct SeatMembers<'a> {
-    seat: Option<&'a Json>,
-    group: Option<&'a Json>,
-    bid: Option<&'a Json>,
-}
-
-fn answer_members(tree: &Json) -> AnswerMembers<'_>
-    ensures id { option_map (λ t. tree_of t.now) result.id ≡ given_in (codes "id") (tree_of tree.now) }
-    ensures bidid { option_map (λ t. tree_of t.now) result.bidid ≡ given_in (codes "bidid") (tree_of tree.now) }
-    ensures cur { option_map (λ t. tree_of t.now) result.cur ≡ given_in (codes "cur") (tree_of tree.now) }
-    ensures seatbid { option_map (λ t. tree_of t.now) result.seatbid ≡ given_in (codes "seatbid") (tree_of tree.now) }
-{
-    let mut found = [None; 4];
-    find_given(Some(tree), &["id", "bidid", "cur", "seatbid"], &mut found);
-    let [id, bidid, cur, seatbid] = found;
-    AnswerMembers {
-        id,
-        bidid,
-        cur,
-        seatbid,
-    }
-}
-
-fn seat_members(tree: &Json) -> SeatMembers<'_>
-    ensures seat { option_map (λ t. tree_of t.now) result.seat ≡ given_in (codes "seat") (tree_of tree.now) }
-    ensures group { option_map (λ t. tree_of t.now) result.group ≡ given_in (codes "group") (tree_of tree.now) }
-    ensures bid { option_map (λ t. tree_of t.now) result.bid ≡ given_in (codes "bid") (tree_of tree.now) }
-{
-    let mut found = [None; 3];
-    find_given(Some(tree), &["seat", "group", "bid"], &mut found);
-    let [seat, group, bid] = found;
-    SeatMembers { seat, group, bid }
-}
-
 /// The list of bids of a seat. None exactly where it isn't an object with a list of bids.
 fn bid_list(seat: &Json) -> Option<&[Json]>
     ensures some { IfSome result (λ _. has_bids (tree_of seat.now) ≡ true) }
     ensures items { IfSome result (λ bids. trees_of bids.now ≡ bids_in (tree_of seat.now)) }
     ensures none { IfNone result (has_bids (tree_of seat.now) ≡ false) }
 {
-    let bids = seat_members(seat).bid;
+    let mut found = [None; 1];
+    find_given(Some(seat), &["bid"], &mut found);
+    let [bids] = found;
     if bids.is_some() && is_list_if_given(bids) {
         Some(items_in(bids))
     } else {
@@ -86,8 +44,8 @@ fn bid_list(seat: &Json) -> Option<&[Json]>
 /// them isn't an object with a list of bids.
 fn count_bids(seats: &[Json]) -> Option<usize>
     ensures count { IfSome result (λ n. n ≡ min (bid_count (trees_of seats.now)) (MOST_BIDS + 1)) }
-    ensures each { IfSome result (λ _. list_all has_bids (trees_of seats.now) ≡ true) }
-    ensures none { IfNone result (list_all has_bids (trees_of seats.now) ≡ false) }
+    ensures each { IfSome result (λ _. first_among (λ others. seat_rows) [] (trees_of seats.now) ≡ None) }
+    ensures none { IfNone result (first_among (λ others. seat_rows) [] (trees_of seats.now) ≡ Some (BadField SeatbidBid)) }
 {
     let mut count = 0;
     for seat in seats {
@@ -100,7 +58,7 @@ fn count_bids(seats: &[Json]) -> Option<usize>
 }
 
 fn bids_of(alloc: Global, scratch: &mut String, trees: &[Json]) -> Result<Vec<Bid>, OutOfMemory>
-    ensures { IfOk result (λ bs. map seen_bid bs.items ≡ map bid_view (trees_of trees.now)) }
+    ensures { IfOk result (λ bs. AllZip (λ t b. Says bid_rows (Some t) b) (trees_of trees.now) bs.items) }
 {
     let mut bids = Vec::with_capacity(alloc, trees.len())?;
     for tree in trees {
@@ -110,18 +68,20 @@ fn bids_of(alloc: Global, scratch: &mut String, trees: &[Json]) -> Result<Vec<Bi
 }
 
 fn seat_of(alloc: Global, scratch: &mut String, tree: &Json) -> Result<SeatBid, OutOfMemory>
-    ensures { IfOk result (λ s. seen_seat s ≡ seat_view (tree_of tree.now)) }
+    ensures { IfOk result (λ s. Says seat_rows (Some (tree_of tree.now)) s) }
 {
-    let found = seat_members(tree);
+    let mut found = [None; 3];
+    find_given(Some(tree), &["seat", "group", "bid"], &mut found);
+    let [seat, group, bids] = found;
     Ok(SeatBid {
-        seat: text_or_empty(alloc, found.seat)?,
-        all_or_none: is_number_text(found.group, "1"),
-        bids: Sequence::from(bids_of(alloc, scratch, items_in(found.bid))?),
+        seat: text_or_empty(alloc, seat)?,
+        all_or_none: is_number_text(group, "1"),
+        bids: Sequence::from(bids_of(alloc, scratch, items_in(bids))?),
     })
 }
 
 fn seats_of(alloc: Global, trees: &[Json]) -> Result<Vec<SeatBid>, OutOfMemory>
-    ensures { IfOk result (λ ss. map seen_seat ss.items ≡ map seat_view (trees_of trees.now)) }
+    ensures { IfOk result (λ ss. AllZip (λ t s. Says seat_rows (Some t) s) (trees_of trees.now) ss.items) }
 {
     let mut scratch = String::with_capacity(alloc, SCRATCH_ROOM)?;
     let mut seats = Vec::with_capacity(alloc, trees.len())?;
@@ -136,24 +96,26 @@ impl BidAnswer {
     /// that fails: `NoId`, `OtherId`, `OtherCurrency`, `BadField` of `seatbid` and then of its elements,
     /// `TooManyBids`. A member that is null counts as absent. Memory is asked for once every test holds.
     pub fn of(alloc: Global, tree: &Json, id: &Id) -> Result<BidAnswer, AnswerFault>
-        ensures { Gives lacks_memory seen_answer result (answer_in id.now (tree_of tree.now)) }
+        ensures { Reads lacks_memory (answer_rows id.now) (tree_of tree.now) result }
     {
-        let found = answer_members(tree);
-        let Some(named) = text_in(found.id) else {
+        let mut found = [None; 4];
+        find_given(Some(tree), &["id", "bidid", "cur", "seatbid"], &mut found);
+        let [named, bidid, cur, seatbid] = found;
+        let Some(named) = text_in(named) else {
             return Err(AnswerFault::NoId);
         };
         if named.as_bytes() != id.as_bytes() {
             return Err(AnswerFault::OtherId);
         }
-        if !is_absent_or(found.cur, "USD") {
+        if !is_absent_or(cur, "USD") {
             return Err(AnswerFault::OtherCurrency);
         }
-        if !is_list_if_given(found.seatbid) {
+        if !is_list_if_given(seatbid) {
             return Err(AnswerFault::BadField {
                 field: Field::Seatbid,
             });
         }
-        let seats = items_in(found.seatbid);
+        let seats = items_in(seatbid);
         let Some(count) = count_bids(seats) else {
             return Err(AnswerFault::BadField {
                 field: Field::SeatbidBid,
@@ -162,7 +124,7 @@ impl BidAnswer {
         if count > MOST_BIDS {
             return Err(AnswerFault::TooManyBids);
         }
-        let bidid = text_or_empty(alloc, found.bidid)?;
+        let bidid = text_or_empty(alloc, bidid)?;
         let seats = Sequence::from(seats_of(alloc, seats)?);
         Ok(BidAnswer { bidid, seats })
     }

@@ -1,10 +1,10 @@
-//! The view of a bid's tree.
-ghost use Rattle.std.specs.Prelude.{◌≡◌, ◌≤◌, option_map, codes, IfOk, true};
+//! What a bid's tree says.
+ghost use Rattle.std.specs.Prelude.{◌≡◌, ◌≤◌, option_map, codes, Some, IfOk, true};
 ghost use Rattle.adx_json.specs.View.{tree_of};
 ghost use Rattle.adx_json.specs.Values.{given as given_in, text_in as text_by, text_or_empty as text_or_empty_by};
 ghost use Rattle.rtb_response.specs.Prices.{price_in as price_by, is_in_range};
-ghost use Rattle.rtb_response.specs.Bids.{bid_view};
-ghost use Rattle.rtb_response.specs.Seen.{seen_bid};
+ghost use Rattle.adx_json.specs.Rows.{Says};
+ghost use Rattle.rtb_response.specs.Bids.{bid_rows};
 
 use crate::bid::{Bid, MOST_SECONDS};
 use crate::bid_names::{KNOWN_NAMES, keep};
@@ -13,7 +13,7 @@ use adx_json::{Json, given, members_in, number_in, text_in, texts_in, whole_or_z
 use adx_units::{OutOfMemory, PriceFault, Text, Units, price_of};
 use std::alloc::Global;
 
-/// The members of a bid that its view reads, as they lie in its tree.
+/// The members of a bid that are read, as they lie in its tree.
 #[derive(Clone, Copy)]
 struct BidMembers<'a> {
     id: Option<&'a Json>,
@@ -111,7 +111,7 @@ fn price_in(value: Option<&Json>) -> Result<Units, PriceFault>
 
 /// What a bid says by its members. Its body is made in `scratch`, which serves again.
 pub(crate) fn bid_of(alloc: Global, scratch: &mut String, tree: &Json) -> Result<Bid, OutOfMemory>
-    ensures { IfOk result (λ b. seen_bid b ≡ bid_view (tree_of tree.now)) }
+    ensures { IfOk result (λ b. Says bid_rows (Some (tree_of tree.now)) b) }
 {
     let found = bid_members(tree);
     let whole = text_in(found.id).is_some()

@@ -1,6 +1,6 @@
 //! Answers to requests for bids (OpenRTB 2.6): those of bidders read, and the exchange's own written.
 //!
-//! An answer's tree has a view, which is what its members say, or a first fault; `BidAnswer::of` gives just that.
+//! An answer's tree says something by its members, or has a first fault; `BidAnswer::of` gives just that.
 //! `write_answer` gives the compact spelling of one object. Ranges and the number of bids are facts of the types.
 //!
 //! Stands on `adx_units`, `adx_json`, `notice_macros` and `itoa`.

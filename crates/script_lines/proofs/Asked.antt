@@ -1,13 +1,12 @@
 -- The ask of a line, from its request and its answers.
-use Rattle.std.proofs.Common.{◌≡◌, ℕ, ◌+◌, ◌<◌, ◌≤◌, List, [], ◌∷◌, ◌++◌, take, get_or, length, Option, Some, Result, Ok, Err, sym, ap, subst, ◌∙◌}
+use Rattle.std.proofs.Common.{◌≡◌, ℕ, ◌≤◌, List, length, Option, Some, Result, Ok, Err, sym, subst, ◌∙◌}
 use Rattle.std.specs.List.{AllZip}
-use Rattle.std.proofs.lemmas.List.{take_more, map-append, length-map}
+use Rattle.std.proofs.lemmas.List.{length-map}
 use Rattle.std.proofs.lemmas.Slice.Zip.{AllZip-long}
 use Rattle.adx_json.specs.Tree.{Tree}
 use Rattle.adx_json.specs.View.{tree_of, trees_of}
 use Rattle.adx_json.specs.declared.tree.Json.{Json}
-use Rattle.rtb_request.specs.Requests.{request_in}
-use Rattle.rtb_request.specs.Seen.{seen_request}
+use Rattle.rtb_request.specs.Requests.{IsRequest}
 use Rattle.rtb_request.specs.declared.bid_request.BidRequest.{BidRequest}
 use Rattle.rtb_response.specs.declared.bid_answer.BidAnswer.{BidAnswer}
 use Rattle.day_rules.specs.declared.ask.Ask.{Ask}
@@ -17,31 +16,18 @@ use Rattle.script_lines.specs.Meanings.{GivesAnswer}
 use Rattle.script_lines.specs.Found.{FindsAsk, FindsRequest}
 use Rattle.script_lines.specs.declared.refusal.LineFault.{LineFault}
 
--- one more of each list
-zip_push : {A B : Type 0} (R : A → B → Type 0) (xs : List A) (ys : List B) (x : A) (y : B) → AllZip R xs ys → R x y → AllZip R (xs ++ x ∷ []) (ys ++ y ∷ [])
-zip_push R [] [] x y h r = (r, tt)
-zip_push R [] (b ∷ ys) x y h r = absurd h
-zip_push R (a ∷ xs) [] x y h r = absurd h
-zip_push R (a ∷ xs) (b ∷ ys) x y h r = (h.0, zip_push R xs ys x y h.1 r)
-
--- one more tree was read
-pub answered_more : {B : Type 0} (R : Tree → B → Type 0) (trees : List Json) (i : ℕ) (t : Json) (ys new : List B) (y : B) → i < length trees → t ≡ get_or trees i t → new ≡ ys ++ y ∷ [] → AllZip R (trees_of (take i trees)) ys → R (tree_of t) y → AllZip R (trees_of (take (i + 1) trees)) new
-answered_more R trees i t ys new y low is pushed h r =
-    let front = trees_of (take i trees) in
-    let more : trees_of (take (i + 1) trees) ≡ front ++ tree_of t ∷ [] =
-    ap trees_of (take_more trees i t low) ∙ map-append tree_of (take i trees) (get_or trees i t ∷ []) ∙ ap (λ u. front ++ tree_of u ∷ []) (sym is) in
-    subst (λ ts. AllZip R ts new) (sym more) (subst (AllZip R (front ++ tree_of t ∷ [])) (sym pushed) (zip_push R front ys (tree_of t) y h r))
-
 -- there are as many answers as trees
-pub answers_few : {B : Type 0} (R : Tree → B → Type 0) (trees : List Json) (ys : List B) (most : ℕ) → AllZip R (trees_of trees) ys → length trees ≤ most → length ys ≤ most
+pub answers_few : {B : Type 0} (R : Tree → B → Type 0) (trees : List Json) (ys : List B) (most : ℕ) → AllZip R (trees_of trees) ys
+    → length trees ≤ most → length ys ≤ most
 answers_few R trees ys most h few = subst (λ n. n ≤ most) (sym (AllZip-long R (trees_of trees) ys h ∙ length-map trees tree_of)) few
 
 -- answers and moment are of their form
-ask_with : (r : Roster) (t : Tree) (answers : Option (List Tree)) (now : Option ℕ) (ts : List Tree) (n : ℕ) (result : Result Ask LineFault) → Some ts ≡ answers → Some n ≡ now → FindsAsk r t (Some ts) (Some n) result → FindsAsk r t answers now result
+ask_with : (r : Roster) (t : Tree) (answers : Option (List Tree)) (now : Option ℕ) (ts : List Tree) (n : ℕ) (result : Result Ask LineFault)
+    → Some ts ≡ answers → Some n ≡ now → FindsAsk r t (Some ts) (Some n) result → FindsAsk r t answers now result
 ask_with r t answers now ts n result some when h = subst (λ o. FindsAsk r t answers o result) when (subst (λ o. FindsAsk r t o (Some n) result) some h)
 
 -- and the request makes an ask
-pub ask_found : (r : Roster) (t : Tree) (answers : Option (List Tree)) (now : Option ℕ) (ts : List Tree) (n : ℕ) (asked : BidRequest) (answered : List (Option BidAnswer)) (a : Ask) → Some ts ≡ answers → Some n ≡ now → request_in t ≡ Ok (seen_request asked) → AllZip (GivesAnswer asked.id) ts answered → a ≡ ask_of asked r.campaigns answered n → FindsAsk r t answers now (Ok a)
+pub ask_found : (r : Roster) (t : Tree) (answers : Option (List Tree)) (now : Option ℕ) (ts : List Tree) (n : ℕ) (asked : BidRequest) (answered : List (Option BidAnswer)) (a : Ask) → Some ts ≡ answers → Some n ≡ now → IsRequest t asked → AllZip (GivesAnswer asked.id) ts answered → a ≡ ask_of asked r.campaigns answered n → FindsAsk r t answers now (Ok a)
 ask_found r t answers now ts n asked answered a some when request zip made =
     ask_with r t answers now ts n (Ok a) some when (record { asked = asked; answered = answered; request = request; answers = zip; made = made })
 
@@ -50,5 +36,6 @@ refused_as r t ts n (LineFault.Refused why) h = h
 refused_as r t ts n LineFault.OutOfMemory h = tt
 
 -- or is refused
-pub ask_refused : (r : Roster) (t : Tree) (answers : Option (List Tree)) (now : Option ℕ) (ts : List Tree) (n : ℕ) (e : LineFault) → Some ts ≡ answers → Some n ≡ now → FindsRequest t (Err e) → FindsAsk r t answers now (Err e)
+pub ask_refused : (r : Roster) (t : Tree) (answers : Option (List Tree)) (now : Option ℕ) (ts : List Tree) (n : ℕ) (e : LineFault)
+    → Some ts ≡ answers → Some n ≡ now → FindsRequest t (Err e) → FindsAsk r t answers now (Err e)
 ask_refused r t answers now ts n e some when h = ask_with r t answers now ts n (Err e) some when (refused_as r t ts n e h)

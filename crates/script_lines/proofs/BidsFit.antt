@@ -8,15 +8,14 @@ use Rattle.adx_units.specs.declared.offer.TheConstants.{ADMITTED}
 use Rattle.adx_units.specs.declared.price.PriceFault.{PriceFault}
 use Rattle.adx_units.specs.declared.price.TheConstants.{PRICE_LIMIT}
 use Rattle.adx_units.specs.declared.units.Units.{Units}
-use Rattle.adx_json.specs.Checks.{first_fault, judged_by}
 use Rattle.rtb_request.proofs.Distinct.{and_true}
 use Rattle.rtb_request.specs.declared.bid_request.BidRequest.{BidRequest}
 use Rattle.rtb_request.specs.declared.deal.Deal.{Deal}
 use Rattle.rtb_request.specs.declared.imp.Imp.{Imp}
-use Rattle.rtb_request.specs.Seen.{imp_has_id}
+use Rattle.rtb_request.specs.Ids.{imp_has_id}
 use Rattle.rtb_response.specs.Prices.{is_in_range}
 use Rattle.day_rules.specs.Asks.{IsAdmittedOffer, IsOffer, IsRefusal, NeedsTexts}
-use Rattle.deal_floor.specs.Admission.{Case, item_at, imp_place, imp_of, campaign_place, deal_by, deal_of, holds_of, number_or_zero, units_of, price_units, kept_length, deal_is_open_to, charge_by, life_by, rules, offer, place_or, refused_offer}
+use Rattle.deal_floor.specs.Admission.{Case, item_at, imp_place, imp_of, campaign_place, deal_by, deal_of, holds_of, number_or_zero, units_of, price_units, kept_length, deal_is_open_to, charge_by, life_by, admitted_by, can_be_sold, deal_eligible, seat_allowed, offer, place_or, refusal_of, refused_offer, refused_unless}
 use Rattle.deal_floor.specs.Pairs.{is_campaign}
 use Rattle.deal_floor.specs.Reasons.{number_of}
 use Rattle.deal_floor.specs.declared.campaign.Campaign.{Campaign}
@@ -25,7 +24,6 @@ use Rattle.deal_floor.specs.declared.terms.TheConstants.{MOST_KEPT, USUAL_LIFE, 
 use Rattle.script_lines.specs.Making.{SeatedBid, offer_by, offer_of}
 use Rattle.script_lines.specs.Parts.{FitsDay}
 use Rattle.script_lines.proofs.Bounds.{not_zero}
-use Rattle.script_lines.proofs.Judged.{holds_at}
 
 -- a place that was found is one of the list
 found_by : (b : Bool) (k n : ℕ) → (b ≡ true → k < n) → is_some (cond b (Some k) None) ≡ true → number_or_zero (λ (m : ℕ). m) (cond b (Some k) None) < n
@@ -66,11 +64,13 @@ paid_by : (fixed : Bool) (d : Deal) (price : ℕ) → IsPaid (units price) → (
 paid_by true d price paid some = (not_zero d.floor.0 some, d.in_range)
 paid_by false d price paid some = paid
 
-paid : (deal : Option Deal) (price : ℕ) → IsPaid (units price) → ((d : Deal) → deal ≡ Some d → (d.fixed && d.floor.0 == 0) ≡ false) → IsPaid (charge_by deal price)
+paid : (deal : Option Deal) (price : ℕ) → IsPaid (units price) → ((d : Deal) → deal ≡ Some d → (d.fixed && d.floor.0 == 0) ≡ false)
+    → IsPaid (charge_by deal price)
 paid None price is some = is
 paid (Some d) price is some = paid_by d.fixed d price is (some d refl)
 
-open_by : (id : Option (List ℕ)) (i : Option Imp) (deal : Option Deal) (test : Deal → Bool) (private : Bool) → cond (is_some id) (holds_of test deal) (not private) ≡ true → deal ≡ deal_by id i → (d : Deal) → deal ≡ Some d → test d ≡ true
+open_by : (id : Option (List ℕ)) (i : Option Imp) (deal : Option Deal) (test : Deal → Bool) (private : Bool)
+    → cond (is_some id) (holds_of test deal) (not private) ≡ true → deal ≡ deal_by id i → (d : Deal) → deal ≡ Some d → test d ≡ true
 open_by None i deal test private h none d is = absurd (cc (sym none ∙ is))
 open_by (Some id) i deal test private h some d is = sym (ap (holds_of test) is) ∙ h
 
@@ -89,12 +89,20 @@ lives bid imp =
     bounded : (life : ℕ) → 1 ≤ life → (1 ≤ min life 604800) × (min life 604800 ≤ 604800)
     bounded life some = (omega (arith, some), omega arith)
 
+-- a rule holds, and no later one refuses the bid
+let_in : (b : Bool) (reason : Reason) (later : Option Reason) → refused_unless b reason later ≡ None → (b ≡ true) × (later ≡ None)
+let_in true reason later h = (refl, h)
+let_in false reason later h = absurd (cc h)
+
 -- a bid that each rule lets in
-module _ (c : Case) (h : first_fault (rules c) ≡ None) where
+module _ (c : Case) (h : refusal_of c ≡ None) where
   admitted_fits : IsAdmittedOffer (length c.campaigns) (length c.request.imps) (offer c) × (kept_length c.bidid c.seat c.bid ≤ MOST_KEPT)
   admitted_fits =
-      let sold = holds_at 0 (rules c) h in
-      let eligible = holds_at 2 (rules c) h in
+      let first = let_in (can_be_sold c) Reason.NotEligible _ h in
+      let second = let_in (seat_allowed c) Reason.SeatNotAllowed _ first.1 in
+      let third = let_in (deal_eligible c) Reason.DealNotEligible _ second.1 in
+      let sold = first.0 in
+      let eligible = third.0 in
       let whole = and_true c.bid.whole _ sold in
       let price = and_true (is_ok c.bid.price) _ whole.1 in
       let imp = and_true (holds_of (λ (i : Imp). i.sold) (imp_of c)) _ price.1 in
@@ -141,7 +149,8 @@ module _ (r : BidRequest) (cs : List Campaign) (x : SeatedBid) where
   abbrev case : Case
   case = record { request = r; campaigns = cs; bidder = x.bidder; bidid = x.bidid; seat = x.seat; bid = x.bid }
 
-  fits_as : (o : Offer) → offer_of r cs x ≡ o → IsOffer (length cs) (length r.imps) o → o.reason ≢ 0 → o.reason ≢ 102 → o.reason ≢ 1001 → (NeedsTexts o → kept_length x.bidid x.seat x.bid ≤ MOST_KEPT) → FitsDay r cs x
+  fits_as : (o : Offer) → offer_of r cs x ≡ o → IsOffer (length cs) (length r.imps) o → o.reason ≢ 0 → o.reason ≢ 102 → o.reason ≢ 1001
+      → (NeedsTexts o → kept_length x.bidid x.seat x.bid ≤ MOST_KEPT) → FitsDay r cs x
   fits_as o same is awarded lost over texts = record {
     offer = subst (IsOffer (length cs) (length r.imps)) (sym same) is;
     not_awarded = λ e. awarded (sym (ap (λ (p : Offer). p.reason) same) ∙ e);
@@ -150,13 +159,13 @@ module _ (r : BidRequest) (cs : List Campaign) (x : SeatedBid) where
     texts = λ needs. texts (subst NeedsTexts same needs);
   }
 
-  fits_by : (o : Option Reason) → first_fault (rules case) ≡ o → FitsDay r cs x
+  fits_by : (o : Option Reason) → refusal_of case ≡ o → FitsDay r cs x
   fits_by None e =
       let fits = admitted_fits case e in
-      fits_as (offer case) (ap (λ p. offer_by r x.bid (judged_by (offer case) p)) e) (inl fits.0) (λ a. omega (arith, a)) (λ a. omega (arith, a)) (λ a. omega (arith, a)) (λ needs. fits.1)
+      fits_as (offer case) (ap (λ p. offer_by r x.bid (admitted_by (offer case) p)) e) (inl fits.0) (λ a. omega (arith, a)) (λ a. omega (arith, a)) (λ a. omega (arith, a)) (λ needs. fits.1)
   fits_by (Some reason) e =
       let n = few reason in
-      fits_as (refused_offer r x.bid reason) (ap (λ p. offer_by r x.bid (judged_by (offer case) p)) e)
+      fits_as (refused_offer r x.bid reason) (ap (λ p. offer_by r x.bid (admitted_by (offer case) p)) e)
       (inr (record { reason = refusal reason; imp = or_none_in (imp_has_id x.bid.impid) r.imps NO_IMP; campaign = refl; charge = refl; life = refl }))
       (λ a. omega (arith, n.0, a)) (λ a. n.2 a) (λ a. omega (arith, n.1, a)) (λ needs. absurd (unneeded (number_of reason) n.0 n.1 needs))
     where
@@ -165,4 +174,4 @@ module _ (r : BidRequest) (cs : List Campaign) (x : SeatedBid) where
       unneeded n some low (inr a) = omega (arith, low, a)
 
   pub fits_day : FitsDay r cs x
-  fits_day = fits_by (first_fault (rules case)) refl
+  fits_day = fits_by (refusal_of case) refl

@@ -28,7 +28,8 @@ pub not_zero : (n : ℕ) → (n == 0) ≡ false → 1 ≤ n
 not_zero n h = let other = eqb-false n 0 h in omega arith
 
 -- a floor
-floor_chain : (p q r : Bool) (a b c : PriceFault) (u : Units) → (r ≡ false → u.0 ≤ PRICE_LIMIT) → (units_or_zero (cond (not p) (Err a) (cond q (Err b) (cond r (Err c) (Ok u))))).0 ≤ PRICE_LIMIT
+floor_chain : (p q r : Bool) (a b c : PriceFault) (u : Units) → (r ≡ false → u.0 ≤ PRICE_LIMIT)
+    → (units_or_zero (cond (not p) (Err a) (cond q (Err b) (cond r (Err c) (Ok u))))).0 ≤ PRICE_LIMIT
 floor_chain false q r a b c u few = omega arith
 floor_chain true true r a b c u few = omega arith
 floor_chain true false true a b c u few = omega arith
@@ -43,7 +44,8 @@ floor_low None = omega arith
 floor_low (Some t) = floor_text_low (number_in (Some t))
 
 -- a price
-price_chain : (p q r : Bool) (a b c : PriceFault) (u : Units) → (q ≡ false → 1 ≤ u.0) → (r ≡ false → u.0 ≤ PRICE_LIMIT) → is_in_range (cond (not p) (Err a) (cond q (Err b) (cond r (Err c) (Ok u)))) ≡ true
+price_chain : (p q r : Bool) (a b c : PriceFault) (u : Units) → (q ≡ false → 1 ≤ u.0) → (r ≡ false → u.0 ≤ PRICE_LIMIT)
+    → is_in_range (cond (not p) (Err a) (cond q (Err b) (cond r (Err c) (Ok u)))) ≡ true
 price_chain false q r a b c u some few = refl
 price_chain true true r a b c u some few = refl
 price_chain true false true a b c u some few = refl
@@ -63,14 +65,17 @@ price_ranges v = price_text_ranges (number_in v)
 abbrev pub IsBudget : Units → Type 0
 IsBudget u = (1 ≤ u.0) × (u.0 ≤ BUDGET_LIMIT)
 
-budget_chain : (p q r s : Bool) (a b c d : PriceFault) (u : Units) → (q ≡ false → r ≡ false → s ≡ false → IsBudget u) → is_ok (cond (not p) (Err a) (cond q (Err b) (cond r (Err c) (cond s (Err d) (Ok u))))) ≡ true → IsBudget (units_or_zero (cond (not p) (Err a) (cond q (Err b) (cond r (Err c) (cond s (Err d) (Ok u))))))
+budget_chain : (p q r s : Bool) (a b c d : PriceFault) (u : Units) → (q ≡ false → r ≡ false → s ≡ false → IsBudget u)
+    → is_ok (cond (not p) (Err a) (cond q (Err b) (cond r (Err c) (cond s (Err d) (Ok u))))) ≡ true
+    → IsBudget (units_or_zero (cond (not p) (Err a) (cond q (Err b) (cond r (Err c) (cond s (Err d) (Ok u))))))
 budget_chain false q r s a b c d u is h = absurd (cc h)
 budget_chain true true r s a b c d u is h = absurd (cc h)
 budget_chain true false true s a b c d u is h = absurd (cc h)
 budget_chain true false false true a b c d u is h = absurd (cc h)
 budget_chain true false false false a b c d u is h = is refl refl refl
 
-budget_units : (t : List ℕ) → (numerator t == 0) ≡ false → nat_lt (10 ^ 15 * denominator t) (numerator t * 10 ^ 9) ≡ false → not (numerator t * 10 ^ 9 % denominator t == 0) ≡ false → IsBudget (units (numerator t * 10 ^ 9 / denominator t))
+budget_units : (t : List ℕ) → (numerator t == 0) ≡ false → nat_lt (10 ^ 15 * denominator t) (numerator t * 10 ^ 9) ≡ false
+    → not (numerator t * 10 ^ 9 % denominator t == 0) ≡ false → IsBudget (units (numerator t * 10 ^ 9 / denominator t))
 budget_units t some few whole =
     let n = numerator t * 10 ^ 9 in
     let d = denominator t in

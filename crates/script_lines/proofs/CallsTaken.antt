@@ -1,5 +1,5 @@
 -- The call that a line means is one that a day takes.
-use Rattle.std.proofs.Common.{◌≡◌, inl, inr, ℕ, ◌+◌, ◌*◌, ◌≤◌, List, [], ◌∷◌, map, length, Bool, true, false, cond, ◌&&◌, ◌==◌, nat_le, codes, is_ok, Option, Some, None, Result, Ok, Err, get_or, refl, sym, ap, subst, arith}
+use Rattle.std.proofs.Common.{◌≡◌, ℕ, ◌+◌, ◌*◌, ◌≤◌, List, [], ◌∷◌, map, length, Bool, true, false, cond, ◌&&◌, ◌==◌, nat_le, codes, is_ok, Option, Some, None, Result, Ok, Err, get_or, refl, sym, ap, subst, arith}
 use Rattle.std.specs.List.{list_all, flat_map, enumerate_from}
 use Rattle.std.proofs.lemmas.Bool.{leb-true}
 use Rattle.std.proofs.lemmas.List.{length-map, length-append}
@@ -25,7 +25,7 @@ use Rattle.script_lines.proofs.Formed.{well_formed, undecided}
 use Rattle.script_lines.proofs.Taking.{count_is}
 use Rattle.script_lines.specs.Changes.{change_by, change_in, pair_place}
 use Rattle.script_lines.specs.Members.{answers_in, is_null_or_object, ask_moment, change_number, from_one, moment_in}
-use Rattle.script_lines.specs.Meanings.{Meaning, calls, refused, GivesAnswer, RequestMeans, AskMeans, MeansBy, LineMeans, change_meaning, notice_meaning, tick_meaning}
+use Rattle.script_lines.specs.Meanings.{Meaning, calls, refused, GivesAnswer, RequestMeans, AskMeans, MeansBy, change_meaning, notice_meaning, tick_meaning}
 use Rattle.script_lines.specs.declared.limits.TheConstants.{LATEST_MOMENT, LAST_CHANGE}
 use Rattle.script_lines.proofs.Bounds.{IsBudget, budget_text_is, not_zero, whole_by_low}
 use Rattle.script_lines.proofs.BidsFit.{fits_day}
@@ -47,7 +47,8 @@ few_in n (o ∷ os) =
     omega (arith, e, first, rest)
 
 -- an ask of a request and answers
-asked_taken : (r : BidRequest) (cs : List Campaign) (answers : List (Option BidAnswer)) (now : ℕ) → length answers ≤ 16 → now ≤ LATEST_MOMENT → IsCall (length cs) (ask (ask_of r cs answers now))
+asked_taken : (r : BidRequest) (cs : List Campaign) (answers : List (Option BidAnswer)) (now : ℕ) → length answers ≤ 16 → now ≤ LATEST_MOMENT
+    → IsCall (length cs) (ask (ask_of r cs answers now))
 asked_taken r cs answers now few soon =
     let bids = all_bids answers in
     let offers = map (offer_of r cs) bids in
@@ -82,7 +83,8 @@ ask_soon : (v : Option Tree) (n : ℕ) → ask_moment v ≡ Some n → n ≤ LAT
 ask_soon None n h = let same : 0 ≡ n = cc h in omega (arith, same)
 ask_soon (Some t) n h = moment_soon (Some t) n h
 
-request_taken : (r : Roster) (t : Tree) (ts : List Tree) (now : ℕ) (c : Call) → length ts ≤ length r.bidders → now ≤ LATEST_MOMENT → RequestMeans r t ts now (calls c) → IsCall (length r.campaigns) c
+request_taken : (r : Roster) (t : Tree) (ts : List Tree) (now : ℕ) (c : Call) → length ts ≤ length r.bidders → now ≤ LATEST_MOMENT
+    → RequestMeans r t ts now (calls c) → IsCall (length r.campaigns) c
 request_taken r t ts now (ask a) few soon h =
     let long = AllZip-long (GivesAnswer h.asked.id) ts h.answered h.answers in
     let bidders = r.few_bidders in
@@ -91,7 +93,9 @@ request_taken r t ts now (notice kind auction award) few soon h = absurd h
 request_taken r t ts now (tick moment) few soon h = absurd h
 request_taken r t ts now (set_budget change) few soon h = absurd h
 
-ask_taken : (r : Roster) (t : Tree) (answers : Option (List Tree)) (now : Option ℕ) (c : Call) → ((ts : List Tree) → answers ≡ Some ts → length ts ≤ length r.bidders) → ((n : ℕ) → now ≡ Some n → n ≤ LATEST_MOMENT) → AskMeans r t answers now (calls c) → IsCall (length r.campaigns) c
+ask_taken : (r : Roster) (t : Tree) (answers : Option (List Tree)) (now : Option ℕ) (c : Call)
+    → ((ts : List Tree) → answers ≡ Some ts → length ts ≤ length r.bidders) → ((n : ℕ) → now ≡ Some n → n ≤ LATEST_MOMENT)
+    → AskMeans r t answers now (calls c) → IsCall (length r.campaigns) c
 ask_taken r t None now c few soon h = absurd (cc h)
 ask_taken r t (Some ts) None c few soon h = absurd (cc h)
 ask_taken r t (Some ts) (Some n) c few soon h = request_taken r t ts n c (few ts refl) (soon n refl) h
@@ -120,12 +124,14 @@ number_taken (Some k) n h = by (k == 0) refl h
     by true zero is = absurd (cc is)
     by false other is = let same : k ≡ n = cc is in let some = not_zero k other in omega arith
 
-change_taken : (n campaign : ℕ) (change : Option ℕ) (budget : Result Units PriceFault) → ((k : ℕ) → change ≡ Some k → 1 ≤ k) → ((u : Units) → budget ≡ Ok u → IsBudget u) → TakenIf n (change_meaning (change_by campaign change budget))
+change_taken : (n campaign : ℕ) (change : Option ℕ) (budget : Result Units PriceFault) → ((k : ℕ) → change ≡ Some k → 1 ≤ k)
+    → ((u : Units) → budget ≡ Ok u → IsBudget u) → TakenIf n (change_meaning (change_by campaign change budget))
 change_taken n campaign None budget some range = tt
 change_taken n campaign (Some k) (Err fault) some range = tt
 change_taken n campaign (Some k) (Ok u) some range = (some k refl, range u refl)
 
-named_taken : (n : ℕ) (campaigns : List Campaign) (seat cid change budget : Option (List ℕ)) → TakenIf n (change_meaning (change_in campaigns seat cid change budget))
+named_taken : (n : ℕ) (campaigns : List Campaign) (seat cid change budget : Option (List ℕ))
+    → TakenIf n (change_meaning (change_in campaigns seat cid change budget))
 named_taken n campaigns None cid change budget = tt
 named_taken n campaigns (Some seat) None change budget = tt
 named_taken n campaigns (Some seat) (Some cid) None budget = tt
@@ -135,14 +141,11 @@ named_taken n campaigns (Some seat) (Some cid) (Some change) (Some budget) =
     (λ k e. number_taken (whole_by LAST_CHANGE (Some change)) k e)
     (λ u e. subst (λ r. IsBudget (units_or_zero r)) e (budget_text_is (Some budget) (ap is_ok e)))
 
-taken_by : (r : Roster) (t : Tree) (request kind moment budget : Option Tree) (c : Call) → MeansBy r t request kind moment budget (calls c) → IsCall (length r.campaigns) c
+taken_by : (r : Roster) (t : Tree) (request kind moment budget : Option Tree) (c : Call) → MeansBy r t request kind moment budget (calls c)
+    → IsCall (length r.campaigns) c
 taken_by r t (Some request) kind moment budget c h = ask_taken r request (answers_in (length r.bidders) (member_in (codes "answers") t)) (ask_moment (member_in (codes "now") t)) c (λ ts e. answers_few (length r.bidders) (member_in (codes "answers") t) ts e) (λ n e. ask_soon (member_in (codes "now") t) n e) h
 taken_by r t None (Some kind) moment budget c h = subst (TakenIf (length r.campaigns)) (sym h) (notice_taken (length r.campaigns) _ _ _)
 taken_by r t None None (Some moment) budget c h = subst (TakenIf (length r.campaigns)) (sym h) (tick_taken (length r.campaigns) (moment_in (Some moment)) (λ k e. moment_soon (Some moment) k e))
 taken_by r t None None None (Some budget) c h =
     subst (TakenIf (length r.campaigns)) (sym h) (named_taken (length r.campaigns) r.campaigns (text_in (member_in (codes "seat") t)) (text_in (member_in (codes "cid") t)) (number_in (member_in (codes "change") t)) (number_in (Some budget)))
 taken_by r t None None None None c h = absurd (cc h)
-
-pub call_taken : (r : Roster) (line : List ℕ) (c : Call) → LineMeans r line (calls c) → IsCall (length r.campaigns) c
-call_taken r line c (inl (t, is, h)) = taken_by r t _ _ _ _ c h
-call_taken r line c (inr (f, other, fault, e)) = absurd (cc e)

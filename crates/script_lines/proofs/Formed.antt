@@ -38,7 +38,8 @@ ordered n [] = λ i j d before below. absurd (omega arith)
 ordered n (x ∷ xs) = pairs_cons IsBefore (kept_of (n, x)) (kept_from (n + 1) xs) (above (suc n) (n + 1) xs (omega arith)) (ordered (n + 1) xs)
 
 module _ (r : BidRequest) (cs : List Campaign) where
-  needed : (n place : ℕ) (bids : List SeatedBid) (o : Offer) → All (FitsDay r cs) bids → slice_get (map (offer_of r cs) bids) place ≡ Some o → NeedsTexts o → Any (AreTextsOf (n + place)) (kept_from n bids)
+  needed : (n place : ℕ) (bids : List SeatedBid) (o : Offer) → All (FitsDay r cs) bids → slice_get (map (offer_of r cs) bids) place ≡ Some o
+      → NeedsTexts o → Any (AreTextsOf (n + place)) (kept_from n bids)
   needed n place [] o fit at needs = absurd (cc at)
   needed n zero (x ∷ xs) o fit at needs =
       let same : offer_of r cs x ≡ o = cc at in
@@ -92,7 +93,8 @@ module _ (r : BidRequest) (cs : List Campaign) (bids : List SeatedBid) (offers :
       zero_add : (n : ℕ) → 0 + n ≡ n
       zero_add n = omega arith
 
-  pub well_formed : (a : Ask) → a.imps ≡ map id_of r.imps → a.offers ≡ offers → a.kept ≡ kept → a.now < 2 ^ 63 → length offers ≤ 1024 → IsWellFormed (length cs) a
+  pub well_formed : (a : Ask) → a.imps ≡ map id_of r.imps → a.offers ≡ offers → a.kept ≡ kept → a.now < 2 ^ 63 → length offers ≤ 1024
+      → IsWellFormed (length cs) a
   well_formed a imps_are offers_are kept_are soon few =
       let many : length a.imps ≡ length r.imps = ap length imps_are ∙ length-map r.imps id_of in
       record {

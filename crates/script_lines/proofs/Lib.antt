@@ -4,7 +4,6 @@ pub mod Views
 pub mod OneFault
 pub mod OneMeaning
 pub mod Bounds
-pub mod Judged
 pub mod SomeRequest
 pub mod SomeRoster
 pub mod SomeMeaning

@@ -19,7 +19,9 @@ use Rattle.adx_json.proofs.TextLeads.{tail_wide}
 abbrev Reach : ℕ → Mode → List Frame → List ℕ → Type 0
 Reach limit m fs bytes = (last : Mode) × (around : List Frame) × Reaches limit m fs bytes last around
 
-reach_by : (limit : ℕ) (m : Mode) (fs : List Frame) (b : ℕ) (bytes more : List ℕ) (s : Step) → step limit m fs b ≡ s → ((next : Mode) (gs : List Frame) → stop_of limit next gs (bytes ++ more) ≡ None → Reach limit next gs bytes) → goes_on limit m b (bytes ++ more) s ≡ None → Reach limit m fs (b ∷ bytes)
+reach_by : (limit : ℕ) (m : Mode) (fs : List Frame) (b : ℕ) (bytes more : List ℕ) (s : Step) → step limit m fs b ≡ s
+    → ((next : Mode) (gs : List Frame) → stop_of limit next gs (bytes ++ more) ≡ None → Reach limit next gs bytes)
+    → goes_on limit m b (bytes ++ more) s ≡ None → Reach limit m fs (b ∷ bytes)
 reach_by limit m fs b bytes more (moves next gs) is later h =
     let r = later next gs h in
     (r.0, r.1, (next, gs, is, r.2))
@@ -54,7 +56,9 @@ no_tail t b u (Some o) low e h =
     absurd (omega (arith, low, wide))
 no_tail t b u None low e h = none_is_some (utf8_run (Some t) (b ∷ [])) u (runs_off (Some t) b [] e) h
 
-split_by : (t : Option Tail) (a : ℕ) (front : List ℕ) (b : ℕ) (u : Option Tail) (s : Option (Option Tail)) → utf8_step t a ≡ s → ((next : Option Tail) → utf8_run next (front ++ b ∷ []) ≡ Some u → utf8_run next front ≡ Some None) → utf8_run t (a ∷ (front ++ b ∷ [])) ≡ Some u → utf8_run t (a ∷ front) ≡ Some None
+split_by : (t : Option Tail) (a : ℕ) (front : List ℕ) (b : ℕ) (u : Option Tail) (s : Option (Option Tail)) → utf8_step t a ≡ s
+    → ((next : Option Tail) → utf8_run next (front ++ b ∷ []) ≡ Some u → utf8_run next front ≡ Some None)
+    → utf8_run t (a ∷ (front ++ b ∷ [])) ≡ Some u → utf8_run t (a ∷ front) ≡ Some None
 split_by t a front b u (Some next) e later h = runs_on t next a front e ∙ later next (sym (runs_on t next a (front ++ b ∷ []) e) ∙ h)
 split_by t a front b u None e later h = absurd (none_is_some (utf8_run t (a ∷ (front ++ b ∷ []))) u (runs_off t a (front ++ b ∷ []) e) h)
 

@@ -1,20 +1,18 @@
 -- A line has one meaning, and a roster line one roster or one refusal.
-use Rattle.std.proofs.Common.{◌≡◌, ◌≢◌, inl, inr, ℕ, List, [], ◌∷◌, Option, Some, None, Result, Ok, Err, refl, sym, ap, ◌∙◌, subst}
+use Rattle.std.proofs.Common.{◌≡◌, ◌≢◌, inl, inr, ℕ, List, Option, Some, None, refl, sym, ap, ◌∙◌, subst}
 use Rattle.std.specs.List.{AllZip}
 use Rattle.adx_json.specs.Tree.{Tree}
 use Rattle.adx_json.specs.Grammar.{IsJson}
 use Rattle.adx_json.specs.Faults.{IsFault}
 use Rattle.adx_json.specs.declared.fault.JsonFault.{JsonFault}
+use Rattle.adx_json.proofs.Listing.{zip_same}
 use Rattle.adx_json.proofs.OneTree.{one_json}
-use Rattle.rtb_request.specs.Requests.{request_in}
-use Rattle.rtb_request.specs.Seen.{seen_request}
-use Rattle.rtb_response.specs.Answers.{answer_in}
-use Rattle.rtb_response.specs.Seen.{seen_answer}
+use Rattle.rtb_request.specs.Requests.{request_fault}
+use Rattle.rtb_response.specs.Answers.{answer_fault}
 use Rattle.rtb_response.specs.declared.bid_answer.BidAnswer.{BidAnswer}
 use Rattle.day_rules.specs.declared.ask.Ask.{Ask}
 use Rattle.day_rules.specs.Replies.{ask, notice, tick, set_budget}
-use Rattle.deal_floor.specs.Rosters.{roster_in}
-use Rattle.deal_floor.specs.Seen.{seen_roster}
+use Rattle.deal_floor.specs.Rosters.{IsRoster, roster_fault}
 use Rattle.deal_floor.specs.declared.roster.Roster.{Roster}
 use Rattle.script_lines.specs.Making.{ask_of}
 use Rattle.script_lines.specs.Meanings.{Meaning, calls, refused, GivesAnswer, MakesAsk, RequestMeans, AskMeans, MeansBy, ValueMeans, LineMeans}
@@ -25,39 +23,25 @@ use Rattle.script_lines.specs.declared.refusal.RosterRefusal.TheVariants as rost
 use Rattle.script_lines.proofs.OneFault.{one_fault}
 use Rattle.script_lines.proofs.Views.{request_same, answer_same, roster_same}
 
--- an answer is one
-ok_same : {A F : Type 0} (r : Result A F) (x y : A) → r ≡ Ok x → r ≡ Ok y → x ≡ y
-ok_same r x y a b = cc (sym a ∙ b)
+-- a fault is one
+one_fault_of : {F : Type 0} (o : Option F) (f g : F) → o ≡ Some f → o ≡ Some g → f ≡ g
+one_fault_of o f g a b = cc (sym a ∙ b)
 
-err_same : {A F : Type 0} (r : Result A F) (f g : F) → r ≡ Err f → r ≡ Err g → f ≡ g
-err_same r f g a b = cc (sym a ∙ b)
-
-never_both : {A F : Type 0} (r : Result A F) (x : A) (f : F) → r ≡ Ok x → r ≡ Err f → ⊥
-never_both r x f a b = cc (sym a ∙ b)
+never_both : {F : Type 0} (o : Option F) (f : F) → o ≡ None → o ≡ Some f → ⊥
+never_both o f a b = cc (sym a ∙ b)
 
 -- an element of the answers gives one answer
 gives_same : (auction : List ℕ) (t : Tree) (o p : Option BidAnswer) → GivesAnswer auction t o → GivesAnswer auction t p → o ≡ p
 gives_same auction t None None a b = refl
-gives_same auction t None (Some y) (f, is) b = absurd (never_both (answer_in auction t) (seen_answer y) f b is)
-gives_same auction t (Some x) None a (f, is) = absurd (never_both (answer_in auction t) (seen_answer x) f a is)
-gives_same auction t (Some x) (Some y) a b = ap Some (answer_same x y (ok_same (answer_in auction t) (seen_answer x) (seen_answer y) a b))
-
-zip_same : (auction : List ℕ) (ts : List Tree) (os ps : List (Option BidAnswer)) → AllZip (GivesAnswer auction) ts os → AllZip (GivesAnswer auction) ts ps → os ≡ ps
-zip_same auction [] [] [] a b = refl
-zip_same auction [] [] (p ∷ ps) a b = absurd b
-zip_same auction [] (o ∷ os) ps a b = absurd a
-zip_same auction (t ∷ ts) [] ps a b = absurd a
-zip_same auction (t ∷ ts) (o ∷ os) [] a b = absurd b
-zip_same auction (t ∷ ts) (o ∷ os) (p ∷ ps) a b =
-    let head = gives_same auction t o p a.0 b.0 in
-    let tail = zip_same auction ts os ps a.1 b.1 in
-    λ i. head i ∷ tail i
+gives_same auction t None (Some y) (f, is) b = absurd (never_both (answer_fault auction t) f b.0 is)
+gives_same auction t (Some x) None a (f, is) = absurd (never_both (answer_fault auction t) f a.0 is)
+gives_same auction t (Some x) (Some y) a b = ap Some (answer_same auction t x y a b)
 
 -- a request makes one ask
 makes_same : (r : Roster) (t : Tree) (ts : List Tree) (now : ℕ) (a b : Ask) → MakesAsk r t ts now a → MakesAsk r t ts now b → a ≡ b
 makes_same r t ts now a b x y =
-    let asked = request_same x.asked y.asked (ok_same (request_in t) (seen_request x.asked) (seen_request y.asked) x.request y.request) in
-    let answered = zip_same x.asked.id ts x.answered y.answered x.answers (subst (λ q. AllZip (GivesAnswer q.id) ts y.answered) (sym asked) y.answers) in
+    let asked = request_same t x.asked y.asked x.request y.request in
+    let answered = zip_same (GivesAnswer x.asked.id) (gives_same x.asked.id) ts x.answered y.answered x.answers (subst (λ q. AllZip (GivesAnswer q.id) ts y.answered) (sym asked) y.answers) in
     x.made ∙ (λ i. ask_of (asked i) r.campaigns (answered i) now) ∙ sym y.made
 
 request_one : (r : Roster) (t : Tree) (ts : List Tree) (now : ℕ) (m n : Meaning) → RequestMeans r t ts now m → RequestMeans r t ts now n → m ≡ n
@@ -65,23 +49,25 @@ request_one r t ts now (calls (ask a)) (calls (ask b)) x y = ap (λ c. calls (as
 request_one r t ts now (calls (ask a)) (calls (notice k q w)) x y = absurd y
 request_one r t ts now (calls (ask a)) (calls (tick k)) x y = absurd y
 request_one r t ts now (calls (ask a)) (calls (set_budget k)) x y = absurd y
-request_one r t ts now (calls (ask a)) (refused why) x (f, is, e) = absurd (never_both (request_in t) (seen_request x.asked) f x.request is)
+request_one r t ts now (calls (ask a)) (refused why) x (f, is, e) = absurd (never_both (request_fault t) f x.request.0 is)
 request_one r t ts now (calls (notice k q w)) n x y = absurd x
 request_one r t ts now (calls (tick k)) n x y = absurd x
 request_one r t ts now (calls (set_budget k)) n x y = absurd x
-request_one r t ts now (refused why) (calls (ask b)) (f, is, e) y = absurd (never_both (request_in t) (seen_request y.asked) f y.request is)
+request_one r t ts now (refused why) (calls (ask b)) (f, is, e) y = absurd (never_both (request_fault t) f y.request.0 is)
 request_one r t ts now (refused why) (calls (notice k q w)) x y = absurd y
 request_one r t ts now (refused why) (calls (tick k)) x y = absurd y
 request_one r t ts now (refused why) (calls (set_budget k)) x y = absurd y
 request_one r t ts now (refused why) (refused other) (f, is, e) (g, is', e') =
-    ap refused (e ∙ ap Request (err_same (request_in t) f g is is') ∙ sym e')
+    ap refused (e ∙ ap Request (one_fault_of (request_fault t) f g is is') ∙ sym e')
 
-ask_one : (r : Roster) (t : Tree) (answers : Option (List Tree)) (now : Option ℕ) (m n : Meaning) → AskMeans r t answers now m → AskMeans r t answers now n → m ≡ n
+ask_one : (r : Roster) (t : Tree) (answers : Option (List Tree)) (now : Option ℕ) (m n : Meaning) → AskMeans r t answers now m
+    → AskMeans r t answers now n → m ≡ n
 ask_one r t None now m n a b = a ∙ sym b
 ask_one r t (Some ts) None m n a b = a ∙ sym b
 ask_one r t (Some ts) (Some now) m n a b = request_one r t ts now m n a b
 
-means_one : (r : Roster) (t : Tree) (request kind moment budget : Option Tree) (m n : Meaning) → MeansBy r t request kind moment budget m → MeansBy r t request kind moment budget n → m ≡ n
+means_one : (r : Roster) (t : Tree) (request kind moment budget : Option Tree) (m n : Meaning) → MeansBy r t request kind moment budget m
+    → MeansBy r t request kind moment budget n → m ≡ n
 means_one r t (Some request) kind moment budget m n a b = ask_one r request _ _ m n a b
 means_one r t None (Some kind) moment budget m n a b = a ∙ sym b
 means_one r t None None (Some moment) budget m n a b = a ∙ sym b
@@ -110,17 +96,17 @@ one_meaning r line m n (inr (f, other, fault, e)) (inr (g, other', fault', e')) 
 -- a line is one roster's
 pub one_roster : (line : List ℕ) (r s : Roster) → IsRosterLine line r → IsRosterLine line s → r ≡ s
 one_roster line r s (t, is, a) (u, is', b) =
-    roster_same r s (ok_same (roster_in t) (seen_roster r) (seen_roster s) a (ap roster_in (one_json line t u is is') ∙ b))
+    roster_same t r s a (subst (λ v. IsRoster v s) (one_json line u t is' is) b)
 
 -- a roster's line isn't refused
 pub roster_not_refused : (line : List ℕ) (r : Roster) (why : RosterRefusal) → IsRosterLine line r → RefusesRosterLine line why → ⊥
-roster_not_refused line r why (t, is, a) (inl (u, is', (f, b, e))) = never_both (roster_in t) (seen_roster r) f a (ap roster_in (one_json line t u is is') ∙ b)
+roster_not_refused line r why (t, is, a) (inl (u, is', (f, b, e))) = never_both (roster_fault t) f a.0 (ap roster_fault (one_json line t u is is') ∙ b)
 roster_not_refused line r why (t, is, a) (inr (f, other, fault, e)) = json_no_fault line t f is other fault
 
 -- and a line is refused in one way
 pub one_refusal : (line : List ℕ) (why other : RosterRefusal) → RefusesRosterLine line why → RefusesRosterLine line other → why ≡ other
 one_refusal line why other (inl (t, is, (f, a, e))) (inl (u, is', (g, b, e'))) =
-    e ∙ ap roster_refusals.Member (err_same (roster_in t) f g a (ap roster_in (one_json line t u is is') ∙ b)) ∙ sym e'
+    e ∙ ap roster_refusals.Member (one_fault_of (roster_fault t) f g a (ap roster_fault (one_json line t u is is') ∙ b)) ∙ sym e'
 one_refusal line why other (inl (t, is, a)) (inr (f, ne, fault, e)) = absurd (json_no_fault line t f is ne fault)
 one_refusal line why other (inr (f, ne, fault, e)) (inl (t, is, a)) = absurd (json_no_fault line t f is ne fault)
 one_refusal line why other (inr (f, ne, fault, e)) (inr (g, ne', fault', e')) =

@@ -1,5 +1,5 @@
 -- No line is without a meaning, and no roster line without a roster or a refusal.
-use Rattle.std.proofs.Common.{◌≡◌, ◌≢◌, inl, inr, ℕ, zero, suc, ◌+◌, ◌<◌, ◌≤◌, List, [], ◌∷◌, length, take, Option, Some, None, Ok, refl, ap, ◌∙◌, arith}
+use Rattle.std.proofs.Common.{◌≡◌, ◌≢◌, inl, inr, ℕ, zero, suc, ◌+◌, ◌<◌, ◌≤◌, List, [], ◌∷◌, length, take, Option, Some, None, refl, arith}
 use Rattle.std.specs.List.{AllZip}
 use Rattle.std.proofs.lemmas.Bool.{cases_order}
 use Rattle.adx_json.specs.Tree.{Tree}
@@ -8,14 +8,13 @@ use Rattle.adx_json.specs.Faults.{IsFault, IsFaultPlace, BeginsText, BeginsLevel
 use Rattle.adx_json.specs.Machine.{at_value}
 use Rattle.adx_json.specs.declared.fault.JsonFault.{JsonFault}
 use Rattle.adx_json.proofs.Judged.{reached_begins}
-use Rattle.adx_json.specs.Checks.{first_fault, judged_by}
-use Rattle.rtb_request.specs.Requests.{request_checks, request_view}
+use Rattle.rtb_request.specs.Requests.{request_fault}
 use Rattle.rtb_request.specs.declared.fault.RequestFault.{RequestFault}
-use Rattle.rtb_response.specs.Answers.{answer_checks, answer_view}
+use Rattle.rtb_response.specs.Answers.{answer_fault}
 use Rattle.rtb_response.specs.declared.bid_answer.BidAnswer.{BidAnswer}
 use Rattle.rtb_response.specs.declared.fault.AnswerFault.{AnswerFault}
 use Rattle.day_rules.specs.Replies.{ask}
-use Rattle.deal_floor.specs.Rosters.{roster_checks, roster_view}
+use Rattle.deal_floor.specs.Rosters.{roster_fault}
 use Rattle.deal_floor.specs.declared.fault.RosterFault.{RosterFault}
 use Rattle.deal_floor.specs.declared.roster.Roster.{Roster}
 use Rattle.script_lines.specs.Making.{ask_of}
@@ -27,32 +26,33 @@ use Rattle.script_lines.proofs.SomeRequest.{some_request, some_answer}
 use Rattle.script_lines.proofs.SomeRoster.{some_roster}
 
 -- an element of the answers gives an answer or none
-answer_by : (auction : List ℕ) (t : Tree) (o : Option AnswerFault) → first_fault (answer_checks auction t) ≡ o → (x : Option BidAnswer) × GivesAnswer auction t x
-answer_by auction t (Some f) e = (None, (f, ap (judged_by (answer_view t)) e))
+answer_by : (auction : List ℕ) (t : Tree) (o : Option AnswerFault) → answer_fault auction t ≡ o → (x : Option BidAnswer) × GivesAnswer auction t x
+answer_by auction t (Some f) e = (None, (f, e))
 answer_by auction t None e =
     let a = some_answer auction t e in
-    (Some a.0, ap (judged_by (answer_view t)) e ∙ ap Ok a.1)
+    (Some a.0, (e, a.1))
 
 some_answers : (auction : List ℕ) (ts : List Tree) → (xs : List (Option BidAnswer)) × AllZip (GivesAnswer auction) ts xs
 some_answers auction [] = ([], tt)
 some_answers auction (t ∷ ts) =
-    let first = answer_by auction t (first_fault (answer_checks auction t)) refl in
+    let first = answer_by auction t (answer_fault auction t) refl in
     let rest = some_answers auction ts in
     (first.0 ∷ rest.0, (first.1, rest.1))
 
 -- there is no value without a meaning
-request_by : (r : Roster) (t : Tree) (ts : List Tree) (now : ℕ) (o : Option RequestFault) → first_fault (request_checks t) ≡ o → ((m : Meaning) → RequestMeans r t ts now m → ⊥) → ⊥
-request_by r t ts now (Some f) e none = none (refused (Request f)) (f, ap (judged_by (request_view t)) e, refl)
+request_by : (r : Roster) (t : Tree) (ts : List Tree) (now : ℕ) (o : Option RequestFault) → request_fault t ≡ o
+    → ((m : Meaning) → RequestMeans r t ts now m → ⊥) → ⊥
+request_by r t ts now (Some f) e none = none (refused (Request f)) (f, e, refl)
 request_by r t ts now None e none =
     let asked = some_request t e in
     let answered = some_answers asked.0.id ts in
     none (calls (ask (ask_of asked.0 r.campaigns answered.0 now)))
-    (record { asked = asked.0; answered = answered.0; request = ap (judged_by (request_view t)) e ∙ ap Ok asked.1; answers = answered.1; made = refl })
+    (record { asked = asked.0; answered = answered.0; request = (e, asked.1); answers = answered.1; made = refl })
 
 some_ask : (r : Roster) (t : Tree) (answers : Option (List Tree)) (now : Option ℕ) → ((m : Meaning) → AskMeans r t answers now m → ⊥) → ⊥
 some_ask r t None now none = none (refused NoCall) refl
 some_ask r t (Some ts) None none = none (refused NoCall) refl
-some_ask r t (Some ts) (Some now) none = request_by r t ts now (first_fault (request_checks t)) refl none
+some_ask r t (Some ts) (Some now) none = request_by r t ts now (request_fault t) refl none
 
 some_by : (r : Roster) (t : Tree) (request kind moment budget : Option Tree) → ((m : Meaning) → MeansBy r t request kind moment budget m → ⊥) → ⊥
 some_by r t (Some request) kind moment budget none = some_ask r request _ _ none
@@ -97,12 +97,13 @@ some_meaning r line none =
     some_fault line (λ t is. some_value r t (λ m means. none m (inl (t, is, means)))) (λ f other fault. none (refused (Json f)) (inr (f, other, fault, refl)))
 
 -- there is no first line that is neither a roster's nor refused
-roster_by : (line : List ℕ) (t : Tree) (o : Option RosterFault) → first_fault (roster_checks t) ≡ o → IsJson line t → ((r : Roster) → IsRosterLine line r → ⊥) → ((why : RosterRefusal) → RefusesRosterLine line why → ⊥) → ⊥
-roster_by line t (Some f) e is none unrefused = unrefused (RosterRefusal.Member f) (inl (t, is, (f, ap (judged_by (roster_view t)) e, refl)))
+roster_by : (line : List ℕ) (t : Tree) (o : Option RosterFault) → roster_fault t ≡ o → IsJson line t → ((r : Roster) → IsRosterLine line r → ⊥)
+    → ((why : RosterRefusal) → RefusesRosterLine line why → ⊥) → ⊥
+roster_by line t (Some f) e is none unrefused = unrefused (RosterRefusal.Member f) (inl (t, is, (f, e, refl)))
 roster_by line t None e is none unrefused =
     let r = some_roster t e in
-    none r.0 (t, is, ap (judged_by (roster_view t)) e ∙ ap Ok r.1)
+    none r.0 (t, is, (e, r.1))
 
 pub some_first : (line : List ℕ) → ((r : Roster) → IsRosterLine line r → ⊥) → ((why : RosterRefusal) → RefusesRosterLine line why → ⊥) → ⊥
 some_first line none unrefused =
-    some_fault line (λ t is. roster_by line t (first_fault (roster_checks t)) refl is none unrefused) (λ f other fault. unrefused (RosterRefusal.Json f) (inr (f, other, fault, refl)))
+    some_fault line (λ t is. roster_by line t (roster_fault t) refl is none unrefused) (λ f other fault. unrefused (RosterRefusal.Json f) (inr (f, other, fault, refl)))

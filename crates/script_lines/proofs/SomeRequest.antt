@@ -1,41 +1,35 @@
--- The view of a request or of an answer that was judged well is that of a value.
-use Rattle.std.proofs.Common.{◌≡◌, ◌≤◌, ℕ, List, [], ◌∷◌, ◌++◌, map, length, min, Bool, true, false, not, cond, ◌&&◌, codes, None, refl, sym, ap, ap₂, ◌∙◌, subst, append-nil, arith}
+-- An object without a fault says a request, or an answer.
+use Rattle.std.proofs.Common.{◌≡◌, ◌≤◌, ℕ, List, [], ◌∷◌, ◌++◌, map, length, Bool, true, false, not, cond, ◌&&◌, nat_le, codes, Some, None, refl, sym, ap, ap₂, ◌∙◌, subst, append-nil}
 use Rattle.std.proofs.Math.Seq.{append_snoc}
 use Rattle.std.proofs.lemmas.Bool.{leb-true}
-use Rattle.std.proofs.lemmas.List.{length-map}
+use Rattle.std.proofs.lemmas.List.{length-map, map-append}
 use Rattle.adx_json.specs.Tree.{Tree}
-use Rattle.adx_json.specs.Checks.{first_fault}
-use Rattle.adx_json.specs.Values.{given, text_in, text_or_empty, texts_in, is_number_text}
-use Rattle.rtb_request.specs.Amounts.{floor_in, units_or_zero}
-use Rattle.rtb_request.specs.Deals.{DealView, deal_view, deal_ids, is_in_dollars, with_deal, with_deals}
+use Rattle.adx_json.specs.Rows.{Says, first_among}
+use Rattle.adx_json.specs.Values.{given, given_within, items_in, text_in, text_or_empty, texts_in, is_number_text, whole_or_zero}
+use Rattle.adx_json.proofs.Listing.{holds, none_among, none_at, zip_made}
+use Rattle.rtb_request.specs.Amounts.{floor_in, seconds_in, units_or_zero}
+use Rattle.rtb_request.specs.Deals.{deal_rows, deal_id, is_in_dollars, that_count}
 use Rattle.adx_units.specs.Among.{is_among}
 use Rattle.rtb_request.specs.Distinct.{all_distinct}
-use Rattle.rtb_request.specs.Imps.{ImpView, imp_view, imp_id, imp_deals, imp_checks, imps_checks}
-use Rattle.rtb_request.specs.Requests.{request_checks, request_imps, request_view, takes_dollars}
-use Rattle.rtb_request.specs.Seen.{seen_deal, seen_imp, seen_request}
+use Rattle.rtb_request.specs.Imps.{imp_rows, imp_id, is_sold}
+use Rattle.rtb_request.specs.Requests.{request_fault, request_rows, takes_dollars}
 use Rattle.rtb_request.specs.declared.bid_request.BidRequest.{BidRequest}
 use Rattle.rtb_request.specs.declared.deal.Deal.{Deal}
+use Rattle.rtb_request.specs.declared.fault.RequestFault.TheVariants.{NoImp, TooManyImps, RepeatedImp}
 use Rattle.rtb_request.specs.declared.imp.Imp.{Imp}
 use Rattle.rtb_request.specs.declared.imp.TheConstants.{MOST_SECONDS as MOST_IMP_SECONDS}
-use Rattle.rtb_request.proofs.DealSteps as deals
 use Rattle.rtb_request.proofs.Distinct.{distinct_more}
-use Rattle.rtb_request.proofs.ImpSteps.{ids_seen}
-use Rattle.rtb_response.specs.Answers.{answer_checks, answer_view, bid_count, bids_in, seats_in, seat_view}
-use Rattle.rtb_response.specs.Bids.{bid_view, is_whole_bid}
+use Rattle.rtb_response.specs.Answers.{answer_fault, answer_rows, bid_count, seat_rows}
+use Rattle.rtb_response.specs.Bids.{bid_rows, is_whole_bid}
 use Rattle.rtb_response.specs.Bodies.{body}
 use Rattle.rtb_response.specs.Prices.{price_in}
-use Rattle.rtb_response.specs.Seen.{seen_bid, seen_seat, seen_answer}
 use Rattle.rtb_response.specs.declared.bid.Bid.{Bid}
 use Rattle.rtb_response.specs.declared.bid.TheConstants.{MOST_SECONDS, MOST_BIDS}
 use Rattle.rtb_response.specs.declared.bid_answer.BidAnswer.{BidAnswer}
 use Rattle.rtb_response.specs.declared.bid_answer.SeatBid.{SeatBid}
-use Rattle.rtb_response.proofs.Seen.{few_bids}
+use Rattle.rtb_response.specs.declared.fault.AnswerFault.TheVariants.{TooManyBids}
+use Rattle.rtb_response.proofs.Counts.{seats_bids}
 use Rattle.script_lines.proofs.Bounds.{floor_low, price_ranges, whole_low}
-use Rattle.script_lines.proofs.Judged.{holds_at, hold_behind, both_hold}
-
-pub seen_map : {A V : Type 0} (seen : A → V) (make : Tree → A) (view : Tree → V) → ((t : Tree) → seen (make t) ≡ view t) → (ts : List Tree) → map seen (map make ts) ≡ map view ts
-seen_map seen make view is [] = refl
-seen_map seen make view is (t ∷ ts) = ap₂ (λ v vs. v ∷ vs) (is t) (seen_map seen make view is ts)
 
 -- a deal
 abbrev deal_at : Tree → Deal
@@ -48,114 +42,114 @@ deal_at t = record {
   in_range = floor_low (given (codes "bidfloor") t);
 }
 
--- deals of these views, no two with one id
-abbrev HasDeals : List DealView → Type 0
-HasDeals vs = (ds : List Deal) × (map seen_deal ds ≡ vs) × (all_distinct (map (λ (d : Deal). d.id) ds) ≡ true)
-
-deal_put : (t : Tree) (vs : List DealView) (b : Bool) → (b ≡ true → is_among (deal_ids vs) (deal_view t).id ≡ false) → HasDeals vs → HasDeals (cond b (vs ++ deal_view t ∷ []) vs)
-deal_put t vs false new h = h
-deal_put t vs true new (ds, is, distinct) = (
-  ds ++ deal_at t ∷ [],
-  deals.pushed_seen ds (deal_at t) ∙ ap (λ us. us ++ deal_view t ∷ []) is,
-  deals.pushed_distinct ds (deal_at t) distinct (sym (deals.among_seen ds (deal_view t).id) ∙ ap (λ us. is_among (deal_ids us) (deal_view t).id) is ∙ new refl),
-)
+deal_says : (t : Tree) → Says deal_rows (Some t) (deal_at t)
+deal_says t = (refl, (refl, (tt, (refl, (refl, (refl, tt))))))
 
 new_by : (a b : Bool) → (a && not b) ≡ true → b ≡ false
 new_by true true h = absurd (cc h)
 new_by true false h = refl
 new_by false b h = absurd (cc h)
 
-deals_from : (vs : List DealView) (ts : List Tree) → HasDeals vs → HasDeals (with_deals vs ts)
-deals_from vs [] h = h
-deals_from vs (t ∷ ts) h =
-    deals_from (with_deal vs t) ts
-    (deal_put t vs (is_in_dollars t && not (is_among (deal_ids vs) (deal_view t).id)) (λ e. new_by (is_in_dollars t) (is_among (deal_ids vs) (deal_view t).id) e) h)
+-- a deal counts, or doesn't
+counted_step : (before : List (List ℕ)) (t : Tree) (us vs : List Tree) (b : Bool) → (b ≡ true → is_among before (deal_id t) ≡ false)
+    → all_distinct before ≡ true
+    → (all_distinct (before ++ deal_id t ∷ []) ≡ true → all_distinct ((before ++ deal_id t ∷ []) ++ map deal_id us) ≡ true)
+    → all_distinct (before ++ map deal_id vs) ≡ true → all_distinct (before ++ map deal_id (cond b (t ∷ us) vs)) ≡ true
+counted_step before t us vs true new h on off =
+    ap all_distinct (sym (append_snoc before (deal_id t) (map deal_id us))) ∙ on (distinct_more before (deal_id t) h (new refl))
+counted_step before t us vs false new h on off = off
+
+-- the ids of the deals that count differ
+counted_differ : (before : List (List ℕ)) (ts : List Tree) → all_distinct before ≡ true → all_distinct (before ++ map deal_id (that_count before ts)) ≡ true
+counted_differ before [] h = ap all_distinct (append-nil before) ∙ h
+counted_differ before (t ∷ ts) h =
+    counted_step before t (that_count (before ++ deal_id t ∷ []) ts) (that_count before ts) (is_in_dollars t && not (is_among before (deal_id t)))
+    (new_by (is_in_dollars t) (is_among before (deal_id t))) h (counted_differ (before ++ deal_id t ∷ []) ts) (counted_differ before ts h)
+
+-- what is made of each of some trees has their ids
+ids_of_made : {X : Type 0} (make : Tree → X) (id : X → List ℕ) (id_at : Tree → List ℕ) → ((t : Tree) → id (make t) ≡ id_at t) → (ts : List Tree)
+    → map id (map make ts) ≡ map id_at ts
+ids_of_made make id id_at is [] = refl
+ids_of_made make id id_at is (t ∷ ts) = ap₂ (λ n ns. n ∷ ns) (is t) (ids_of_made make id id_at is ts)
 
 -- an impression
-abbrev HasImp : Bool → Tree → Type 0
-HasImp dollars t = (m : Imp) × (seen_imp m ≡ imp_view dollars t)
+abbrev deals_in : Tree → List Tree
+deals_in t = that_count [] (items_in (given_within (codes "deals") (given (codes "pmp") t)))
 
-imp_with : (dollars : Bool) (t : Tree) → HasDeals (with_deals [] (imp_deals t)) → HasImp dollars t
-imp_with dollars t (ds, is, distinct) =
-    let v = imp_view dollars t in (
-      record {
-        id = v.id;
-        floor = v.floor;
-        sold = v.sold;
-        private_only = v.private_only;
-        deals = ds;
-        exp = v.exp;
-        in_range = floor_low (given (codes "bidfloor") t);
-        exp_in_range = whole_low MOST_IMP_SECONDS (given (codes "exp") t);
-        distinct = distinct;
-      },
-      λ i. record { id = v.id; floor = v.floor; sold = v.sold; private_only = v.private_only; deals = is i; exp = v.exp },
-    )
+abbrev imp_at : Bool → Tree → Imp
+imp_at dollars t = record {
+  id = imp_id t;
+  floor = units_or_zero (floor_in (given (codes "bidfloor") t));
+  sold = is_sold dollars (Some t);
+  private_only = is_number_text (codes "1") (given_within (codes "private_auction") (given (codes "pmp") t));
+  deals = map deal_at (deals_in t);
+  exp = seconds_in (given (codes "exp") t);
+  in_range = floor_low (given (codes "bidfloor") t);
+  exp_in_range = whole_low MOST_IMP_SECONDS (given (codes "exp") t);
+  distinct = ap all_distinct (ids_of_made deal_at (λ (d : Deal). d.id) deal_id (λ u. refl) (deals_in t)) ∙ counted_differ [] (items_in (given_within (codes "deals") (given (codes "pmp") t))) refl;
+}
 
-imp_at : (dollars : Bool) (t : Tree) → HasImp dollars t
-imp_at dollars t = imp_with dollars t (deals_from [] (imp_deals t) ([], refl, refl))
-
-imps_at : (dollars : Bool) (ts : List Tree) → (ms : List Imp) × (map seen_imp ms ≡ map (imp_view dollars) ts)
-imps_at dollars [] = ([], refl)
-imps_at dollars (t ∷ ts) =
-    let first = imp_at dollars t in
-    let rest = imps_at dollars ts in
-    (first.0 ∷ rest.0, ap₂ (λ v vs. v ∷ vs) first.1 rest.1)
-
-view_ids : (dollars : Bool) (ts : List Tree) → map (λ (v : ImpView). v.id) (map (imp_view dollars) ts) ≡ map imp_id ts
-view_ids dollars [] = refl
-view_ids dollars (t ∷ ts) = ap (λ ns. imp_id t ∷ ns) (view_ids dollars ts)
+imp_says : (dollars : Bool) (t : Tree) → Says (imp_rows dollars []) (Some t) (imp_at dollars t)
+imp_says dollars t =
+    let deals = zip_made (λ u d. Says deal_rows (Some u) d) deal_at deal_says (deals_in t) in
+    (refl, (tt, (refl, (tt, (tt, (refl, (tt, (deals, (refl, (refl, tt))))))))))
 
 not_true : (a : Bool) → not a ≡ true → a ≡ false
 not_true true h = cc
 not_true false h = refl
 
--- the ids of impressions that were judged well differ
-ids_differ : (before : List (List ℕ)) (ts : List Tree) → all_distinct before ≡ true → first_fault (imps_checks before ts) ≡ None → all_distinct (before ++ map imp_id ts) ≡ true
-ids_differ before [] h k = ap all_distinct (append-nil before) ∙ h
-ids_differ before (t ∷ ts) h k =
-    let parts = both_hold (imp_checks before t) (imps_checks (before ++ imp_id t ∷ []) ts) k in
-    let new = holds_at 1 (imp_checks before t) parts.0 in
-    ap all_distinct (sym (append_snoc before (imp_id t) (map imp_id ts)))
-    ∙ ids_differ (before ++ imp_id t ∷ []) ts (distinct_more before (imp_id t) h (not_true (is_among before (imp_id t)) new)) parts.1
+-- the ids of impressions that have no fault differ
+ids_differ : (dollars : Bool) (before ts : List Tree) → all_distinct (map imp_id before) ≡ true
+    → first_among (λ us. imp_rows dollars (map imp_id us)) before ts ≡ None → all_distinct (map imp_id before ++ map imp_id ts) ≡ true
+ids_differ dollars before [] h k = ap all_distinct (append-nil (map imp_id before)) ∙ h
+ids_differ dollars before (t ∷ ts) h k =
+    let parts = none_among (λ us. imp_rows dollars (map imp_id us)) before t ts k in
+    let fresh = holds (not (is_among (map imp_id before) (imp_id t))) (RepeatedImp (imp_id t)) (none_at 1 (imp_rows dollars (map imp_id before)) (Some t) parts.0) in
+    let more : map imp_id (before ++ t ∷ []) ≡ map imp_id before ++ imp_id t ∷ [] = map-append imp_id before (t ∷ []) in
+    let distinct = ap all_distinct more ∙ distinct_more (map imp_id before) (imp_id t) h (not_true (is_among (map imp_id before) (imp_id t)) fresh) in
+    ap all_distinct (sym (append_snoc (map imp_id before) (imp_id t) (map imp_id ts)) ∙ ap (λ ns. ns ++ map imp_id ts) (sym more))
+    ∙ ids_differ dollars (before ++ t ∷ []) ts distinct parts.1
 
 -- a request
+abbrev request_imps : Tree → List Tree
+request_imps t = items_in (given (codes "imp") t)
+
 abbrev HasRequest : Tree → Type 0
-HasRequest t = (r : BidRequest) × (request_view t ≡ seen_request r)
+HasRequest t = (r : BidRequest) × Says request_rows (Some t) r
 
 request_with : (t : Tree) → 1 ≤ length (request_imps t) → length (request_imps t) ≤ 16 → all_distinct (map imp_id (request_imps t)) ≡ true → HasRequest t
 request_with t some few distinct =
-    let v = request_view t in
     let ts = request_imps t in
-    let dollars = takes_dollars t in
-    let ms = imps_at dollars ts in
-    let many : length ms.0 ≡ length ts = sym (length-map ms.0 seen_imp) ∙ ap length ms.1 ∙ length-map ts (imp_view dollars) in
-    let ids : map (λ (m : Imp). m.id) ms.0 ≡ map imp_id ts = sym (ids_seen ms.0) ∙ ap (map (λ (u : ImpView). u.id)) ms.1 ∙ view_ids dollars ts in (
+    let dollars = takes_dollars (Some t) in
+    let imps = zip_made (λ u m. Says (imp_rows dollars []) (Some u) m) (imp_at dollars) (imp_says dollars) ts in
+    let many : length (map (imp_at dollars) ts) ≡ length ts = length-map ts (imp_at dollars) in
+    let ids : map (λ (m : Imp). m.id) (map (imp_at dollars) ts) ≡ map imp_id ts = ids_of_made (imp_at dollars) (λ (m : Imp). m.id) imp_id (λ u. refl) ts in (
       record {
-        id = v.id;
-        imps = ms.0;
-        wseat = v.wseat;
-        bseat = v.bseat;
-        bcat = v.bcat;
-        badv = v.badv;
-        digest = v.digest;
+        id = text_or_empty (given (codes "id") t);
+        imps = map (imp_at dollars) ts;
+        wseat = texts_in (given (codes "wseat") t);
+        bseat = texts_in (given (codes "bseat") t);
+        bcat = texts_in (given (codes "bcat") t);
+        badv = texts_in (given (codes "badv") t);
+        digest = _;
         some_imp = subst (λ n. 1 ≤ n) (sym many) some;
         few_imps = subst (λ n. n ≤ 16) (sym many) few;
         distinct = ap all_distinct ids ∙ distinct;
       },
-      λ i. record { id = v.id; imps = sym ms.1 i; wseat = v.wseat; bseat = v.bseat; bcat = v.bcat; badv = v.badv; digest = v.digest },
+      (refl, (tt, (tt, (tt, (refl, (refl, (refl, (refl, (imps, (refl, tt)))))))))),
     )
 
-pub some_request : (t : Tree) → first_fault (request_checks t) ≡ None → HasRequest t
+pub some_request : (t : Tree) → request_fault t ≡ None → HasRequest t
 some_request t h =
-    let checks = request_checks t in
-    request_with t (leb-true 1 (length (request_imps t)) (holds_at 1 checks h)) (leb-true (length (request_imps t)) 16 (holds_at 2 checks h))
-    (ids_differ [] (request_imps t) refl (hold_behind 8 checks h))
+    let count = length (request_imps t) in
+    request_with t (leb-true 1 count (holds (nat_le 1 count) NoImp (none_at 1 request_rows (Some t) h)))
+    (leb-true count 16 (holds (nat_le count 16) TooManyImps (none_at 2 request_rows (Some t) h)))
+    (ids_differ (takes_dollars (Some t)) [] (request_imps t) refl (none_at 8 request_rows (Some t) h))
 
 -- a bid, a seat, and an answer
 abbrev bid_at : Tree → Bid
 bid_at t = record {
-  whole = is_whole_bid t;
+  whole = is_whole_bid (Some t);
   id = text_or_empty (given (codes "id") t);
   impid = text_or_empty (given (codes "impid") t);
   price = price_in (given (codes "price") t);
@@ -167,34 +161,37 @@ bid_at t = record {
   cid = text_or_empty (given (codes "cid") t);
   cat = texts_in (given (codes "cat") t);
   dealid = text_in (given (codes "dealid") t);
-  exp = (bid_view t).exp;
+  exp = whole_or_zero MOST_SECONDS (given (codes "exp") t);
   body = body t;
   price_in_range = price_ranges (given (codes "price") t);
   exp_in_range = whole_low MOST_SECONDS (given (codes "exp") t);
 }
 
+bid_says : (t : Tree) → Says bid_rows (Some t) (bid_at t)
+bid_says t = (refl, (refl, (refl, (refl, (refl, (refl, (refl, (refl, (refl, (refl, (refl, (refl, (refl, (refl, tt))))))))))))))
+
 abbrev seat_at : Tree → SeatBid
-seat_at t = record { seat = (seat_view t).seat; all_or_none = (seat_view t).all_or_none; bids = map bid_at (bids_in t) }
+seat_at t = record {
+  seat = text_or_empty (given (codes "seat") t);
+  all_or_none = is_number_text (codes "1") (given (codes "group") t);
+  bids = map bid_at (items_in (given (codes "bid") t));
+}
 
-seat_seen : (t : Tree) → seen_seat (seat_at t) ≡ seat_view t
-seat_seen t =
-    let bids = seen_map seen_bid bid_at bid_view (λ u. refl) (bids_in t) in
-    λ i. record { seat = (seat_view t).seat; all_or_none = (seat_view t).all_or_none; bids = bids i }
+seat_says : (t : Tree) → Says seat_rows (Some t) (seat_at t)
+seat_says t = (tt, (refl, (refl, (zip_made (λ u b. Says bid_rows (Some u) b) bid_at bid_says (items_in (given (codes "bid") t)), tt))))
 
-abbrev HasAnswer : Tree → Type 0
-HasAnswer t = (a : BidAnswer) × (answer_view t ≡ seen_answer a)
+abbrev HasAnswer : List ℕ → Tree → Type 0
+HasAnswer auction t = (a : BidAnswer) × Says (answer_rows auction) (Some t) a
 
-answer_with : (t : Tree) → bid_count (seats_in t) ≤ MOST_BIDS → HasAnswer t
-answer_with t few =
-    let seats = map seat_at (seats_in t) in
-    let seen = seen_map seen_seat seat_at seat_view seat_seen (seats_in t) in (
+pub some_answer : (auction : List ℕ) (t : Tree) → answer_fault auction t ≡ None → HasAnswer auction t
+some_answer auction t h =
+    let ts = items_in (given (codes "seatbid") t) in
+    let says = zip_made (λ u s. Says seat_rows (Some u) s) seat_at seat_says ts in
+    let few = leb-true (bid_count ts) MOST_BIDS (holds (nat_le (bid_count ts) MOST_BIDS) TooManyBids (none_at 5 (answer_rows auction) (Some t) h)) in (
       record {
-        bidid = (answer_view t).bidid;
-        seats = seats;
-        few = few_bids seats seats (seats_in t) (min (bid_count (seats_in t)) 65) refl seen refl (omega (arith, few));
+        bidid = text_or_empty (given (codes "bidid") t);
+        seats = map seat_at ts;
+        few = subst (λ n. n ≤ MOST_BIDS) (sym (seats_bids ts (map seat_at ts) says)) few;
       },
-      λ i. record { bidid = (answer_view t).bidid; seats = sym seen i },
+      (tt, (tt, (tt, (tt, (says, (tt, (refl, tt))))))),
     )
-
-pub some_answer : (auction : List ℕ) (t : Tree) → first_fault (answer_checks auction t) ≡ None → HasAnswer t
-some_answer auction t h = answer_with t (leb-true (bid_count (seats_in t)) MOST_BIDS (holds_at 5 (answer_checks auction t) h))

@@ -86,7 +86,8 @@ seat_fits bidder bidid seats taken s rest before now most whole counted few =
     omega arith
 
 -- an answer has as many bids as its seats together
-pub count_is : (bidder : ℕ) (bidid : List ℕ) (seats : List SeatBid) → length (flat_map (bids_of_seat bidder bidid) seats) ≡ sum_by (λ (s : SeatBid). length s.bids) seats
+pub count_is : (bidder : ℕ) (bidid : List ℕ) (seats : List SeatBid)
+    → length (flat_map (bids_of_seat bidder bidid) seats) ≡ sum_by (λ (s : SeatBid). length s.bids) seats
 count_is bidder bidid [] = refl
 count_is bidder bidid (s ∷ seats) =
     length-append (bids_of_seat bidder bidid s) (flat_map (bids_of_seat bidder bidid) seats)
@@ -131,10 +132,12 @@ count_on bidder bidid taken s before now new counted more =
     omega arith
 
 -- its bids fit where 64 do
-pub answer_fits : (bidder : ℕ) (bidid : List ℕ) (seats : List SeatBid) (before most : ℕ) → sum_by (λ (s : SeatBid). length s.bids) seats ≤ 64 → before + 64 < most → before + length (flat_map (bids_of_seat bidder bidid) seats) < most
+pub answer_fits : (bidder : ℕ) (bidid : List ℕ) (seats : List SeatBid) (before most : ℕ) → sum_by (λ (s : SeatBid). length s.bids) seats ≤ 64
+    → before + 64 < most → before + length (flat_map (bids_of_seat bidder bidid) seats) < most
 answer_fits bidder bidid seats before most few room = let e = count_is bidder bidid seats in omega arith
 
-pub answer_few : (bidder : ℕ) (bidid : List ℕ) (seats : List SeatBid) (before after : ℕ) → sum_by (λ (s : SeatBid). length s.bids) seats ≤ 64 → after ≡ before + length (flat_map (bids_of_seat bidder bidid) seats) → after ≤ before + 64
+pub answer_few : (bidder : ℕ) (bidid : List ℕ) (seats : List SeatBid) (before after : ℕ) → sum_by (λ (s : SeatBid). length s.bids) seats ≤ 64
+    → after ≡ before + length (flat_map (bids_of_seat bidder bidid) seats) → after ≤ before + 64
 answer_few bidder bidid seats before after few counted = let e = count_is bidder bidid seats in omega arith
 
 -- the bids of so many answers are as many as an ask takes

@@ -8,6 +8,7 @@ pub none_taken : {X : Type 0} (all left : List X) → left ≡ reverse all → [
 none_taken all left is = ap reverse is ∙ reverse-reverse all
 
 -- an item is taken
-pub one_taken : {X : Type 0} (taken left rest all : List X) (x : X) → left ≡ rest ++ x ∷ [] → taken ++ reverse left ≡ all → (taken ++ x ∷ []) ++ reverse rest ≡ all
+pub one_taken : {X : Type 0} (taken left rest all : List X) (x : X) → left ≡ rest ++ x ∷ [] → taken ++ reverse left ≡ all
+    → (taken ++ x ∷ []) ++ reverse rest ≡ all
 one_taken taken left rest all x is behind =
     append_assoc taken (x ∷ []) (reverse rest) ∙ ap (λ l. taken ++ l) (sym (reverse-append rest (x ∷ [])) ∙ ap reverse (sym is)) ∙ behind

@@ -1,8 +1,7 @@
 -- What was found of a line is what it means.
 use Rattle.std.specs.Prelude.{◌≡◌, ℕ, List, Option, Some, None, Result, Ok, Err}
 use Rattle.adx_json.specs.Tree.{Tree}
-use Rattle.rtb_request.specs.Requests.{request_in}
-use Rattle.rtb_request.specs.Seen.{seen_request}
+use Rattle.rtb_request.specs.Requests.{IsRequest, request_fault}
 use Rattle.rtb_request.specs.declared.bid_request.BidRequest.{BidRequest}
 use Rattle.rtb_request.specs.declared.fault.RequestFault.{RequestFault}
 use Rattle.deal_floor.specs.declared.roster.Roster.{Roster}
@@ -47,8 +46,8 @@ FindsAsk r request answers now result = Finds (λ a. calls (ask a)) (AskMeans r 
 
 -- the tree is this request, or is refused by its first fault
 abbrev pub FindsRequest : Tree → Result BidRequest LineFault → Type 0
-FindsRequest t (Ok r) = request_in t ≡ Ok (seen_request r)
-FindsRequest t (Err (LineFault.Refused why)) = (f : RequestFault) × (request_in t ≡ Err f) × (why ≡ Request f)
+FindsRequest t (Ok r) = IsRequest t r
+FindsRequest t (Err (LineFault.Refused why)) = (f : RequestFault) × (request_fault t ≡ Some f) × (why ≡ Request f)
 FindsRequest t (Err LineFault.OutOfMemory) = Unit {0}
 
 -- a notice was found, or the line is no call

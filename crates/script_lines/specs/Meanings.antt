@@ -1,5 +1,5 @@
 -- What a line of a day's script means: a call of the day, or why it is refused. This project's own.
-use Rattle.std.specs.Prelude.{◌≡◌, ◌≢◌, ◌⊎◌, ℕ, List, length, codes, Option, Some, None, Ok, Err}
+use Rattle.std.specs.Prelude.{◌≡◌, ◌≢◌, ◌⊎◌, ℕ, List, length, codes, Option, Some, None}
 use Rattle.std.specs.List.{AllZip}
 use Rattle.adx_json.specs.Tree.{Tree}
 use Rattle.adx_json.specs.Grammar.{IsJson}
@@ -7,12 +7,10 @@ use Rattle.adx_json.specs.Faults.{IsFault}
 use Rattle.adx_json.specs.Named.{member_in}
 use Rattle.adx_json.specs.declared.fault.JsonFault.{JsonFault}
 use Rattle.adx_json.specs.Values.{number_in, text_in}
-use Rattle.rtb_request.specs.Requests.{request_in}
-use Rattle.rtb_request.specs.Seen.{seen_request}
+use Rattle.rtb_request.specs.Requests.{IsRequest, request_fault}
 use Rattle.rtb_request.specs.declared.bid_request.BidRequest.{BidRequest}
 use Rattle.rtb_request.specs.declared.fault.RequestFault.{RequestFault}
-use Rattle.rtb_response.specs.Answers.{answer_in}
-use Rattle.rtb_response.specs.Seen.{seen_answer}
+use Rattle.rtb_response.specs.Answers.{IsAnswer, answer_fault}
 use Rattle.rtb_response.specs.declared.bid_answer.BidAnswer.{BidAnswer}
 use Rattle.rtb_response.specs.declared.fault.AnswerFault.{AnswerFault}
 use Rattle.notice_book.specs.declared.kind.NoticeKind.{NoticeKind}
@@ -33,14 +31,14 @@ pub data Meaning : Type 0 where
 
 -- what an element of `answers` gives: the answer to the auction that it is, or none
 abbrev pub GivesAnswer : List ℕ → Tree → Option BidAnswer → Type 0
-GivesAnswer auction t None = (f : AnswerFault) × (answer_in auction t ≡ Err f)
-GivesAnswer auction t (Some a) = answer_in auction t ≡ Ok (seen_answer a)
+GivesAnswer auction t None = (f : AnswerFault) × (answer_fault auction t ≡ Some f)
+GivesAnswer auction t (Some a) = IsAnswer auction t a
 
 -- the ask that a request makes with these answers at a moment
 pub record MakesAsk (r : Roster) (asking : Tree) (answering : List Tree) (now : ℕ) (a : Ask) : Type 0 where
   pub asked : BidRequest
   pub answered : List (Option BidAnswer)
-  pub request : request_in asking ≡ Ok (seen_request asked)
+  pub request : IsRequest asking asked
   pub answers : AllZip (GivesAnswer asked.id) answering answered
   pub made : a ≡ ask_of asked r.campaigns answered now
 
@@ -50,7 +48,7 @@ RequestMeans r request answers now (calls (ask a)) = MakesAsk r request answers 
 RequestMeans r request answers now (calls (notice kind auction award)) = ⊥
 RequestMeans r request answers now (calls (tick moment)) = ⊥
 RequestMeans r request answers now (calls (set_budget change)) = ⊥
-RequestMeans r request answers now (refused why) = (f : RequestFault) × (request_in request ≡ Err f) × (why ≡ Request f)
+RequestMeans r request answers now (refused why) = (f : RequestFault) × (request_fault request ≡ Some f) × (why ≡ Request f)
 
 -- a line with a request; answers and moment are looked at first
 abbrev pub AskMeans : Roster → Tree → Option (List Tree) → Option ℕ → Meaning → Type 0

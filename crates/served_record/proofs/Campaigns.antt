@@ -141,9 +141,6 @@ pub rebudgeted_at : (rows : List CampaignRow) (campaign : ℕ) (old row : Campai
 rebudgeted_at rows campaign old row budget at is =
     ap (set rows campaign) (is ∙ ap (rebudgeted budget) at) ∙ sym (changed_at_is (rebudgeted budget) campaign rows old)
 
-pub may_change : (rows : List CampaignRow) (campaign : ℕ) (row : CampaignRow) → campaign < length rows → row ≡ get_or rows campaign row → All MayChange rows → MayChange row
-may_change rows campaign row below at few = subst MayChange (sym at) (few campaign row below)
-
 -- a change keeps a campaign's ranges
 rebudget_sound : (budget : Units) (row : CampaignRow) → IsBudget budget → MayChange row → IsCampaign 2 row → IsCampaign 2 (rebudgeted budget row)
 rebudget_sound budget row within may sound = record {

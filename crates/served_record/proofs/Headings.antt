@@ -1,7 +1,7 @@
 -- What a record takes of a roster: its date, and campaigns that differ.
-use Rattle.std.proofs.Common.{◌≡◌, ℕ, zero, suc, ◌+◌, ◌<◌, ◌≤◌, List, [], ◌∷◌, map, length, drop, get_or, ◌++◌, append_assoc, refl, sym, ap, ap₂, ◌∙◌, subst, arith, Bool, true, false, not, ◌&&◌, ◌||◌, ◌==◌, if◌then◌else◌, bytes_eq, codes, IsTrue}
+use Rattle.std.proofs.Common.{◌≡◌, ℕ, zero, suc, ◌+◌, ◌≤◌, List, [], ◌∷◌, map, length, refl, sym, ap, ap₂, ◌∙◌, subst, arith, Bool, true, false, not, ◌&&◌, ◌||◌, ◌==◌, if◌then◌else◌, bytes_eq, codes, IsTrue}
 use Rattle.std.specs.List.{All, AllPairs, list_all, list_any, enumerate_from}
-use Rattle.std.proofs.lemmas.List.{drop_more, length-map}
+use Rattle.std.proofs.lemmas.List.{length-map}
 use Rattle.std.proofs.lemmas.Slice.Eq.{bytes_eq-Decides}
 use Rattle.adx_units.specs.Number.{is_digit}
 use Rattle.adx_units.specs.declared.units.Units.{Units}
@@ -18,7 +18,6 @@ use Rattle.deal_floor.specs.declared.campaign.Campaign.{Campaign}
 use Rattle.deal_floor.specs.declared.roster.Roster.{Roster}
 use Rattle.day_rules.specs.declared.entry.Entry.{Entry}
 use Rattle.served_record.specs.Days.{IsHeading, budgets_of, campaign_row, campaign_rows}
-use Rattle.served_record.specs.Steps.{opened_row, opened_rows}
 use Rattle.served_record.proofs.Campaigns.{rows_length}
 
 -- the form of a date from a place on, and of so many bytes
@@ -95,14 +94,6 @@ roster_heading r history day rows dated_is rows_are sound =
       each_campaign = sound;
       distinct = subst (AllPairs Differ) (sym rows_are) (rows_differ history 0 r.campaigns r.distinct_pairs);
     }
-
--- the campaigns so far, and one more
-pub campaign_kept : (made : List CampaignRow) (place : ℕ) (cs : List Campaign) (c : Campaign) (row : CampaignRow) (all : List CampaignRow) → place < length cs → c ≡ get_or cs place c → row ≡ opened_row c
-    → made ++ opened_rows (drop place cs) ≡ all → (made ++ row ∷ []) ++ opened_rows (drop (place + 1) cs) ≡ all
-campaign_kept made place cs c row all below is same kept =
-    append_assoc made (row ∷ []) (opened_rows (drop (place + 1) cs))
-    ∙ (ap (λ (x : CampaignRow). made ++ x ∷ opened_rows (drop (place + 1) cs)) (same ∙ ap opened_row is)
-    ∙ (ap (λ (ds : List Campaign). made ++ opened_rows ds) (sym (drop_more cs place c below)) ∙ kept))
 
 budgets_are : (cs : List Campaign) → All IsBudget (budgets_of cs)
 budgets_are [] k d below = absurd (omega (arith, below))

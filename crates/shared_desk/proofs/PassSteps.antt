@@ -13,8 +13,8 @@ use Rattle.day_rules.specs.declared.entry.Entry.{Entry}
 use Rattle.day_rules.specs.Legal.{IsLegal}
 use Rattle.day_rules.specs.Replies.{Call as DayCall, ask, ask_reply, reply, with_entry}
 use Rattle.day_rules.proofs.Histories.{legal_front}
-use Rattle.desk_calls.specs.Calls.{Ended, IsRoomy, MayEnd, left_by, was_done}
-use Rattle.desk_calls.specs.Steps.{AreSteps, Step, calls_of, disk_faults, looked, metered, meters_read, shared, took}
+use Rattle.adx_desk.specs.Called.{Ended, IsRoomy, MayEnd, left_by, was_done}
+use Rattle.adx_desk.specs.Steps.{AreSteps, Step, calls_of, disk_faults, looked, metered, meters_read, shared, took}
 use Rattle.shared_desk.specs.Callers.{AddsTurn, Answered, AnswersBatch, DeskPass, FailsBatch, Looks, Passed, answer_in, caller_of, entry_of, entry_where_done, raised_by, turn_at, turns_in_turn}
 use Rattle.turnstile.specs.Turns.{AreRight, HasRisen, added_by, next_place, one_or_none, placed}
 use Rattle.adx_desk.specs.Asked.{ask_for}
@@ -25,9 +25,9 @@ use Rattle.day_rules.specs.Laws.{Arrival, after_arrival, after_arrivals, arrival
 use Rattle.day_machine.specs.Batches.{BatchState, answers_in_turn}
 use Rattle.day_rules.specs.Steps.{meters_of}
 use Rattle.deal_floor.specs.declared.roster.Roster.{Roster}
-use Rattle.desk_calls.specs.Desks.{IsDoneAt, ended_by, fault_of_disk}
-use Rattle.desk_calls.specs.Together.{took_in_turn}
-use Rattle.desk_calls.proofs.Chains.{from_earlier, shared_on}
+use Rattle.adx_desk.specs.DayDesks.{IsDoneAt, ended_by, fault_of_disk}
+use Rattle.adx_desk.specs.Together.{took_in_turn}
+use Rattle.adx_desk.proofs.Chains.{from_earlier, shared_on}
 use Rattle.day_rules.specs.declared.meters.Meters.{Meters}
 use Rattle.turnstile.specs.Passes.{IsOf, IsSamePass, TurnstileState}
 use Rattle.shared_desk.specs.Passes.{AreRead, Gains, HaveRisen, IsNotedAs, PassRuns, Viewed, ended_of}

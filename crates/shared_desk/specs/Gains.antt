@@ -5,9 +5,9 @@ use Rattle.adx_desk.specs.declared.turn.Turn.{Turn}
 use Rattle.day_rules.specs.declared.entry.Entry.{Entry}
 use Rattle.turnstile.specs.declared.noted.Noted.{Noted}
 use Rattle.adx_desk.specs.Shared.{call_of}
-use Rattle.desk_calls.specs.Calls.{Called}
+use Rattle.adx_desk.specs.Called.{Called}
 use Rattle.shared_desk.specs.Callers.{DeskPass}
-use Rattle.desk_calls.specs.Steps.{Step, calls_of}
+use Rattle.adx_desk.specs.Steps.{Step, calls_of}
 use Rattle.shared_desk.specs.Passes.{Gains, ended_of}
 
 -- a turn as a call: at the front of the history that is as long as that at the turn

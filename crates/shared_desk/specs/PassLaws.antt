@@ -16,9 +16,9 @@ use Rattle.day_rules.specs.Runs.{entry_of_turn}
 use Rattle.deal_floor.specs.declared.roster.Roster.{Roster}
 use Rattle.turnstile.specs.Passes.{IsSamePass}
 use Rattle.turnstile.specs.declared.noted.Noted.{Noted}
-use Rattle.desk_calls.specs.Calls.{Called, Ended, left_by, turn_of, wanted_memory, was_done, was_given_up}
-use Rattle.desk_calls.specs.Steps.{AreSteps, Step, calls_of, disk_faults, faults_by, history_behind, looked, metered, meters_read, shared, took}
-use Rattle.desk_calls.proofs.Chains.{shared_on, steps_join}
+use Rattle.adx_desk.specs.Called.{Called, Ended, left_by, turn_of, wanted_memory, was_done, was_given_up}
+use Rattle.adx_desk.specs.Steps.{AreSteps, Step, calls_of, disk_faults, faults_by, history_behind, looked, metered, meters_read, shared, took}
+use Rattle.adx_desk.proofs.Chains.{shared_on, steps_join}
 use Rattle.shared_desk.specs.Gains.{CallsAreTurns, called_by}
 use Rattle.shared_desk.specs.Passes.{AreRead, Gains, HaveRisen, IsNotedAs, PassRuns, Viewed}
 use Rattle.shared_desk.specs.Callers.{DeskPass}

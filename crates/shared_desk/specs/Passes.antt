@@ -10,9 +10,9 @@ use Rattle.adx_desk.specs.declared.fault.DeskFault.{DeskFault}
 use Rattle.adx_desk.specs.declared.turn.Turn.{Turn}
 use Rattle.day_rules.specs.declared.answer.Answer.{Answer}
 use Rattle.deal_floor.specs.declared.roster.Roster.{Roster}
-use Rattle.desk_calls.specs.Calls.{Called, Ended, was_done}
-use Rattle.desk_calls.specs.Desks.{ended_by}
-use Rattle.desk_calls.specs.Steps.{AreSteps, Step, calls_of, disk_faults, meters_read, shared}
+use Rattle.adx_desk.specs.Called.{Called, Ended, was_done}
+use Rattle.adx_desk.specs.DayDesks.{ended_by}
+use Rattle.adx_desk.specs.Steps.{AreSteps, Step, calls_of, disk_faults, meters_read, shared}
 use Rattle.day_rules.specs.Steps.{meters_of}
 use Rattle.day_rules.specs.declared.meters.Meters.{Meters}
 use Rattle.day_rules.specs.declared.step.MeterStep.{MeterStep}

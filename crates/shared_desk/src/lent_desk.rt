@@ -1,10 +1,9 @@
 //! A desk that is lent to one who calls it.
-use adx_desk::{DeskFault, Done};
+use adx_desk::{DayDesk, DeskFault, Done};
 use adx_units::{OutOfMemory, Units};
 use day_machine::Batch;
 use day_rules::{Answer, Ask, Meters, Seen};
 use deal_floor::Roster;
-use desk_calls::DayDesk;
 use notice_book::NoticeKind;
 
 /// A desk that is lent to one who calls it: what it tells is what the desk tells.

@@ -9,7 +9,7 @@
 //! meters. What its steps tell is `Gains`: the pass gained just the turns of its calls, each at the history at which it
 //! was taken, and what it has seen goes on from step to step.
 //!
-//! Stands on `turnstile` for passes, and on `adx_desk` and `desk_calls` for the desk.
+//! Uses `turnstile` for passes, and `adx_desk` for the desk.
 #![tactic(auto)]
 
 mod asking;

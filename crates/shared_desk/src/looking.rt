@@ -9,7 +9,7 @@ ghost use Rattle.shared_desk.specs.Callers.{Looks};
 
 use crate::copying::copies_of;
 use crate::shared_desk::SharedDesk;
-use adx_desk::{Desk, table_with};
+use adx_desk::{Desk, table_of};
 use adx_units::{OutOfMemory, Text};
 use day_journal::Disk;
 use day_rules::{Entry, Seen};
@@ -71,14 +71,7 @@ impl<'a, D: Disk> Job<Desk<D>> for Table<'a> {
     ghost risen = { λ _. 0 };
 
     fn run(&mut self, _lent: &mut (), desk: &mut Desk<D>) {
-        let table = table_with(
-            self.alloc,
-            self.roster,
-            desk.book(),
-            desk.ask_count(),
-            desk.entries(),
-        );
-        self.found = Some(table);
+        self.found = Some(table_of(self.alloc, desk, self.roster));
     }
 }
 

@@ -7,13 +7,12 @@ ghost use Rattle.turnstile.specs.Passes.{IsOf};
 ghost use Rattle.shared_desk.specs.Gains.{CallsAreTurns};
 
 use crate::shared_desk::SharedDesk;
-use adx_desk::{Desk, DeskFault, Done};
+use adx_desk::{DayDesk, Desk, DeskFault, Done};
 use adx_units::{OutOfMemory, Units};
 use day_journal::Disk;
 use day_machine::Batch;
 use day_rules::{Answer, Ask, MeterView, Meters, Seen};
 use deal_floor::Roster;
-use desk_calls::DayDesk;
 use notice_book::NoticeKind;
 use std::alloc::Global;
 use std::sync::Wait;
@@ -42,7 +41,7 @@ impl<R: Wait, D: Disk + Drop, M: MeterView> DayDesk for PassDesk<'_, R, D, M> {
     ghost use Rattle.std.specs.Prelude.{[], ◌∷◌};
     ghost use Rattle.std.proofs.Common.{ap};
     ghost use Rattle.adx_desk.specs.Rosters.{desk_terms};
-    ghost use Rattle.desk_calls.specs.Steps.{shared};
+    ghost use Rattle.adx_desk.specs.Steps.{shared};
     ghost use Rattle.shared_desk.specs.Passes.{PassRuns, viewed};
     ghost use Rattle.shared_desk.specs.PassLaws.{runs_join, runs_none};
 

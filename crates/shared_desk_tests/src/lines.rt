@@ -34,7 +34,7 @@ fn asked(alloc: Global, roster: &Roster, desk: &mut Desk<MemoryDisk>) -> Result<
 fn table(alloc: Global, roster: &Roster, desk: &Desk<MemoryDisk>) -> Result<Text, OutOfMemory>
     requires { desk.now.desk.terms ≡ desk_terms roster.now }
 {
-    table_of(alloc, roster, desk.book(), desk.entries())
+    table_of(alloc, desk, roster)
 }
 
 /// Whether the lines of a new desk are these.

@@ -1,14 +1,12 @@
 //! Links to two bidders, of which each may wait until the other is asked; and the lanes over them.
-ghost use Rattle.std.specs.Prelude.{◌≡◌, IfOk};
-ghost use Rattle.fan_out.specs.declared.answer.TheConstants.{ANSWER_LIMIT as answer_limit};
+ghost use Rattle.std.specs.Prelude.{IfOk};
 ghost use Rattle.exchange_messages.specs.Floors.{AreLanes};
 
-use adx_http::Conn;
 use adx_io::Failed;
 use adx_links::Link;
 use adx_units::OutOfMemory;
 use deal_floor::{Place, Roster};
-use fan_out::{ANSWER_LIMIT, Lane};
+use fan_out::Lane;
 use std::alloc::Global;
 use std::sync::atomic::{AtomicU64, Ordering};
 
@@ -94,39 +92,6 @@ impl Link for Waiting<'_> {
     }
 }
 
-/// A copy of a bidder's place.
-fn copy_of(alloc: Global, place: &Place) -> Result<Place, OutOfMemory>
-    ensures { IfOk result (λ p. p ≡ place.now) }
-{
-    let name = place.name.copy(alloc)?;
-    let host = place.host.copy(alloc)?;
-    let path = place.path.copy(alloc)?;
-    let copy = Place {
-        name,
-        host,
-        port: place.port,
-        path,
-    };
-    Ok(copy)
-}
-
-/// The lane of a bidder, over a link.
-fn lane_of<'a>(
-    alloc: Global,
-    place: &Place,
-    link: Waiting<'a>,
-) -> Result<Lane<Waiting<'a>>, OutOfMemory>
-    ensures place { IfOk result (λ l. l.place ≡ place.now) }
-    ensures limit { IfOk result (λ l. l.conn.limit ≡ answer_limit) }
-{
-    Ok(Lane {
-        place: copy_of(alloc, place)?,
-        link,
-        conn: Conn::new(alloc, ANSWER_LIMIT)?,
-        last: None,
-    })
-}
-
 /// The link to the bidder of a place.
 fn link_to<'a>(place: &Place, starts: &'a Starts) -> Waiting<'a> {
     Waiting {
@@ -148,7 +113,7 @@ pub(crate) fn lanes_of<'a>(
     let mut lanes = Vec::new(alloc);
     let bidders = roster.bidders.as_slice();
     for place in bidders {
-        match lane_of(alloc, place, link_to(place, starts)) {
+        match Lane::to(alloc, place, link_to(place, starts)) {
             Ok(lane) => lanes.push(lane)?,
             Err(wanting) => return Err(wanting),
         }

@@ -18,11 +18,6 @@ rank Idle = 0
 rank (Waits t) = 1
 rank (Holds t) = 2
 
-abbrev pub ticket_or : ℕ → Stage → ℕ
-ticket_or d Idle = d
-ticket_or d (Waits t) = t
-ticket_or d (Holds t) = t
-
 abbrev pub role_rank : Role → ℕ
 role_rank (First n) = 0
 role_rank Parted = 1

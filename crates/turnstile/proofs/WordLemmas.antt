@@ -1,7 +1,7 @@
 -- What the words show after one of them has changed.
-use Rattle.std.proofs.Common.{◌≡◌, ℕ, ◌%◌, ◌^◌, ◌<◌, List, set, get_or, replicate, refl, ◌∙◌, arith}
+use Rattle.std.proofs.Common.{◌≡◌, ℕ, ◌%◌, ◌^◌, ◌<◌, List, set, get_or, ◌∙◌, arith}
 use Rattle.std.proofs.lemmas.List.{get_or-set_same, get_or-set_other, set-get_or, length-set}
-use Rattle.turnstile.specs.declared.words.TheConstants.{TICKETS, SERVED, FRONT, FAULTS, WORDS}
+use Rattle.turnstile.specs.declared.words.TheConstants.{TICKETS, SERVED, FRONT, FAULTS}
 use Rattle.turnstile.specs.Rule.{Shows}
 
 -- a word that is read stays
@@ -53,8 +53,3 @@ shows_still ws d s f q i x past h = record {
   front_is = get_or-set_other ws i FRONT x 0 (λ e. omega arith) ∙ h.front_is;
   faults_are = get_or-set_other ws i FAULTS x 0 (λ e. omega arith) ∙ h.faults_are;
 }
-
--- the words of a new table
-pub shows_new : (f q : ℕ) → Shows (set (set (replicate WORDS 0) FRONT f) FAULTS q) 0 0 f q
-shows_new f q = shows_faults (set (replicate WORDS 0) FRONT f) 0 0 f 0 q q
-    (shows_front (replicate WORDS 0) 0 0 0 0 f f record { many = refl; next = refl; turn = refl; front_is = refl; faults_are = refl } refl) refl

@@ -52,9 +52,6 @@ same_row base history r s x y same =
       named_by_url base r.bid s.bid (sym x.url ∙ ap (λ (b : Bid). b.texts.burl) bid ∙ y.url),
     )
 
-bytes_same : (a : List ℕ) → bytes_eq a a ≡ true
-bytes_same a = (bytes_eq-Decides a a).1 refl
-
 pub kind_bill : (k : NoticeKind) → is_kind NoticeKind.Bill k ≡ true → k ≡ NoticeKind.Bill
 kind_bill NoticeKind.Win h = absurd (true≢false (sym h))
 kind_bill NoticeKind.Bill h = refl

@@ -1,23 +1,21 @@
 -- The bids that a bidder answers, as the exchange reads and keeps them: their notices go to the bidder's own URLs.
-use Rattle.std.proofs.Common.{◌≡◌, ℕ, ◌+◌, ◌<◌, ◌≤◌, List, [], ◌∷◌, length, map, get_or, Bool, true, false, cond, refl, sym, ap, subst, arith, All, Option, Some, None, Result, Ok, inl, inr}
+use Rattle.std.proofs.Common.{◌≡◌, ℕ, ◌+◌, ◌<◌, ◌≤◌, List, [], ◌∷◌, length, map, Bool, true, false, cond, codes, refl, sym, ap, subst, arith, All, Option, Some, None, inl, inr}
 use Rattle.std.specs.Prelude.{IfSome, nat_le, nat_lt, unwrap_or}
-use Rattle.std.specs.List.{cons_option, enumerate_from, flat_map}
-use Rattle.std.specs.Result.{result_ok}
-use Rattle.std.proofs.lemmas.List.Elements.{All-append, All-cons, All-head, All-map, All-nil, All-tail, All-take}
-use Rattle.adx_json.specs.Tree.{Tree, items_of}
+use Rattle.std.specs.List.{AllZip, cons_option, enumerate_from, flat_map}
+use Rattle.std.proofs.lemmas.List.Elements.{All-append, All-cons, All-head, All-map, All-nil, All-tail, All-take, All-weaker}
+use Rattle.adx_json.specs.Tree.{Tree, list, object, text, items_of, members_of}
 use Rattle.adx_units.specs.declared.offer.Offer.{Offer}
-use Rattle.adx_json.specs.Checks.{judged_by, first_fault}
-use Rattle.adx_json.specs.Values.{list_items}
+use Rattle.adx_json.specs.Rows.{Says}
+use Rattle.adx_json.specs.Values.{given, list_items, text_or_empty}
+use Rattle.adx_json.proofs.Listing.{Say}
 use Rattle.rtb_request.specs.declared.bid_request.BidRequest.{BidRequest}
 use Rattle.rtb_request.specs.declared.bid_request.TheConstants.{MOST_IMPS}
 use Rattle.rtb_request.specs.declared.imp.Imp.{Imp}
-use Rattle.rtb_response.specs.Answers.{AnswerView, SeatView, answer_checks, answer_in, answer_view, seat_view, seats_in}
-use Rattle.rtb_response.specs.Bids.{BidView, bid_view}
-use Rattle.rtb_response.specs.Seen.{seen_answer, seen_bid, seen_seat}
+use Rattle.rtb_response.specs.Answers.{IsAnswer, seat_rows}
+use Rattle.rtb_response.specs.Bids.{bid_rows}
 use Rattle.rtb_response.specs.declared.bid.Bid.{Bid}
 use Rattle.rtb_response.specs.declared.bid_answer.BidAnswer.{BidAnswer}
 use Rattle.rtb_response.specs.declared.bid_answer.SeatBid.{SeatBid}
-use Rattle.rtb_response.specs.declared.fault.AnswerFault.{AnswerFault}
 use Rattle.deal_floor.specs.declared.campaign.Campaign.{Campaign}
 use Rattle.script_lines.specs.Making.{SeatedBid, all_bids, ask_of, bids_of, bids_of_seat, kept_of, seated}
 use Rattle.day_rules.specs.Asks.{is_winners, may_be_told, settled, settled_kept, stays, texts_of_loss}
@@ -42,7 +40,8 @@ use Rattle.two_books.specs.Steps.{ReadsAnswer}
 -- ---- lists
 
 -- what holds of each, whatever is at its place
-all_placed : {X Y : Type 0} (P : Y → Type 0) (f : ℕ × X → List Y) (bound n : ℕ) (xs : List X) → n + length xs ≤ bound → ((k : ℕ) (x : X) → k < bound → All P (f (k, x))) → All P (flat_map f (enumerate_from n xs))
+all_placed : {X Y : Type 0} (P : Y → Type 0) (f : ℕ × X → List Y) (bound n : ℕ) (xs : List X) → n + length xs ≤ bound
+    → ((k : ℕ) (x : X) → k < bound → All P (f (k, x))) → All P (flat_map f (enumerate_from n xs))
 all_placed P f bound n [] few each = All-nil P
 all_placed P f bound n (x ∷ xs) few each =
     All-append P (f (n, x)) (flat_map f (enumerate_from (n + 1) xs)) (each n x (omega (arith, few))) (all_placed P f bound (n + 1) xs (omega (arith, few)) each)
@@ -51,41 +50,51 @@ flat_all : {X Y : Type 0} (P : X → Type 0) (Q : Y → Type 0) (f : X → List 
 flat_all P Q f each [] all = All-nil Q
 flat_all P Q f each (x ∷ xs) all = All-append Q (f x) (flat_map f xs) (each x (All-head P x xs all)) (flat_all P Q f each xs (All-tail P x xs all))
 
-from_map : {X Y : Type 0} (P : Y → Type 0) (f : X → Y) (xs : List X) → All P (map f xs) → All (λ x. P (f x)) xs
-from_map P f [] all = All-nil (λ x. P (f x))
-from_map P f (x ∷ xs) all = All-cons (λ x. P (f x)) x xs (All-head P (f x) (map f xs) all) (from_map P f xs (All-tail P (f x) (map f xs) all))
-
 pub items_back : (ts : List Tree) → list_items (items_of ts) ≡ ts
 items_back [] = refl
 items_back (t ∷ ts) = ap (λ (l : List Tree). t ∷ l) (items_back ts)
 
 -- ---- what was read
 
-pub judged_ok : (o : Option AnswerFault) (v w : AnswerView) → judged_by v o ≡ Ok w → v ≡ w
-judged_ok None v w e = ap (λ (r : Result AnswerView AnswerFault). unwrap_or (result_ok r) v) e
-judged_ok (Some fault) v w e = absurd (cc)
+-- the one seat of a bidder's own answer
+abbrev pub seat_tree : List ℕ → List Tree → Tree
+seat_tree seat bids = object (members_of ((codes "seat", text seat) ∷ (codes "bid", list (items_of bids)) ∷ []))
 
-one_seat : (v : SeatView) (seats : List SeatBid) → v ∷ [] ≡ map seen_seat seats → All (λ (s : SeatBid). v.bids ≡ map seen_bid s.bids) seats
-one_seat v [] e = let n = ap length e in absurd (omega (arith, n))
-one_seat v (s ∷ []) e =
-    All-cons (λ (s : SeatBid). v.bids ≡ map seen_bid s.bids) s [] (ap (λ (l : List SeatView). SeatView.bids (get_or l 0 v)) e) (All-nil (λ (s : SeatBid). v.bids ≡ map seen_bid s.bids))
-one_seat v (s ∷ r ∷ rest) e = let n = ap length e in absurd (omega (arith, n))
+-- the one seat of an answer
+pub one_seat : (u : Tree) (seats : List SeatBid) → AllZip (Say seat_rows) (u ∷ []) seats → All (λ (s : SeatBid). Says seat_rows (Some u) s) seats
+one_seat u [] h = absurd h
+one_seat u (s ∷ []) h = All-cons (λ (s : SeatBid). Says seat_rows (Some u) s) s [] h.0 (All-nil (λ (s : SeatBid). Says seat_rows (Some u) s))
+one_seat u (s ∷ r ∷ rest) h = absurd h.1
+
+zip_all : {A B : Type 0} (R : A → B → Type 0) (P : A → Type 0) (Q : B → Type 0) → ((x : A) (y : B) → R x y → P x → Q y)
+    → (xs : List A) (ys : List B) → AllZip R xs ys → All P xs → All Q ys
+zip_all R P Q on [] [] h all = All-nil Q
+zip_all R P Q on [] (y ∷ ys) h all = absurd h
+zip_all R P Q on (x ∷ xs) [] h all = absurd h
+zip_all R P Q on (x ∷ xs) (y ∷ ys) h all = All-cons Q y ys (on x y h.0 (All-head P x xs all)) (zip_all R P Q on xs ys h.1 (All-tail P x xs all))
 
 -- the URLs of a bid's notices are the bidder's own
-record HasOwnUrls (base : List ℕ) (prices : ℕ) (v : BidView) : Type 0 where
-  pub nurl : IsOwnUrl base prices NoticeKind.Win v.nurl
-  pub burl : IsOwnUrl base prices NoticeKind.Bill v.burl
-  pub lurl : IsOwnUrl base prices NoticeKind.Loss v.lurl
+record HasOwnUrls (base : List ℕ) (prices : ℕ) (win bill loss : List ℕ) : Type 0 where
+  pub nurl : IsOwnUrl base prices NoticeKind.Win win
+  pub burl : IsOwnUrl base prices NoticeKind.Bill bill
+  pub lurl : IsOwnUrl base prices NoticeKind.Loss loss
 
 module _ (line : PriceLine) where
-  abbrev Own : BidView → Type 0
-  Own v = HasOwnUrls line.base (length line.prices) v
+  abbrev Own : List ℕ → List ℕ → List ℕ → Type 0
+  Own nurl burl lurl = HasOwnUrls line.base (length line.prices) nurl burl lurl
 
   abbrev OwnTree : Tree → Type 0
-  OwnTree t = Own (bid_view t)
+  OwnTree t = Own (text_or_empty (given (codes "nurl") t)) (text_or_empty (given (codes "burl") t)) (text_or_empty (given (codes "lurl") t))
 
   abbrev OwnBid : Bid → Type 0
-  OwnBid b = Own (seen_bid b)
+  OwnBid b = Own b.nurl b.burl b.lurl
+
+  says_own : (t : Tree) (b : Bid) → Says bid_rows (Some t) b → OwnTree t → OwnBid b
+  says_own t b says own = record {
+    nurl = subst (IsOwnUrl line.base (length line.prices) NoticeKind.Win) (sym says.1.1.1.1.0) own.nurl;
+    burl = subst (IsOwnUrl line.base (length line.prices) NoticeKind.Bill) (sym says.1.1.1.1.1.0) own.burl;
+    lurl = subst (IsOwnUrl line.base (length line.prices) NoticeKind.Loss) (sym says.1.1.1.1.1.1.0) own.lurl;
+  }
 
   abbrev OwnSeat : SeatBid → Type 0
   OwnSeat s = All OwnBid s.bids
@@ -121,32 +130,25 @@ module _ (line : PriceLine) where
       All-take OwnTree MOST_BIDS (flat_map (imp_bids line) (enumerate_from 0 imps)) (all_placed OwnTree (imp_bids line) MOST_IMPS 0 imps (omega (arith, few)) imp_own)
 
   -- a seat that was read of such bids
-  seat_own : (bids : List Tree) → All OwnTree bids → (s : SeatBid) → map bid_view (list_items (items_of bids)) ≡ map seen_bid s.bids → OwnSeat s
-  seat_own bids own s is =
-      from_map Own seen_bid s.bids
-      (subst (All Own) is (All-map Own bid_view (list_items (items_of bids)) (subst (All OwnTree) (sym (items_back bids)) own)))
+  seat_own : (bids : List Tree) → All OwnTree bids → (s : SeatBid) → AllZip (Say bid_rows) (list_items (items_of bids)) s.bids → OwnSeat s
+  seat_own bids own s says =
+      zip_all (Say bid_rows) OwnTree OwnBid says_own (list_items (items_of bids)) s.bids says (subst (All OwnTree) (sym (items_back bids)) own)
 
-  tree_own : (auction : List ℕ) (bids : List Tree) (a : BidAnswer) → All OwnTree bids → answer_in auction (answer_tree auction line.seat bids) ≡ Ok (seen_answer a) → All OwnSeat a.seats
+  tree_own : (auction : List ℕ) (bids : List Tree) (a : BidAnswer) → All OwnTree bids → IsAnswer auction (answer_tree auction line.seat bids) a
+      → All OwnSeat a.seats
   tree_own auction bids a own read =
-      let tree : Tree = answer_tree auction line.seat bids in
-      let view : answer_view tree ≡ seen_answer a = judged_ok (first_fault (answer_checks auction tree)) (answer_view tree) (seen_answer a) read in
-      let seats : map seat_view (seats_in tree) ≡ map seen_seat a.seats = ap (λ (v : AnswerView). v.seats) view in
-      all_seats a.seats (one_seat (record { seat = line.seat; all_or_none = false; bids = map bid_view (list_items (items_of bids)) }) a.seats seats)
-    where
-      all_seats : (seats : List SeatBid) → All (λ (s : SeatBid). map bid_view (list_items (items_of bids)) ≡ map seen_bid s.bids) seats → All OwnSeat seats
-      all_seats [] all = All-nil OwnSeat
-      all_seats (s ∷ seats) all =
-          All-cons OwnSeat s seats
-          (seat_own bids own s (All-head (λ (s : SeatBid). map bid_view (list_items (items_of bids)) ≡ map seen_bid s.bids) s seats all))
-          (all_seats seats (All-tail (λ (s : SeatBid). map bid_view (list_items (items_of bids)) ≡ map seen_bid s.bids) s seats all))
+      All-weaker (λ (s : SeatBid). Says seat_rows (Some (seat_tree line.seat bids)) s) OwnSeat (λ s says. seat_own bids own s says.1.1.1.0)
+      a.seats (one_seat (seat_tree line.seat bids) a.seats read.1.1.1.1.1.0)
 
-  with_own : (auction : List ℕ) (bids : List Tree) (a : BidAnswer) (t : Tree) → All OwnTree bids → answer_with auction line.seat bids ≡ Some t → answer_in auction t ≡ Ok (seen_answer a) → All OwnSeat a.seats
+  with_own : (auction : List ℕ) (bids : List Tree) (a : BidAnswer) (t : Tree) → All OwnTree bids → answer_with auction line.seat bids ≡ Some t
+      → IsAnswer auction t a → All OwnSeat a.seats
   with_own auction [] a t own is read = absurd (cc)
   with_own auction (b ∷ bids) a t own is read =
       let same : answer_tree auction line.seat (b ∷ bids) ≡ t = ap (λ (o : Option Tree). unwrap_or o t) is in
-      tree_own auction (b ∷ bids) a own (subst (λ (u : Tree). answer_in auction u ≡ Ok (seen_answer a)) (sym same) read)
+      tree_own auction (b ∷ bids) a own (subst (λ (u : Tree). IsAnswer auction u a) (sym same) read)
 
-  read_own : (auction : List ℕ) (imps : List Imp) → length imps ≤ MOST_IMPS → (o : Option Tree) (answer : Option BidAnswer) → answer_for line auction imps ≡ o → ReadsAnswer auction o answer → IfSome answer (λ a. All OwnSeat a.seats)
+  read_own : (auction : List ℕ) (imps : List Imp) → length imps ≤ MOST_IMPS → (o : Option Tree) (answer : Option BidAnswer)
+      → answer_for line auction imps ≡ o → ReadsAnswer auction o answer → IfSome answer (λ a. All OwnSeat a.seats)
   read_own auction imps few None None is read = tt
   read_own auction imps few None (Some a) is read = absurd read
   read_own auction imps few (Some t) None is read = tt
@@ -199,14 +201,16 @@ module _ (line : PriceLine) where
       by false false true = tt
       by false false false = own
 
-  ask_entry : (seen : Seen) (terms : Terms) (history : List Entry) (a : Ask) → IsName a.auction → All OwnTexts a.kept → IfSome (ask_reply_by seen terms history a).entry OwnEntry
+  ask_entry : (seen : Seen) (terms : Terms) (history : List Entry) (a : Ask) → IsName a.auction → All OwnTexts a.kept
+      → IfSome (ask_reply_by seen terms history a).entry OwnEntry
   ask_entry Seen.New terms history a name texts =
       settled_entry terms history (settled terms history a) (record { texts = settled_own (settled terms history a).offers a.kept texts; auction = name })
   ask_entry (Seen.Same place) terms history a name texts = tt
   ask_entry (Seen.Other kept) terms history a name texts = tt
 
   -- So it is with the bidder's own answer to a request.
-  pub own_answer : (request : BidRequest) (campaigns : List Campaign) (answer : Option BidAnswer) (now : ℕ) (terms : Terms) (history : List Entry) → IsName request.id
+  pub own_answer : (request : BidRequest) (campaigns : List Campaign) (answer : Option BidAnswer) (now : ℕ) (terms : Terms) (history : List Entry)
+      → IsName request.id
       → ReadsAnswer request.id (answer_to line request) answer → IfSome (ask_reply terms history (ask_of request campaigns (answer ∷ []) now)).entry OwnEntry
   own_answer request campaigns answer now terms history name reads =
       let a : Ask = ask_of request campaigns (answer ∷ []) now in

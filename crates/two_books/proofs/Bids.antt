@@ -1,20 +1,20 @@
 -- The bids that a bidder makes for an auction have URLs of their own, and so have those that its ask keeps.
-use Rattle.std.proofs.Common.{◌≡◌, ◌≢◌, ℕ, ◌+◌, ◌^◌, ◌<◌, ◌≤◌, List, [], ◌∷◌, ◌++◌, length, map, get_or, Bool, true, false, cond, refl, sym, ap, ◌∙◌, subst, arith, All, Option, Some, None, Ok}
+use Rattle.std.proofs.Common.{◌≡◌, ◌≢◌, ℕ, ◌+◌, ◌^◌, ◌<◌, ◌≤◌, List, [], ◌∷◌, ◌++◌, length, map, Bool, true, false, cond, codes, refl, sym, ap, ap₂, ◌∙◌, subst, arith, All, Option, Some, None}
 use Rattle.std.specs.Prelude.{IfSome, decimal, nat_le, nat_lt, unwrap_or}
-use Rattle.std.specs.List.{cons_option, enumerate_from, flat_map}
+use Rattle.std.specs.List.{AllZip, cons_option, enumerate_from, flat_map}
 use Rattle.std.proofs.lemmas.List.Elements.{All-append, All-cons, All-head, All-map, All-nil, All-tail, All-weaker}
 use Rattle.adx_json.specs.Tree.{Tree, items_of}
 use Rattle.adx_units.specs.Number.{digits_value}
 use Rattle.adx_units.specs.declared.offer.Offer.{Offer}
-use Rattle.adx_json.specs.Checks.{first_fault}
-use Rattle.adx_json.specs.Values.{list_items}
+use Rattle.adx_json.specs.Rows.{Says}
+use Rattle.adx_json.specs.Values.{given, list_items, text_or_empty}
+use Rattle.adx_json.proofs.Listing.{Say}
 use Rattle.formats.proofs.Decimals.{decimal_value}
 use Rattle.rtb_request.specs.declared.bid_request.BidRequest.{BidRequest}
 use Rattle.rtb_request.specs.declared.bid_request.TheConstants.{MOST_IMPS}
 use Rattle.rtb_request.specs.declared.imp.Imp.{Imp}
-use Rattle.rtb_response.specs.Answers.{AnswerView, SeatView, answer_checks, answer_in, answer_view, seat_view, seats_in}
-use Rattle.rtb_response.specs.Bids.{BidView, bid_view}
-use Rattle.rtb_response.specs.Seen.{seen_answer, seen_bid, seen_seat}
+use Rattle.rtb_response.specs.Answers.{IsAnswer, seat_rows}
+use Rattle.rtb_response.specs.Bids.{bid_rows}
 use Rattle.rtb_response.specs.declared.bid.Bid.{Bid}
 use Rattle.rtb_response.specs.declared.bid_answer.BidAnswer.{BidAnswer}
 use Rattle.rtb_response.specs.declared.bid_answer.SeatBid.{SeatBid}
@@ -37,7 +37,7 @@ use Rattle.bidder_core.specs.declared.price_line.PriceLine.{PriceLine}
 use Rattle.bidder_core.proofs.BidIds.{bid_id_price}
 use Rattle.two_books.specs.Steps.{ReadsAnswer}
 use Rattle.two_books.proofs.Agreeing.{named_by_url, right_cancel}
-use Rattle.two_books.proofs.Answered.{items_back, judged_ok}
+use Rattle.two_books.proofs.Answered.{items_back, seat_tree}
 use Rattle.two_books.specs.Settling.{AreApart, Distinct, IsApartEntry, burls}
 use Rattle.two_books.proofs.Pairs.{IsOfKey, all_places, distinct_keys, distinct_take, distinct_weaker, places_rise}
 
@@ -53,7 +53,7 @@ price_by_id i j k l a b c d same = sym (bid_id_price i k a c) ∙ (ap price_in s
 -- ---- the bids of an answer
 
 abbrev burl_in : Tree → List ℕ
-burl_in t = (bid_view t).burl
+burl_in t = text_or_empty (given (codes "burl") t)
 
 module _ (line : PriceLine) where
   abbrev bill_url : ℕ → ℕ → List ℕ
@@ -93,7 +93,8 @@ module _ (line : PriceLine) where
   bid_is : (i : ℕ) (imp : Imp) (j : ℕ) (p : Price) → i < MOST_IMPS → j < length line.prices → IsBidAt i j (bid_tree line i imp j p)
   bid_is i imp j p few low = record { few = few; low = low; url = refl }
 
-  offer_at : (i : ℕ) (imp : Imp) → i < MOST_IMPS → (j : ℕ) (p : Price) → j < length line.prices → IsOfKey Other (IsBidAt i) PriceKey (offered line i imp) (other_price i) (j, p)
+  offer_at : (i : ℕ) (imp : Imp) → i < MOST_IMPS → (j : ℕ) (p : Price) → j < length line.prices
+      → IsOfKey Other (IsBidAt i) PriceKey (offered line i imp) (other_price i) (j, p)
   offer_at i imp few j p low = record { each = each (nat_le imp.floor.0 p.price.0); distinct = distinct (nat_le imp.floor.0 p.price.0) }
     where
       one : IsBidAt i j (bid_tree line i imp j p)
@@ -107,7 +108,8 @@ module _ (line : PriceLine) where
       distinct true = (All-nil (Other (bid_tree line i imp j p)), tt)
       distinct false = tt
 
-  each_for : (i : ℕ) (imp : Imp) → i < MOST_IMPS → (n : ℕ) (ps : List Price) → n + length ps ≤ length line.prices → All (IsBidFor i) (flat_map (offered line i imp) (enumerate_from n ps))
+  each_for : (i : ℕ) (imp : Imp) → i < MOST_IMPS → (n : ℕ) (ps : List Price) → n + length ps ≤ length line.prices
+      → All (IsBidFor i) (flat_map (offered line i imp) (enumerate_from n ps))
   each_for i imp few n [] short = All-nil (IsBidFor i)
   each_for i imp few n (p ∷ ps) short =
       All-append (IsBidFor i) (offered line i imp (n, p)) (flat_map (offered line i imp) (enumerate_from (n + 1) ps))
@@ -133,29 +135,24 @@ module _ (line : PriceLine) where
   abbrev OtherUrl : List ℕ → List ℕ → Type 0
   OtherUrl u v = u ≢ v
 
-  abbrev view_urls : List BidView → List (List ℕ)
-  view_urls vs = map (λ (v : BidView). v.burl) vs
-
   abbrev bid_urls : List Bid → List (List ℕ)
   bid_urls bs = map (λ (b : Bid). b.burl) bs
 
-  urls_of_trees : (ts : List Tree) → Distinct Other ts → Distinct OtherUrl (view_urls (map bid_view ts))
+  urls_of_trees : (ts : List Tree) → Distinct Other ts → Distinct OtherUrl (map burl_in ts)
   urls_of_trees [] h = tt
-  urls_of_trees (t ∷ ts) h = (
-    All-map (OtherUrl (bid_view t).burl) (λ (v : BidView). v.burl) (map bid_view ts)
-        (All-map (λ (v : BidView). OtherUrl (bid_view t).burl v.burl) bid_view ts h.0),
-    urls_of_trees ts h.1,
-  )
+  urls_of_trees (t ∷ ts) h = (All-map (OtherUrl (burl_in t)) burl_in ts h.0, urls_of_trees ts h.1)
 
-  seen_urls : (bs : List Bid) → view_urls (map seen_bid bs) ≡ bid_urls bs
-  seen_urls [] = refl
-  seen_urls (b ∷ bs) = ap (λ (l : List (List ℕ)). b.burl ∷ l) (seen_urls bs)
+  urls_read : (ts : List Tree) (bs : List Bid) → AllZip (Say bid_rows) ts bs → map burl_in ts ≡ bid_urls bs
+  urls_read [] [] h = refl
+  urls_read [] (b ∷ bs) h = absurd h
+  urls_read (t ∷ ts) [] h = absurd h
+  urls_read (t ∷ ts) (b ∷ bs) h = ap₂ (λ (u : List ℕ) (l : List (List ℕ)). u ∷ l) (sym h.0.1.1.1.1.1.0) (urls_read ts bs h.1)
 
-  seat_urls : (bids : List Tree) (s : SeatBid) → Distinct Other bids → map bid_view (list_items (items_of bids)) ≡ map seen_bid s.bids → Distinct OtherUrl (bid_urls s.bids)
-  seat_urls bids s h is =
-      subst (Distinct OtherUrl) (seen_urls s.bids)
-      (subst (λ (vs : List BidView). Distinct OtherUrl (view_urls vs)) is
-      (subst (λ (ts : List Tree). Distinct OtherUrl (view_urls (map bid_view ts))) (sym (items_back bids)) (urls_of_trees bids h)))
+  seat_urls : (bids : List Tree) (s : SeatBid) → Distinct Other bids → AllZip (Say bid_rows) (list_items (items_of bids)) s.bids
+      → Distinct OtherUrl (bid_urls s.bids)
+  seat_urls bids s h says =
+      subst (Distinct OtherUrl) (urls_read (list_items (items_of bids)) s.bids says)
+      (subst (λ (ts : List Tree). Distinct OtherUrl (map burl_in ts)) (sym (items_back bids)) (urls_of_trees bids h))
 
   -- ---- the bids with what they came by
 
@@ -174,30 +171,29 @@ module _ (line : PriceLine) where
       none_more [] = refl
       none_more (y ∷ ys) = ap (λ (l : List (List ℕ)). y.bid.burl ∷ l) (none_more ys)
 
-  one_seat : (bidid : List ℕ) (v : SeatView) (seats : List SeatBid) → v ∷ [] ≡ map seen_seat seats → ((s : SeatBid) → v.bids ≡ map seen_bid s.bids → Distinct OtherUrl (bid_urls s.bids))
+  one_seat : (bidid : List ℕ) (u : Tree) (seats : List SeatBid) → AllZip (Say seat_rows) (u ∷ []) seats
+      → ((s : SeatBid) → Says seat_rows (Some u) s → Distinct OtherUrl (bid_urls s.bids))
       → Distinct OtherUrl (seated_urls (flat_map (bids_of_seat 0 bidid) seats))
-  one_seat bidid v [] e each = tt
-  one_seat bidid v (s ∷ []) e each =
-      append_none (bids_of_seat 0 bidid s)
-      (subst (Distinct OtherUrl) (sym (urls_seated bidid s s.bids)) (each s (ap (λ (l : List SeatView). SeatView.bids (get_or l 0 v)) e)))
-  one_seat bidid v (s ∷ r ∷ rest) e each = let n = ap length e in absurd (omega (arith, n))
+  one_seat bidid u [] h each = tt
+  one_seat bidid u (s ∷ []) h each =
+      append_none (bids_of_seat 0 bidid s) (subst (Distinct OtherUrl) (sym (urls_seated bidid s s.bids)) (each s h.0))
+  one_seat bidid u (s ∷ r ∷ rest) h each = absurd h.1
 
-  tree_urls : (auction : List ℕ) (bids : List Tree) (a : BidAnswer) → Distinct Other bids → answer_in auction (answer_tree auction line.seat bids) ≡ Ok (seen_answer a)
+  tree_urls : (auction : List ℕ) (bids : List Tree) (a : BidAnswer) → Distinct Other bids → IsAnswer auction (answer_tree auction line.seat bids) a
       → Distinct OtherUrl (seated_urls (flat_map (bids_of_seat 0 a.bidid) a.seats))
   tree_urls auction bids a h read =
-      let tree : Tree = answer_tree auction line.seat bids in
-      let view : answer_view tree ≡ seen_answer a = judged_ok (first_fault (answer_checks auction tree)) (answer_view tree) (seen_answer a) read in
-      let seats : map seat_view (seats_in tree) ≡ map seen_seat a.seats = ap (λ (v : AnswerView). v.seats) view in
-      one_seat a.bidid (record { seat = line.seat; all_or_none = false; bids = map bid_view (list_items (items_of bids)) }) a.seats seats (λ s is. seat_urls bids s h is)
+      one_seat a.bidid (seat_tree line.seat bids) a.seats read.1.1.1.1.1.0 (λ s says. seat_urls bids s h says.1.1.1.0)
 
-  with_urls : (auction : List ℕ) (bids : List Tree) (a : BidAnswer) (t : Tree) → Distinct Other bids → answer_with auction line.seat bids ≡ Some t → answer_in auction t ≡ Ok (seen_answer a)
+  with_urls : (auction : List ℕ) (bids : List Tree) (a : BidAnswer) (t : Tree) → Distinct Other bids → answer_with auction line.seat bids ≡ Some t
+      → IsAnswer auction t a
       → Distinct OtherUrl (seated_urls (flat_map (bids_of_seat 0 a.bidid) a.seats))
   with_urls auction [] a t h is read = absurd (cc)
   with_urls auction (b ∷ bids) a t h is read =
       let same : answer_tree auction line.seat (b ∷ bids) ≡ t = ap (λ (o : Option Tree). unwrap_or o t) is in
-      tree_urls auction (b ∷ bids) a h (subst (λ (u : Tree). answer_in auction u ≡ Ok (seen_answer a)) (sym same) read)
+      tree_urls auction (b ∷ bids) a h (subst (λ (u : Tree). IsAnswer auction u a) (sym same) read)
 
-  read_urls : (auction : List ℕ) (imps : List Imp) → length imps ≤ MOST_IMPS → (o : Option Tree) (answer : Option BidAnswer) → answer_for line auction imps ≡ o → ReadsAnswer auction o answer
+  read_urls : (auction : List ℕ) (imps : List Imp) → length imps ≤ MOST_IMPS → (o : Option Tree) (answer : Option BidAnswer)
+      → answer_for line auction imps ≡ o → ReadsAnswer auction o answer
       → Distinct OtherUrl (seated_urls (bids_of (0, answer)))
   read_urls auction imps few None None is read = tt
   read_urls auction imps few None (Some a) is read = absurd read
@@ -223,7 +219,8 @@ module _ (line : PriceLine) where
   settled_all P offers (k ∷ kept) none all =
       by (is_winners offers k) (may_be_told k) (settled_all P offers kept none (All-tail P k.burl (burls kept) all))
     where
-      by : (won told : Bool) → All P (burls (settled_kept offers kept)) → All P (burls (cons_option (cond won (Some k) (cond told (Some (texts_of_loss k)) None)) (settled_kept offers kept)))
+      by : (won told : Bool) → All P (burls (settled_kept offers kept))
+          → All P (burls (cons_option (cond won (Some k) (cond told (Some (texts_of_loss k)) None)) (settled_kept offers kept)))
       by true told rest = All-cons P k.burl (burls (settled_kept offers kept)) (All-head P k.burl (burls kept) all) rest
       by false true rest = All-cons P [] (burls (settled_kept offers kept)) none rest
       by false false rest = rest
@@ -247,7 +244,8 @@ module _ (line : PriceLine) where
 
   -- ---- the entry of a reply to such an ask
 
-  settled_entry : (terms : Terms) (history : List Entry) (a : Ask) → IsApartEntry (Entry.Ask a) → IfSome (settled_reply terms.limits history a).entry IsApartEntry
+  settled_entry : (terms : Terms) (history : List Entry) (a : Ask) → IsApartEntry (Entry.Ask a)
+      → IfSome (settled_reply terms.limits history a).entry IsApartEntry
   settled_entry terms history a own = by (nat_lt terms.limits.auctions (asks_with history)) (nat_lt terms.limits.bids (bids_with history a)) (nat_lt terms.limits.text (text_with history a))
     where
       by : (x y z : Bool)
@@ -257,7 +255,8 @@ module _ (line : PriceLine) where
       by false false true = tt
       by false false false = own
 
-  ask_entry : (seen : Seen) (terms : Terms) (history : List Entry) (a : Ask) → Distinct AreApart (burls a.kept) → IfSome (ask_reply_by seen terms history a).entry IsApartEntry
+  ask_entry : (seen : Seen) (terms : Terms) (history : List Entry) (a : Ask) → Distinct AreApart (burls a.kept)
+      → IfSome (ask_reply_by seen terms history a).entry IsApartEntry
   ask_entry Seen.New terms history a h = settled_entry terms history (settled terms history a) (settled_apart (settled terms history a).offers a.kept h)
   ask_entry (Seen.Same place) terms history a h = tt
   ask_entry (Seen.Other kept) terms history a h = tt

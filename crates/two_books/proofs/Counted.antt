@@ -11,13 +11,14 @@ use Rattle.bidder_core.specs.declared.price_line.PriceLine.{PriceLine}
 use Rattle.bidder_core.specs.declared.price_line.TheConstants.{MOST_PRICES}
 use Rattle.bidder_http.specs.Messages.{AnswersAt, BidderAnswers}
 use Rattle.bidder_http.specs.Pages.{is_get, page_at}
-use Rattle.http_connection.specs.Messages.{Request}
+use Rattle.http_connection.specs.Messages.{RefusesRequest, Request}
 use Rattle.http_grammar.specs.Requests.{is_kept, verb_of_method}
 use Rattle.http_grammar.specs.declared.fault.HttpFault.{HttpFault}
 use Rattle.http_grammar.specs.declared.verb.Verb.{Verb}
 use Rattle.http_service.specs.Connections.{Replies}
 use Rattle.http_service.specs.Replies.{fault_status, is_head, lent, methods_text, refusal_bytes, reply_to}
 use Rattle.http_service.specs.declared.answer.Answer.{Answer}
+use Rattle.http_service.specs.declared.limits.TheConstants.{REQUEST_LIMIT}
 use Rattle.notice_book.specs.declared.kind.NoticeKind.{NoticeKind}
 use Rattle.notice_macros.specs.Expansion.{url_expansion}
 use Rattle.notice_macros.specs.declared.values.Values.{Values}
@@ -30,7 +31,7 @@ use Rattle.two_books.specs.OwnMessages.{BeginWith, IsGet, notice_at, notice_of, 
 use Rattle.two_books.proofs.Heard.{calls_are_one, own_messages}
 use Rattle.url.specs.Parser.{parse_url}
 use Rattle.url.specs.Parts.{Parts}
-use Rattle.two_books.specs.Delivering.{IsReplied}
+use Rattle.two_books.specs.Delivering.{IsHeard, IsReplied}
 use Rattle.two_books.proofs.Billed.{made_more, plain}
 use Rattle.two_books.specs.Settling.{IsCounted}
 use Rattle.two_books.proofs.BillPages.{IsNoBook, bill_page}
@@ -113,6 +114,12 @@ module _ (values : Values) (base id : List ℕ) (price : ℕ) (c : Call) where
       subst (λ (s : BidderState). was_counted NoticeKind.Bill values.auction.now id s.rows ≡ true) (sym none.1)
       (one_counted b between m a body p get (pages p parsed) says answers (first_reply limit reply out rest m a body is ends responds))
 
+-- how a reply ends, whatever was refused
+as_ends : (bytes : List ℕ) (ms : List Request) (h : IsHeard bytes ms) (reply out : List ℕ)
+    → (reply ≡ out) ⊎ ((fault : HttpFault) × (status : ℕ) × RefusesRequest REQUEST_LIMIT h.0 fault × (fault_status fault ≡ Some status) × (reply ≡ out ++ refusal_bytes status)) → Ends reply out
+as_ends bytes ms h reply out (inl is) = inl is
+as_ends bytes ms h reply out (inr (fault, status, refused, says, is)) = inr (fault, status, says, is)
+
 -- A post whose message was answered with a success: its bill was counted.
 pub delivered_counts : (limit : ℕ) (line : PriceLine) (p : Post) (c : Call) (b now : BidderState) (reply : List ℕ) → call_of p.url ≡ Some c → IsValidAs p.url → IsReplied c.request b reply now → Responds limit reply true
     → IsCounted line now.rows p
@@ -126,4 +133,4 @@ delivered_counts limit line p c b now reply call valid (ms, out, heard_all, repl
     heard values line.base t.id t.bid.charge.0 c limit b now ms out reply
     (own_messages values line.base t.id NoticeKind.Bill t.bid.charge.0 c ms base_plain t.auction.bytes t.auction.utf8 t.auction.some t.auction.few refl t.charge.0 t.charge.1 made call_is valid_is begin)
     (λ q parsed. bill_page values line.base t.id t.bid.charge.0 c q base_plain refl made call_is valid_is parsed)
-    (calls_are_one (url values line.base t.id t.bid.charge.0 c) c ms call_is valid_is begin) replies ends responds
+    (calls_are_one (url values line.base t.id t.bid.charge.0 c) c ms call_is valid_is begin) replies (as_ends c.request ms heard_all reply out ends) responds

@@ -5,7 +5,7 @@ use Rattle.std.proofs.lemmas.Bool.{true≢false}
 use Rattle.adx_units.specs.declared.memory.OutOfMemory.{OutOfMemory}
 use Rattle.adx_io.specs.Streams.{Tape, Took}
 use Rattle.adx_http.specs.Targets.{path_of, query_of}
-use Rattle.http_connection.specs.Messages.{AreRequests, Request}
+use Rattle.http_connection.specs.Messages.{AreRequests, RefusesRequest, Request}
 use Rattle.http_connection.specs.declared.conn.ConnEnd.{ConnEnd}
 use Rattle.http_connection.proofs.Fronts.{request_stays}
 use Rattle.http_grammar.specs.Requests.{verb_of_method}
@@ -24,8 +24,9 @@ use Rattle.bidder_http.specs.Notices.{TellsNotice, notice_in}
 use Rattle.bidder_http.specs.Pages.{is_get, is_post, page_at}
 use Rattle.bidder_http.specs.declared.page.Page.{Page}
 use Rattle.two_books.specs.OwnMessages.{BeginWith, notice_at, notice_of}
-use Rattle.two_books.specs.Playing.{Delivers, completes}
+use Rattle.two_books.specs.Playing.{BringsLate, Delivers, completes}
 use Rattle.two_books.specs.Delivering.{IsCarried, IsDelivered, IsHeard, IsReplied, StopsDelivering, carried_on, carried_over}
+use Rattle.two_books.specs.declared.late.Late.{Late}
 
 -- ---- one message
 
@@ -129,8 +130,8 @@ told reply out took = ap (λ (o : Option (List ℕ)). unwrap_or o []) took
 abbrev pub HearsAll : List ℕ → List ℕ → BidderState → BidderState → Type 0
 HearsAll bytes reply b now = IsDelivered bytes b now × IsReplied bytes b reply now
 
-hears : (bytes reply out : List ℕ) (ms : List Request) (b now : BidderState) → IsHeard bytes ms → Replies BidderAnswers b ms out now
-    → (reply ≡ out) ⊎ ((fault : HttpFault) × (status : ℕ) × (fault_status fault ≡ Some status) × (reply ≡ out ++ refusal_bytes status)) → HearsAll bytes reply b now
+hears : (bytes reply out : List ℕ) (ms : List Request) (b now : BidderState) (heard : IsHeard bytes ms) → Replies BidderAnswers b ms out now
+    → (reply ≡ out) ⊎ ((fault : HttpFault) × (status : ℕ) × RefusesRequest REQUEST_LIMIT heard.0 fault × (fault_status fault ≡ Some status) × (reply ≡ out ++ refusal_bytes status)) → HearsAll bytes reply b now
 hears bytes reply out ms b now heard replies is = ((ms, heard, carried ms out b now replies), (ms, out, heard, replies, is))
 
 pub hears_all : (before : Tape) (reply : List ℕ) (tape : Tape) (b now : BidderState) (end : ConnEnd) → Completes end → Ends before reply tape b now end → HearsAll before.left reply b now
@@ -143,7 +144,7 @@ hears_all before reply tape b now ConnEnd.Cut c (ms, served, go_on, (beyond, are
 hears_all before reply tape b now (ConnEnd.Refused fault) c r =
     let (beyond, are, refused) = r.brings in
     hears before.left reply r.out r.ms b now (beyond ++ tape.left, are, inr (inr (r.go_on, inr (fault, refused)))) r.replies
-    (inr (fault, r.status, r.answered, told reply (r.out ++ refusal_bytes r.status) r.took))
+    (inr (fault, r.status, refused, r.answered, told reply (r.out ++ refusal_bytes r.status) r.took))
 hears_all before reply tape b now ConnEnd.ReadFault c h = absurd c
 hears_all before reply tape b now ConnEnd.WriteFault c h = absurd c
 hears_all before reply tape b now ConnEnd.Spent c (ms, served, spent, (beyond, short, are)) =
@@ -206,3 +207,18 @@ served before held reply tape b now end whole bytes r none is complete ends take
 pub unserved : (before : Tape) (held reply : List ℕ) (tape : Tape) (b now : BidderState) (end : ConnEnd) → held ≡ [] → EndsFrom before held reply tape b now end → StopsDelivering before.left b now
 unserved before held reply tape b now end none ends =
     hears_some before reply tape b now end (subst (λ (h : List ℕ). EndsFrom before h reply tape b now end) none ends)
+
+-- ---- a reply that is on its way
+
+abbrev late_of : List ℕ → List ℕ → Late
+late_of request reply = record { request = request; bytes = reply }
+
+-- a message that was lent, and its copy
+pub brought : (message lent request reply : List ℕ) (done : Unit {0}) (b now : BidderState) (replies mid replies_now : List Late) → lent ≡ message → request ≡ message → Delivers lent (Ok reply) b now
+    → mid ≡ replies → replies_now ≡ mid ++ late_of request reply ∷ [] → BringsLate message (Ok done) b now replies replies_now
+brought message lent request reply done b now replies mid replies_now is copied delivered same more = (
+  reply,
+  subst (λ (bytes : List ℕ). IsDelivered bytes b now) is delivered.0,
+  subst (λ (bytes : List ℕ). IsReplied bytes b reply now) is delivered.1,
+  more ∙ (ap (λ (rs : List Late). rs ++ late_of request reply ∷ []) same ∙ ap (λ (text : List ℕ). replies ++ late_of text reply ∷ []) copied),
+)

@@ -73,12 +73,6 @@ opened r terms history o known none followed =
       followed = subst (λ (h : List Entry). HasFollowed h o) (none_taken o.followed) followed;
     }))
 
--- a day that was given an entry that may follow
-pub added_day : (e : Entry) (old new : DayState) → IsDay old.terms old.history → MayFollow old.terms old.history e → new.terms ≡ old.terms → new.history ≡ old.history ++ e ∷ [] → IsDay new.terms new.history
-added_day e old new day follows terms history =
-    subst (λ (t : Terms). IsDay t new.history) (sym terms)
-    (subst (λ (h : List Entry). IsDay old.terms h) (sym history) (record { terms_ok = day.terms_ok; legal = legal_push old.terms old.history e day.legal follows }))
-
 -- an exchange that was called, or had no memory for it
 pub called_as : (c : Call) (e : Option Entry) (r : Result (Unit {0}) OutOfMemory) (old new : ExchangeState) → e ≡ (reply old.day.terms old.day.history c).entry
     → OnOk r (HasHistory (with_entry old.day.history e) old new) → OnOk r (IsDay new.day.terms new.day.history) → OnOk r (IsCalled c old new)

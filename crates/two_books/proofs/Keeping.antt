@@ -1,5 +1,5 @@
 -- What holds of a world holds after each step, whichever way it ends.
-use Rattle.std.proofs.Common.{◌≡◌, ℕ, List, [], ◌++◌, length, refl, sym, ap, ◌∙◌, subst, All, Option, Some, None, Result, Ok, Err, arith}
+use Rattle.std.proofs.Common.{◌≡◌, ℕ, List, [], ◌++◌, length, refl, sym, ap, ◌∙◌, subst, All, Option, Some, None, Result, Ok, Err, arith, inl, inr}
 use Rattle.std.specs.Prelude.{IfSome}
 use Rattle.std.specs.List.{slice_get}
 use Rattle.std.proofs.lemmas.List.Elements.{All-nil, All-push}
@@ -22,8 +22,9 @@ use Rattle.two_books.proofs.Budgets.{budget_entry}
 use Rattle.two_books.specs.Exchanges.{ExchangeState, HasHistory, IsKept, IsNoticed, auction_of}
 use Rattle.two_books.specs.Holding.{AreOfHistory, Holds, IsAsked, IsBilled, IsCharge, IsLedgerOf, IsOwnEntry, IsSent}
 use Rattle.two_books.specs.Names.{IsNamed}
-use Rattle.two_books.specs.Steps.{AtExchange, IsAgain, StepsTo, Stops, StopsAgain, StopsPumping, Takes, due_posts}
+use Rattle.two_books.specs.Steps.{AtExchange, IsAcknowledged, IsAgain, StepsTo, Stops, StopsAcknowledging, StopsAgain, StopsPumping, Takes, due_posts}
 use Rattle.two_books.specs.Worlds.{IsNew, WorldState}
+use Rattle.two_books.specs.declared.late.Late.{Late}
 use Rattle.two_books.specs.declared.step.Fate.{Fate}
 use Rattle.two_books.specs.declared.step.Step.{Step}
 use Rattle.two_books.proofs.Answered.{own_answer}
@@ -117,7 +118,7 @@ noticed : (kind : NoticeKind) (n : ℕ) (auction : Option (List ℕ)) (old new :
 noticed kind n None old new at posts h =
     same_day old new (ap (λ (e : ExchangeState). e.day) at.exchange) posts (same_bidder old new at.bidder h) h
 noticed kind n (Some auction) old new at posts h =
-    called (notice_reply (history_of old) kind auction n).entry old new (record { exchange = at.exchange.has; messages = at.messages; bidder = at.bidder }) at.exchange.legal
+    called (notice_reply (history_of old) kind auction n).entry old new (record { exchange = at.exchange.has; messages = at.messages; bidder = at.bidder; replies = at.replies }) at.exchange.legal
     (notice_entry (history_of old) kind auction n (Own (line_of old)) (λ counts. by kind)) posts h
   where
     by : (k : NoticeKind) → Own (line_of old) (entry_of_notice k n)
@@ -142,21 +143,32 @@ stops_again n (Some c) old new is at posts h =
     same_day old new (ap (λ (e : ExchangeState). e.day) at.exchange) posts
     (some_heard (line_of old) (history_of old) h.own (charges_of old h) c old.bidder new.bidder (all_at (IsSent (history_of old)) old.messages n c h.posts.messages is) at.bidder (bidder_of old h)) h
 
+-- ---- a late reply
+
+acknowledged : (reply : Option Late) (old new : WorldState) → IsAcknowledged reply old new → AreOfHistory new → Holds old → Holds new
+acknowledged None old new same posts h = subst Holds (sym same) h
+acknowledged (Some late) old new at posts h = same_day old new at.exchange.day posts (same_bidder old new at.bidder h) h
+
+stops_acknowledging : (reply : Option Late) (old new : WorldState) → StopsAcknowledging reply old new → AreOfHistory new → Holds old → Holds new
+stops_acknowledging None old new same posts h = subst Holds (sym same) h
+stops_acknowledging (Some late) old new (inl same) posts h = subst Holds (sym same) h
+stops_acknowledging (Some late) old new (inr at) posts h = acknowledged (Some late) old new at posts h
+
 -- ---- each step
 
 pub takes_hold : (s : Step) (old new : WorldState) → IsNamed s → Holds old → Takes s old new → Holds new
 takes_hold (Step.Ask request now) old new named h (answer, reads, at) =
-    called _ old new (record { exchange = at.exchange.has; messages = at.messages; bidder = at.bidder }) at.exchange.legal
+    called _ old new (record { exchange = at.exchange.has; messages = at.messages; bidder = at.bidder; replies = at.replies }) at.exchange.legal
     (own_answer (line_of old) request old.exchange.campaigns answer now old.exchange.day.terms (history_of old) named reads)
     (takes_all (Step.Ask request now) old new h.posts (answer, reads, at)) h
 takes_hold (Step.Notice kind n) old new named h at =
     noticed kind n (auction_of (history_of old) n) old new at (takes_all (Step.Notice kind n) old new h.posts at) h
 takes_hold (Step.Tick now) old new named h at =
-    called (tick_reply (history_of old) now).entry old new (record { exchange = at.exchange.has; messages = at.messages; bidder = at.bidder }) at.exchange.legal
+    called (tick_reply (history_of old) now).entry old new (record { exchange = at.exchange.has; messages = at.messages; bidder = at.bidder; replies = at.replies }) at.exchange.legal
     (ticked now old) (takes_all (Step.Tick now) old new h.posts at) h
 takes_hold (Step.Budget campaign change budget) old new named h at =
     let x = change_of campaign change budget in
-    called (budget_reply old.exchange.day.terms (history_of old) x).entry old new (record { exchange = at.exchange.has; messages = at.messages; bidder = at.bidder }) at.exchange.legal
+    called (budget_reply old.exchange.day.terms (history_of old) x).entry old new (record { exchange = at.exchange.has; messages = at.messages; bidder = at.bidder; replies = at.replies }) at.exchange.legal
     (budget_entry (Own (line_of old)) (history_of old) x tt old.exchange.day.terms) (takes_all (Step.Budget campaign change budget) old new h.posts at) h
 takes_hold (Step.Pump fates) old new named h p =
     same_day old new p.day (takes_all (Step.Pump fates) old new h.posts p)
@@ -164,13 +176,14 @@ takes_hold (Step.Pump fates) old new named h p =
     (due_asked old.exchange h.posts.pending) p.valid p.tried (bidder_of old h)) h
 takes_hold (Step.Again n) old new named h at =
     again n (slice_get old.messages n) old new refl at (takes_all (Step.Again n) old new h.posts at) h
+takes_hold (Step.Acknowledge n) old new named h at = acknowledged (slice_get old.replies n) old new at (takes_all (Step.Acknowledge n) old new h.posts at) h
 takes_hold Step.RestartExchange old new named h at =
     same_day old new at.exchange.day (takes_all Step.RestartExchange old new h.posts at) (same_bidder old new at.bidder h) h
 takes_hold Step.RestartBidder old new named h same = subst Holds (sym same) h
 
 kept : (old new : WorldState) → AtExchange IsKept old new → AreOfHistory new → Holds old → Holds new
 kept old new at posts h =
-    called None old new (record { exchange = at.exchange; messages = at.messages; bidder = at.bidder })
+    called None old new (record { exchange = at.exchange; messages = at.messages; bidder = at.bidder; replies = at.replies })
     (subst (λ (terms : Terms). IsDay terms (history_of new)) (sym at.exchange.terms) (subst (λ (t : List Entry). IsDay old.exchange.day.terms t) (sym at.exchange.history) h.day))
     tt posts h
 
@@ -190,6 +203,7 @@ stops_hold (Step.Tick now) old new h at = kept old new at (stops_all (Step.Tick 
 stops_hold (Step.Budget campaign change budget) old new h at = kept old new at (stops_all (Step.Budget campaign change budget) old new h.posts at) h
 stops_hold (Step.Pump fates) old new h p = stopped fates old new h p (stops_all (Step.Pump fates) old new h.posts p)
 stops_hold (Step.Again n) old new h at = stops_again n (slice_get old.messages n) old new refl at (stops_all (Step.Again n) old new h.posts at) h
+stops_hold (Step.Acknowledge n) old new h at = stops_acknowledging (slice_get old.replies n) old new at (stops_all (Step.Acknowledge n) old new h.posts at) h
 stops_hold Step.RestartExchange old new h same = subst Holds (sym same) h
 stops_hold Step.RestartBidder old new h same = subst Holds (sym same) h
 

@@ -2,6 +2,7 @@ pub mod Agreeing
 pub mod Answered
 pub mod Billed
 pub mod Charges
+pub mod Decided
 pub mod Delivered
 pub mod Fronts
 pub mod Budgets

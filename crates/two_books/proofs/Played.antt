@@ -1,15 +1,14 @@
 -- Messages that are sent one after the other.
-use Rattle.std.proofs.Common.{◌≡◌, ◌≢◌, ℕ, zero, suc, List, [], ◌∷◌, ◌++◌, length, drop, take, ◌+◌, ◌<◌, ◌≤◌, get_or, refl, sym, ap, ◌∙◌, subst, append_assoc, append-nil, arith, length-append, All, Option, Some, None, Result, Ok, Err, inl, inr, ◌⊎◌}
+use Rattle.std.proofs.Common.{◌≡◌, ◌≢◌, ℕ, zero, suc, List, [], ◌∷◌, ◌++◌, length, drop, take, ◌+◌, ◌<◌, ◌≤◌, get_or, refl, sym, ap, ◌∙◌, subst, append_assoc, append-nil, arith, length-append, All, Option, Some, None, Ok, Err, inl, inr, ◌⊎◌}
 use Rattle.std.specs.List.{cons_option, filter_map}
-use Rattle.std.specs.Prelude.{IfOk, IfSome}
+use Rattle.std.specs.Prelude.{IfSome}
 use Rattle.std.proofs.lemmas.List.Elements.{All-append, All-cons, All-nil, filter_map-append}
 use Rattle.adx_units.specs.declared.memory.OutOfMemory.{OutOfMemory}
 use Rattle.bidder_core.specs.Seen.{BidderState}
-use Rattle.outbox.specs.Calls.{IsValidAs, call_of}
+use Rattle.outbox.specs.Calls.{IsValidAs}
 use Rattle.outbox.specs.declared.calling.Call.{Call}
 use Rattle.outbox.specs.declared.post.Post.{Post}
-use Rattle.two_books.specs.Playing.{ArePlayed, PlaysAll, Meets, PlaysPost, Prepares, SendsMessage}
-use Rattle.two_books.specs.Delivering.{IsDelivered, StopsDelivering}
+use Rattle.two_books.specs.Playing.{ArePlayed, PlaysAll, PlaysPost, Prepares}
 use Rattle.two_books.specs.Steps.{IsCutShort}
 use Rattle.std.proofs.lemmas.List.{drop_more, take-append-drop, take_all, take_more}
 use Rattle.two_books.specs.Worlds.{IsSendable, message_of}
@@ -157,34 +156,7 @@ stands_all posts fates sent sent_now plan b now done before = record {
 
 -- ---- one message
 
--- it was sent, and what comes of it is planned
-pub sent_planned : (c : Call) (fate : Fate) (p : Reply) (sent mid sent_now : List Call) (plan plan_mid plan_now : List Reply) (b now : BidderState) (done : Unit {0})
-    → mid ≡ sent → sent_now ≡ mid ++ c ∷ [] → plan_mid ≡ plan → plan_now ≡ plan_mid ++ p ∷ [] → Prepares fate c.request b p now
-    → SendsMessage c fate (Ok done) sent sent_now plan plan_now b now
-sent_planned c fate p sent mid sent_now plan plan_mid plan_now b now done same more kept planned prepares =
-    (more ∙ ap (λ (l : List Call). l ++ c ∷ []) same, (p, planned ∙ ap (λ (l : List Reply). l ++ p ∷ []) kept, prepares))
-
--- it was sent, and memory was wanting
-pub sent_stopped : (c : Call) (fate : Fate) (sent mid sent_now : List Call) (plan plan_now : List Reply) (b now : BidderState) (wanting : OutOfMemory)
-    → mid ≡ sent → sent_now ≡ mid ++ c ∷ [] → plan_now ≡ plan → (fate ≢ Fate.Held) × StopsDelivering c.request b now → SendsMessage c fate (Err wanting) sent sent_now plan plan_now b now
-sent_stopped c fate sent mid sent_now plan plan_now b now wanting same more kept stops =
-    (kept, inr (more ∙ ap (λ (l : List Call). l ++ c ∷ []) same, stops.0, stops.1))
-
 -- ---- one post
-
-pub plays_none : (url : List ℕ) (fate : Fate) (sent : List Call) (plan : List Reply) (b : BidderState) (done : Unit {0}) → None ≡ call_of url → PlaysPost url (call_of url) fate (Ok done) sent sent plan plan b b
-plays_none url fate sent plan b done is =
-    subst (λ (o : Option Call). PlaysPost url o fate (Ok done) sent sent plan plan b b) is (refl, refl, refl)
-
-pub plays_some : (url : List ℕ) (c : Call) (fate : Fate) (r : Result (Unit {0}) OutOfMemory) (sent sent_now : List Call) (plan plan_now : List Reply) (b now : BidderState)
-    → Some c ≡ call_of url → IsValidAs url → SendsMessage c fate r sent sent_now plan plan_now b now → PlaysPost url (call_of url) fate r sent sent_now plan plan_now b now
-plays_some url c fate r sent sent_now plan plan_now b now is valid sends =
-    subst (λ (o : Option Call). PlaysPost url o fate r sent sent_now plan plan_now b now) is (sends, inr valid)
-
--- nothing was sent for lack of memory
-pub plays_nothing : (url : List ℕ) (o : Option Call) (fate : Fate) (sent : List Call) (plan : List Reply) (b : BidderState) (wanting : OutOfMemory) → PlaysPost url o fate (Err wanting) sent sent plan plan b b
-plays_nothing url None fate sent plan b wanting = (refl, refl, refl)
-plays_nothing url (Some c) fate sent plan b wanting = ((refl, inl (refl, refl)), inl refl)
 
 -- ---- the posts of a slice
 
@@ -212,9 +184,3 @@ end_stands posts i fates sent sent_now plan b now done all stands =
     stands_all posts fates sent sent_now plan b now done (subst (λ (ps : List Post). Stands ps fates sent sent_now plan b now) (take_all i posts all) stands)
 
 -- ---- what comes of a message
-
-pub meets_mute : (bytes : List ℕ) (b now : BidderState) (wanting : OutOfMemory) → StopsDelivering bytes b now → Meets Fate.Mute bytes (Err wanting) b now
-meets_mute bytes b now wanting stops = (λ (e : Fate.Mute ≡ Fate.Held). cc, stops)
-
-pub meets_through : (bytes : List ℕ) (b now : BidderState) (wanting : OutOfMemory) → StopsDelivering bytes b now → Meets Fate.Through bytes (Err wanting) b now
-meets_through bytes b now wanting stops = (λ (e : Fate.Through ≡ Fate.Held). cc, stops)

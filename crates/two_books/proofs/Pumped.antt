@@ -1,5 +1,5 @@
 -- A pump, from what its parts did.
-use Rattle.std.proofs.Common.{◌≡◌, ℕ, ◌+◌, ◌-◌, ◌<◌, ◌≤◌, ◌^◌, min, List, [], ◌∷◌, ◌++◌, length, take, drop, map, refl, sym, ap, ◌∙◌, subst, arith, append-nil, All, Result, Ok, Err, inl, inr, length-drop}
+use Rattle.std.proofs.Common.{◌≡◌, ℕ, ◌+◌, ◌-◌, ◌<◌, ◌^◌, min, List, [], ◌∷◌, ◌++◌, length, take, drop, map, refl, sym, ap, ◌∙◌, subst, arith, append-nil, All, Result, Ok, Err, inl, inr, length-drop}
 use Rattle.std.specs.List.{filter_map}
 use Rattle.std.proofs.lemmas.List.{take_all}
 use Rattle.std.proofs.lemmas.List.Elements.{All-nil}
@@ -11,7 +11,6 @@ use Rattle.outbox.specs.Pumping.{given_up_with, left_of}
 use Rattle.outbox.specs.declared.calling.Call.{Call}
 use Rattle.outbox.specs.declared.post.Post.{Post}
 use Rattle.outbox.specs.declared.report.Outcome.{Outcome}
-use Rattle.outbox.specs.declared.report.Report.{Report}
 use Rattle.two_books.specs.Exchanges.{ExchangeState, FollowsOn, next_posts}
 use Rattle.two_books.specs.Playing.{ArePlayed, PlaysAll}
 use Rattle.two_books.specs.Pumps.{PumpsOver, PumpsPlan, PumpsTo}
@@ -68,7 +67,7 @@ all_played posts fates sent sent_now plan b now done p =
     }
 
 -- the link before its first start goes on with its whole plan
-begins : (plan : List Reply) → failing (map planned_of plan) < most_faults → GoesOn (map planned_of plan) (link_of (map planned_of plan))
+pub begins : (plan : List Reply) → failing (map planned_of plan) < most_faults → GoesOn (map planned_of plan) (link_of (map planned_of plan))
 begins plan few = record { starts = refl; unmet_is = none (failing (map planned_of plan)); few = few }
   where
     none : (f : ℕ) → 0 + (f + 0) ≡ f
@@ -89,7 +88,7 @@ pumped fates e mid now messages messages_now plan b bidder done follows plays pu
     let over : TriesOver mid.outbox.pending os (link_of (map planned_of plan)) link =
     subst (λ (ps : List Post). TriesOver ps os (link_of (map planned_of plan)) link) (whole_take mid.outbox.pending (length os) p.all) p.tried in
     let tried : AreTried mid.outbox.pending fates b os bidder =
-    tried_all have_requests mid.outbox.pending fates plan os b bidder (link_of (map planned_of plan)) link (begins plan pumps.few) all.played over in
+    tried_all have_requests mid.outbox.pending fates plan os b bidder (link_of (map planned_of plan)) link (begins plan pumps.few) all.played over in λ replies.
     record {
       outcomes = os;
       tried = subst (λ (ps : List Post). AreTried ps fates b os bidder) due tried;
@@ -98,6 +97,7 @@ pumped fates e mid now messages messages_now plan b bidder done follows plays pu
       pending = p.pending ∙ ap (λ (ps : List Post). left_of ps os) due;
       undeliverable = p.given_up ∙ ap (λ n. given_up_with n os) follows.undeliverable;
       messages = all.sent ∙ ap (λ (ps : List Post). messages ++ filter_map message_of ps) due;
+      replies = refl;
       day = pumps.day ∙ follows.day;
       campaigns = pumps.campaigns ∙ follows.campaigns;
     }
@@ -108,7 +108,7 @@ none_left : (ps : List Post) → ps ≡ left_of ps []
 none_left [] = refl
 none_left (p ∷ ps) = refl
 
-none_given_up : (before : ℕ) → before ≡ given_up_with before []
+pub none_given_up : (before : ℕ) → before ≡ given_up_with before []
 none_given_up before = none before ((2 ^ 32 - 1) - before)
   where
     none : (a most : ℕ) → a ≡ a + min 0 most
@@ -116,7 +116,7 @@ none_given_up before = none before ((2 ^ 32 - 1) - before)
 
 -- not all entries could be followed
 pub stops_following : (fates : List Fate) (e now : ExchangeState) (messages : List Call) (b : BidderState) (wanting : OutOfMemory) → FollowsOn (Err wanting) e now → PumpsTo fates (Err wanting) e now messages messages b b
-stops_following fates e now messages b wanting f = record {
+stops_following fates e now messages b wanting f = λ replies. record {
   entries = f.entries;
   front = [];
   back = now.outbox.pending;
@@ -134,6 +134,7 @@ stops_following fates e now messages b wanting f = record {
   pending = none_left now.outbox.pending;
   undeliverable = f.undeliverable ∙ none_given_up e.outbox.undeliverable;
   messages = sym (append-nil messages);
+  replies = refl;
   day = f.day;
   campaigns = f.campaigns;
 }
@@ -142,7 +143,7 @@ stops_following fates e now messages b wanting f = record {
 pub stops_playing : (fates : List Fate) (e mid : ExchangeState) (messages messages_now : List Call) (plan : List Reply) (b bidder : BidderState) (done : Unit {0}) (wanting : OutOfMemory)
     → FollowsOn (Ok done) e mid → PlaysAll mid.outbox.pending fates (Err wanting) messages messages_now plan b bidder → PumpsTo fates (Err wanting) e mid messages messages_now b bidder
 stops_playing fates e mid messages messages_now plan b bidder done wanting f p =
-    let t : TriesSome fates p.front [] b p.between = untried p.front fates plan b p.between p.played in
+    let t : TriesSome fates p.front [] b p.between = untried p.front fates plan b p.between p.played in λ replies.
     record {
       entries = f.entries;
       front = p.front;
@@ -161,6 +162,7 @@ stops_playing fates e mid messages messages_now plan b bidder done wanting f p =
       pending = p.split ∙ none_left (p.front ++ p.back);
       undeliverable = f.undeliverable ∙ none_given_up e.outbox.undeliverable;
       messages = p.sent;
+      replies = refl;
       day = f.day;
       campaigns = f.campaigns;
     }
@@ -176,7 +178,7 @@ stops_trying fates e mid now messages messages_now plan b bidder done wanting f 
 
     made : (os : List Outcome) → TriesSome fates mid.outbox.pending os b bidder → now.outbox.pending ≡ left_of mid.outbox.pending os → now.outbox.undeliverable ≡ given_up_with mid.outbox.undeliverable os
         → now.outbox.followed ≡ mid.outbox.followed → now.outbox.kept ≡ mid.outbox.kept → PumpsTo fates (Err wanting) e now messages messages_now b bidder
-    made os t pending given_up count kept = record {
+    made os t pending given_up count kept = λ replies. record {
       entries = f.entries;
       front = mid.outbox.pending;
       back = [];
@@ -194,6 +196,7 @@ stops_trying fates e mid now messages messages_now plan b bidder done wanting f 
       pending = pending ∙ (ap (λ (ps : List Post). left_of ps os) (sym (append-nil mid.outbox.pending)) ∙ ap (λ (o : List Outcome). left_of (mid.outbox.pending ++ []) o) (sym t.first));
       undeliverable = given_up ∙ (ap (λ n. given_up_with n os) f.undeliverable ∙ ap (λ (o : List Outcome). given_up_with e.outbox.undeliverable o) (sym t.first));
       messages = all.sent ∙ ap (λ (m : List Call). messages ++ m) (sym (append-nil (filter_map message_of mid.outbox.pending)));
+      replies = refl;
       day = pumps.day ∙ f.day;
       campaigns = pumps.campaigns ∙ f.campaigns;
     }

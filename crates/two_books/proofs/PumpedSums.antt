@@ -44,7 +44,7 @@ module _ (line : PriceLine) (p : Post) where
 
 -- ---- all posts
 
-left_none : (ps : List Post) → left_of ps [] ≡ ps
+pub left_none : (ps : List Post) → left_of ps [] ≡ ps
 left_none [] = refl
 left_none (p ∷ ps) = refl
 
@@ -58,11 +58,11 @@ none_taken (suc n) = refl
 abbrev undelivered : List Outcome → ℕ
 undelivered os = count_by is_undeliverable os
 
-here_left : (p q : Post) (t : Bool) (left : List Post) → t ≡ true → p ≡ q → Among p (cond t (q ∷ left) left)
+pub here_left : (p q : Post) (t : Bool) (left : List Post) → t ≡ true → p ≡ q → Among p (cond t (q ∷ left) left)
 here_left p q true left yes_t same = inl same
 here_left p q false left yes_t same = absurd (cc)
 
-later_left : (p q : Post) (t : Bool) (left : List Post) → Among p left → Among p (cond t (q ∷ left) left)
+pub later_left : (p q : Post) (t : Bool) (left : List Post) → Among p left → Among p (cond t (q ∷ left) left)
 later_left p q true left among = inr among
 later_left p q false left among = among
 

@@ -56,9 +56,6 @@ plain_letter name h other =
     ap utf8_lossy (decode_plain (name ∷ []) (All-cons IsPlain name [] (written_plain name h other) (All-nil IsPlain)))
     ∙ utf8_lossy-IsUtf8 (name ∷ []) (IsUtf8-from_ascii (name ∷ []) (IsAscii-from_all (name ∷ []) (All-cons (λ b. b < 128) name [] (grind (arith, nat_tests)) (All-nil (λ b. b < 128)))))
 
-pub named_a : (v : List ℕ) → has_name (codes "a") (97 ∷ [], v) ≡ true
-named_a v = ap (λ t. bytes_eq t (codes "a")) (plain_letter 97 refl (λ e. absurd (omega arith)))
-
 pub letter_b : (name v : List ℕ) → has_name name (98 ∷ [], v) ≡ bytes_eq (98 ∷ []) name
 letter_b name v = ap (λ t. bytes_eq t name) (plain_letter 98 refl (λ e. absurd (omega arith)))
 

@@ -1,9 +1,8 @@
 -- What is pending and what was sent are posts of the history, after each step.
-use Rattle.std.proofs.Common.{◌≡◌, ℕ, List, [], ◌∷◌, ◌++◌, length, take, drop, Bool, true, false, cond, refl, sym, ap, ◌∙◌, subst, append_assoc, append-nil, Option, Some, None, Result, Ok, Err, inl, inr, All}
-use Rattle.std.specs.List.{cons_option, filter_map, slice_get}
+use Rattle.std.proofs.Common.{◌≡◌, ℕ, List, [], ◌∷◌, ◌++◌, length, take, drop, Bool, true, false, cond, refl, sym, ap, ◌∙◌, subst, append_assoc, append-nil, Option, Some, None, inl, inr, All}
+use Rattle.std.specs.List.{before_first, cons_option, filter_map, slice_get}
 use Rattle.std.proofs.lemmas.List.{take-append-drop}
 use Rattle.std.proofs.lemmas.List.Elements.{All-append, All-cons, All-head, All-nil, All-tail, All-weaker}
-use Rattle.adx_units.specs.declared.memory.OutOfMemory.{OutOfMemory}
 use Rattle.bidder_core.specs.Seen.{BidderState}
 use Rattle.day_rules.specs.Replies.{Call as DayCall, reply, with_entry}
 use Rattle.day_rules.specs.declared.entry.Entry.{Entry}
@@ -19,8 +18,10 @@ use Rattle.outbox.specs.declared.report.Outcome.{Outcome}
 use Rattle.outbox.proofs.Followed.{posts_on}
 use Rattle.two_books.specs.Exchanges.{ExchangeState, HasHistory, IsKept, IsNoticed, auction_of, next_posts, not_followed}
 use Rattle.two_books.specs.Holding.{AreOfHistory, IsAsked, IsSent}
-use Rattle.two_books.specs.Steps.{AtExchange, IsAgain, IsCutShort, StepsTo, Stops, StopsAgain, StopsPumping, Takes, due_posts}
+use Rattle.two_books.specs.LateReplies.{Acknowledges, IsDecided, is_sent_as}
+use Rattle.two_books.specs.Steps.{AtExchange, IsAcknowledged, IsAgain, IsCutShort, Stops, StopsAcknowledging, StopsAgain, StopsPumping, Takes, due_posts}
 use Rattle.two_books.specs.Worlds.{IsSendable, WorldState, message_of}
+use Rattle.two_books.specs.declared.late.Late.{Late}
 use Rattle.two_books.specs.declared.step.Fate.{Fate}
 use Rattle.two_books.specs.declared.step.Step.{Step}
 
@@ -127,20 +128,59 @@ pumped_all old new outcomes are day pending messages valid =
 
 noticed : (auction : Option (List ℕ)) (c : List ℕ → DayCall) (old new : WorldState) → AtExchange (IsNoticed auction c) old new → AreOfHistory old → AreOfHistory new
 noticed None c old new at are = grown [] old new (ap (λ (e : ExchangeState). e.day.history) at.exchange ∙ sym (append-nil old.exchange.day.history)) (ap (λ (e : ExchangeState). e.outbox.pending) at.exchange) at.messages are
-noticed (Some auction) c old new at are = called (reply old.exchange.day.terms old.exchange.day.history (c auction)).entry old new (record { exchange = at.exchange.has; messages = at.messages; bidder = at.bidder }) are
+noticed (Some auction) c old new at are = called (reply old.exchange.day.terms old.exchange.day.history (c auction)).entry old new (record { exchange = at.exchange.has; messages = at.messages; bidder = at.bidder; replies = at.replies }) are
+
+pub front_of_all : (P : Post → Type 0) (xs ys : List Post) → All P (xs ++ ys) → All P xs
+front_of_all P [] ys all = All-nil P
+front_of_all P (x ∷ xs) ys all = All-cons P x xs (All-head P x (xs ++ ys) all) (front_of_all P xs ys (All-tail P x (xs ++ ys) all))
+
+pub back_of_all : (P : Post → Type 0) (xs ys : List Post) → All P (xs ++ ys) → All P ys
+back_of_all P [] ys all = all
+back_of_all P (x ∷ xs) ys all = back_of_all P xs ys (All-tail P x (xs ++ ys) all)
+
+-- a late reply decided of a post, or of none
+decided : (late : Late) (old new : WorldState) → AtExchange (Acknowledges late) old new → AreOfHistory old → AreOfHistory new
+decided late old new at are = by at.exchange.outbox
+  where
+    h : List Entry
+    h = old.exchange.day.history
+
+    with_pending : All (IsAsked h) new.exchange.outbox.pending → AreOfHistory new
+    with_pending pending =
+        let history : h ≡ new.exchange.day.history = ap (λ (d : DayState). d.history) (sym at.exchange.day) in
+        record {
+          pending = subst (λ (t : List Entry). All (IsAsked t) new.exchange.outbox.pending) history pending;
+          messages =
+              subst (λ (t : List Entry). All (IsSent t) new.messages) history (subst (λ (cs : List Call). All (IsSent h) cs) (sym at.messages) are.messages);
+        }
+
+    by : IsDecided late old.exchange.outbox new.exchange.outbox → AreOfHistory new
+    by (inl (none, same)) = with_pending (subst (λ (o : OutboxState). All (IsAsked h) o.pending) (sym same) are.pending)
+    by (inr d) =
+        let front : List Post = before_first (is_sent_as late.request) old.exchange.outbox.pending in
+        let whole : All (IsAsked h) (front ++ d.post ∷ d.back) = subst (λ (ps : List Post). All (IsAsked h) ps) d.split are.pending in
+        with_pending
+        (subst (λ (ps : List Post). All (IsAsked h) ps) (sym d.pending)
+        (All-append (IsAsked h) front (left_of (d.post ∷ d.back) (d.outcome ∷ [])) (front_of_all (IsAsked h) front (d.post ∷ d.back) whole)
+        (left_all (IsAsked h) (d.post ∷ d.back) (d.outcome ∷ []) (back_of_all (IsAsked h) front (d.post ∷ d.back) whole))))
 
 -- after each step that was taken
 pub takes_all : (s : Step) (old new : WorldState) → AreOfHistory old → Takes s old new → AreOfHistory new
-takes_all (Step.Ask request now) old new are (answer, reads, at) = called _ old new (record { exchange = at.exchange.has; messages = at.messages; bidder = at.bidder }) are
+takes_all (Step.Ask request now) old new are (answer, reads, at) = called _ old new (record { exchange = at.exchange.has; messages = at.messages; bidder = at.bidder; replies = at.replies }) are
 takes_all (Step.Notice kind n) old new are at = noticed (auction_of old.exchange.day.history n) _ old new at are
-takes_all (Step.Tick now) old new are at = called _ old new (record { exchange = at.exchange.has; messages = at.messages; bidder = at.bidder }) are
-takes_all (Step.Budget campaign change budget) old new are at = called _ old new (record { exchange = at.exchange.has; messages = at.messages; bidder = at.bidder }) are
+takes_all (Step.Tick now) old new are at = called _ old new (record { exchange = at.exchange.has; messages = at.messages; bidder = at.bidder; replies = at.replies }) are
+takes_all (Step.Budget campaign change budget) old new are at = called _ old new (record { exchange = at.exchange.has; messages = at.messages; bidder = at.bidder; replies = at.replies }) are
 takes_all (Step.Pump fates) old new are p = pumped_all old new p.outcomes are p.day p.pending p.messages p.valid
 takes_all (Step.Again n) old new are again = brought (slice_get old.messages n) again
   where
     brought : (o : Option Call) → IsAgain o old new → AreOfHistory new
     brought None same = same_world old new same are
     brought (Some c) at = grown [] old new (ap (λ (e : ExchangeState). e.day.history) at.exchange ∙ sym (append-nil old.exchange.day.history)) (ap (λ (e : ExchangeState). e.outbox.pending) at.exchange) at.messages are
+takes_all (Step.Acknowledge n) old new are at = acknowledged (slice_get old.replies n) at
+  where
+    acknowledged : (o : Option Late) → IsAcknowledged o old new → AreOfHistory new
+    acknowledged None same = same_world old new same are
+    acknowledged (Some late) did = decided late old new did are
 takes_all Step.RestartExchange old new are at =
     let history : old.exchange.day.history ≡ new.exchange.day.history = ap (λ (d : DayState). d.history) (sym at.exchange.day) in
     record {
@@ -155,14 +195,6 @@ takes_all Step.RestartBidder old new are same = same_world old new same are
 
 pub some_due : (n : ℕ) (e : ExchangeState) → All (IsAsked e.day.history) e.outbox.pending → All (IsAsked e.day.history) (e.outbox.pending ++ next_posts n e)
 some_due n e pending = All-append (IsAsked e.day.history) e.outbox.pending (next_posts n e) pending (next_asked n e)
-
-pub front_of_all : (P : Post → Type 0) (xs ys : List Post) → All P (xs ++ ys) → All P xs
-front_of_all P [] ys all = All-nil P
-front_of_all P (x ∷ xs) ys all = All-cons P x xs (All-head P x (xs ++ ys) all) (front_of_all P xs ys (All-tail P x (xs ++ ys) all))
-
-pub back_of_all : (P : Post → Type 0) (xs ys : List Post) → All P (xs ++ ys) → All P ys
-back_of_all P [] ys all = all
-back_of_all P (x ∷ xs) ys all = back_of_all P xs ys (All-tail P x (xs ++ ys) all)
 
 more_sent : (history : List Entry) (fate : Fate) (back : List Post) (b : BidderState) (more : List Call) (now : BidderState) → All (IsAsked history) back → IsCutShort fate back b more now → All (IsSent history) more
 more_sent history fate back b more now all (inl (none, same)) = subst (λ (cs : List Call). All (IsSent history) cs) (sym none) (All-nil (IsSent history))
@@ -189,7 +221,7 @@ stopped_all fates old new are p =
     }
 
 kept : (old new : WorldState) → AtExchange IsKept old new → AreOfHistory old → AreOfHistory new
-kept old new at are = called None old new (record { exchange = at.exchange; messages = at.messages; bidder = at.bidder }) are
+kept old new at are = called None old new (record { exchange = at.exchange; messages = at.messages; bidder = at.bidder; replies = at.replies }) are
 
 pub stops_all : (s : Step) (old new : WorldState) → AreOfHistory old → Stops s old new → AreOfHistory new
 stops_all (Step.Ask request now) old new are at = kept old new at are
@@ -202,10 +234,11 @@ stops_all (Step.Again n) old new are again = brought (slice_get old.messages n) 
     brought : (o : Option Call) → StopsAgain o old new → AreOfHistory new
     brought None same = same_world old new same are
     brought (Some c) at = grown [] old new (ap (λ (e : ExchangeState). e.day.history) at.exchange ∙ sym (append-nil old.exchange.day.history)) (ap (λ (e : ExchangeState). e.outbox.pending) at.exchange) at.messages are
+stops_all (Step.Acknowledge n) old new are at = acknowledged (slice_get old.replies n) at
+  where
+    acknowledged : (o : Option Late) → StopsAcknowledging o old new → AreOfHistory new
+    acknowledged None same = same_world old new same are
+    acknowledged (Some late) (inl same) = same_world old new same are
+    acknowledged (Some late) (inr did) = decided late old new did are
 stops_all Step.RestartExchange old new are same = same_world old new same are
 stops_all Step.RestartBidder old new are same = same_world old new same are
-
--- what a step did, whichever way it ended
-pub steps_all : (s : Step) (result : Result (Unit {0}) OutOfMemory) (old new : WorldState) → AreOfHistory old → StepsTo s result old new → AreOfHistory new
-steps_all s (Ok done) old new are did = takes_all s old new are did
-steps_all s (Err wanting) old new are did = stops_all s old new are did

@@ -1,11 +1,16 @@
 -- What each step settles, whichever way it ends.
-use Rattle.std.proofs.Common.{◌≡◌, ⊎_elim, ℕ, zero, suc, ◌+◌, ◌≤◌, List, [], ◌∷◌, ◌++◌, length, take, drop, refl, sym, ap, ap₂, ◌∙◌, subst, append-nil, arith, All, Option, Some, None, Result, Ok, Err, inl, inr}
+use Rattle.std.proofs.Common.{◌≡◌, ◌≢◌, ◌⊎◌, ⊎_elim, ℕ, zero, suc, ◌+◌, ◌<◌, ◌≤◌, true, false, List, [], ◌∷◌, ◌++◌, length, take, drop, refl, sym, ap, ap₂, ◌∙◌, subst, append-nil, arith, All, Option, Some, None, Result, Ok, Err, inl, inr}
 use Rattle.std.specs.Prelude.{IfSome}
-use Rattle.std.specs.List.{slice_get}
+use Rattle.std.specs.List.{before_first, slice_get}
+use Rattle.std.specs.Option.{option_map_or}
+use Rattle.std.specs.Str.{bytes_eq}
+use Rattle.std.proofs.lemmas.Bool.{true≢false}
+use Rattle.std.proofs.lemmas.Slice.Eq.{bytes_eq-Decides}
 use Rattle.std.proofs.lemmas.List.{length-append, take_all, take-append-drop}
 use Rattle.std.proofs.lemmas.List.Elements.{All-nil, All-push, All-weaker}
 use Rattle.adx_units.specs.declared.memory.OutOfMemory.{OutOfMemory}
 use Rattle.bidder_core.specs.Seen.{BidderState}
+use Rattle.bidder_core.specs.declared.ledger.LedgerRow.{LedgerRow}
 use Rattle.bidder_core.specs.declared.price_line.PriceLine.{PriceLine}
 use Rattle.day_rules.specs.DayState.{DayState}
 use Rattle.day_rules.specs.Entries.{change_of, entry_of_notice}
@@ -16,22 +21,29 @@ use Rattle.notice_book.specs.declared.kind.NoticeKind.{NoticeKind}
 use Rattle.deal_floor.specs.declared.roster.Roster.{Roster}
 use Rattle.outbox.specs.Following.{OutboxState}
 use Rattle.outbox.specs.Posts.{posts_of}
-use Rattle.outbox.specs.Pumping.{given_up_with, left_of}
+use Rattle.outbox.specs.Calls.{IsValidAs}
+use Rattle.outbox.specs.Pumping.{ComesTo, given_up_with, left_of, stays}
 use Rattle.outbox.specs.declared.calling.Call.{Call}
+use Rattle.outbox.specs.declared.outbox.TheConstants.{ANSWER_LIMIT}
 use Rattle.outbox.specs.declared.post.Post.{Post}
 use Rattle.outbox.specs.declared.report.Outcome.{Outcome}
 use Rattle.outbox.proofs.Followed.{posts_on}
 use Rattle.two_books.proofs.Budgets.{budget_entry}
 use Rattle.two_books.specs.Exchanges.{ExchangeState, HasHistory, IsKept, IsNoticed, IsRestarted, auction_of, next_posts, not_followed}
-use Rattle.two_books.specs.Steps.{AreTried, AtExchange, IsAgain, IsPumped, StepsTo, Stops, StopsAgain, StopsPumping, Takes, due_posts}
-use Rattle.two_books.specs.Worlds.{IsNew, IsSendable, WorldState}
+use Rattle.two_books.specs.Steps.{AreTried, AtExchange, IsAcknowledged, IsAgain, IsPumped, StepsTo, Stops, StopsAcknowledging, StopsAgain, StopsPumping, Takes, due_posts}
+use Rattle.two_books.specs.Delivering.{IsReplied}
+use Rattle.two_books.specs.LateReplies.{Acknowledges, IsDecided, is_sent_as}
+use Rattle.two_books.specs.Worlds.{IsNew, IsSendable, WorldState, message_of}
+use Rattle.two_books.specs.declared.late.Late.{Late}
 use Rattle.two_books.specs.declared.step.Fate.{Fate}
 use Rattle.two_books.specs.declared.step.Step.{Step}
 use Rattle.two_books.proofs.Sent.{as_list, entry_list}
-use Rattle.two_books.specs.Settling.{Among, IsApartEntry, IsSettled, Settles}
+use Rattle.two_books.specs.Settling.{Among, IsApartEntry, IsCounted, IsLateCounted, IsSettled, Settles}
 use Rattle.two_books.proofs.Bids.{apart_answer}
+use Rattle.two_books.proofs.Counted.{delivered_counts}
+use Rattle.two_books.proofs.Telling.{all_at}
 use Rattle.two_books.proofs.Growing.{Grows, all_grow, carried_grows, counted_still, cut_grows, grows_on, no_growth, same_growth}
-use Rattle.two_books.proofs.PumpedSums.{Left, given_up_now, given_up_still, settled_on, tried_all}
+use Rattle.two_books.proofs.PumpedSums.{Left, given_up_now, given_up_still, here_left, later_left, left_none, settled_on, tried_all}
 
 abbrev history_of : WorldState → List Entry
 history_of w = w.exchange.day.history
@@ -75,7 +87,28 @@ new_settles r b w is =
           subst (λ n. All (IsSettled w.bidder.line w.exchange.outbox.pending w.exchange.outbox.undeliverable w.bidder.rows) (posts_of (take n (history_of w)))) (sym none)
           (subst (λ (l : List Entry). All (IsSettled w.bidder.line w.exchange.outbox.pending w.exchange.outbox.undeliverable w.bidder.rows) (posts_of (take 0 l))) (sym empty)
           (All-nil (IsSettled w.bidder.line w.exchange.outbox.pending w.exchange.outbox.undeliverable w.bidder.rows)));
+      late = subst (All (IsLateCounted w.bidder.line w.bidder.rows)) (sym is.replies) (All-nil (IsLateCounted w.bidder.line w.bidder.rows));
     }
+
+-- ---- replies that are on their way
+
+-- what was counted stays so
+late_on : (old new : WorldState) → Grows old.bidder new.bidder → new.replies ≡ old.replies → Settles old → All (IsLateCounted new.bidder.line new.bidder.rows) new.replies
+late_on old new g same s =
+    subst (All (IsLateCounted new.bidder.line new.bidder.rows)) (sym same)
+    (subst (λ (line : PriceLine). All (IsLateCounted line new.bidder.rows) old.replies) (sym g.line)
+    (All-weaker (IsLateCounted old.bidder.line old.bidder.rows) (IsLateCounted old.bidder.line new.bidder.rows)
+    (λ r counted p valid sent comes. counted_still old.bidder.line old.bidder new.bidder p g (counted p valid sent comes)) old.replies s.late))
+
+-- the reply to a message that was delivered once more
+late_brought : (c : Call) (reply : List ℕ) (b now : BidderState) → IsReplied c.request b reply now → IsLateCounted now.line now.rows (record { request = c.request; bytes = reply })
+late_brought c reply b now replied p valid sent comes = by (message_of p) refl sent
+  where
+    by : (m : Option Call) → message_of p ≡ m → option_map_or (λ (d : Call). bytes_eq d.request c.request) m false ≡ true → IsCounted now.line now.rows p
+    by None is same = absurd (true≢false (sym same))
+    by (Some d) is same =
+        let one : d.request ≡ c.request = (bytes_eq-Decides d.request c.request).0 same in
+        delivered_counts ANSWER_LIMIT now.line p d b now reply is valid (subst (λ (bytes : List ℕ). IsReplied bytes b reply now) (sym one) replied) comes
 
 -- ---- at the exchange
 
@@ -98,11 +131,12 @@ called e old new at one s =
       told =
           subst (λ (b : BidderState). Told b new.exchange.outbox (history_of new)) (sym at.bidder)
           (subst (λ (o : OutboxState). Told old.bidder o (history_of new)) (sym at.exchange.outbox) there);
+      late = late_on old new (same_growth old.bidder new.bidder at.bidder) at.replies s;
     }
 
 -- nothing but the bidder's ledger changed
-grown : (old new : WorldState) → new.exchange ≡ old.exchange → Grows old.bidder new.bidder → Settles old → Settles new
-grown old new same g s =
+grown : (old new : WorldState) → new.exchange ≡ old.exchange → Grows old.bidder new.bidder → All (IsLateCounted new.bidder.line new.bidder.rows) new.replies → Settles old → Settles new
+grown old new same g late s =
     let moved : Told new.bidder old.exchange.outbox (history_of old) =
     subst (λ (line : PriceLine). All (IsSettled line old.exchange.outbox.pending old.exchange.outbox.undeliverable new.bidder.rows) (posts_of (take old.exchange.outbox.followed (history_of old)))) (sym g.line)
     (All-weaker (IsSettled old.bidder.line old.exchange.outbox.pending old.exchange.outbox.undeliverable old.bidder.rows)
@@ -113,19 +147,25 @@ grown old new same g s =
       front = subst (λ (e : ExchangeState). e.outbox.followed ≤ length e.day.history) (sym same) s.front;
       apart = subst (λ (e : ExchangeState). All IsApartEntry e.day.history) (sym same) s.apart;
       told = subst (λ (e : ExchangeState). Told new.bidder e.outbox e.day.history) (sym same) moved;
+      late = late;
     }
 
 again : (message : Option Call) (old new : WorldState) → IsAgain message old new → Settles old → Settles new
 again None old new same s = subst Settles (sym same) s
 again (Some c) old new at s =
     let (ms, heard, is) = at.bidder in
-    grown old new at.exchange (carried_grows ms old.bidder new.bidder is) s
+    let g : Grows old.bidder new.bidder = carried_grows ms old.bidder new.bidder is in
+    let L : Late → Type 0 = IsLateCounted new.bidder.line new.bidder.rows in
+    let late : Late = record { request = c.request; bytes = at.reply } in
+    let before : All L old.replies = late_on old (record old { bidder = new.bidder }) g refl s in
+    grown old new at.exchange g (subst (All L) (sym at.replies) (All-push L old.replies late before (late_brought c at.reply old.bidder new.bidder at.replied))) s
 
 stops_again : (message : Option Call) (old new : WorldState) → StopsAgain message old new → Settles old → Settles new
 stops_again None old new same s = subst Settles (sym same) s
 stops_again (Some c) old new at s =
     let (ms, begin, is) = at.bidder in
-    grown old new at.exchange (carried_grows ms old.bidder new.bidder is) s
+    let g : Grows old.bidder new.bidder = carried_grows ms old.bidder new.bidder is in
+    grown old new at.exchange g (late_on old new g at.replies s) s
 
 restarted : (old new : WorldState) → AtExchange IsRestarted old new → Settles old → Settles new
 restarted old new at s =
@@ -135,6 +175,7 @@ restarted old new at s =
       front = omega (arith, none);
       apart = subst (λ (d : DayState). All IsApartEntry d.history) (sym at.exchange.day) s.apart;
       told = subst (λ n. All Now (posts_of (take n (history_of new)))) (sym none) (nothing (history_of new));
+      late = late_on old new (same_growth old.bidder new.bidder at.bidder) at.replies s;
     }
   where
     nothing : (h : List Entry) → All (IsSettled new.bidder.line new.exchange.outbox.pending new.exchange.outbox.undeliverable new.bidder.rows) (posts_of (take 0 h))
@@ -142,9 +183,10 @@ restarted old new at s =
     nothing (e ∷ h) = All-nil (IsSettled new.bidder.line new.exchange.outbox.pending new.exchange.outbox.undeliverable new.bidder.rows)
 
 noticed : (kind : NoticeKind) (n : ℕ) (auction : Option (List ℕ)) (old new : WorldState) → AtExchange (IsNoticed auction (λ a. notice kind a n)) old new → Settles old → Settles new
-noticed kind n None old new at s = grown old new at.exchange (same_growth old.bidder new.bidder at.bidder) s
+noticed kind n None old new at s =
+    let g : Grows old.bidder new.bidder = same_growth old.bidder new.bidder at.bidder in grown old new at.exchange g (late_on old new g at.replies s) s
 noticed kind n (Some auction) old new at s =
-    called (notice_reply (history_of old) kind auction n).entry old new (record { exchange = at.exchange.has; messages = at.messages; bidder = at.bidder })
+    called (notice_reply (history_of old) kind auction n).entry old new (record { exchange = at.exchange.has; messages = at.messages; bidder = at.bidder; replies = at.replies })
     (notice_entry (history_of old) kind auction n IsApartEntry (λ counts. by kind)) s
   where
     by : (k : NoticeKind) → IsApartEntry (entry_of_notice k n)
@@ -171,6 +213,7 @@ pub record Pumped (entries : ℕ) (front back : List Post) (fates : List Fate) (
   pub pending : new.exchange.outbox.pending ≡ left_of (front ++ back) (take settled outcomes)
   pub given_up : new.exchange.outbox.undeliverable ≡ given_up_with old.exchange.outbox.undeliverable (take settled outcomes)
   pub day : new.exchange.day ≡ old.exchange.day
+  pub replies : new.replies ≡ old.replies
 
 take_again : (n : ℕ) (xs : List Entry) → take (length (take n xs)) xs ≡ take n xs
 take_again zero [] = refl
@@ -213,6 +256,7 @@ pumped entries front back fates outcomes settled between old new p s =
           (omega (arith, p.count, front_short (e.outbox.followed + entries) (history_of old)));
       apart = subst (λ (d : DayState). All IsApartEntry d.history) (sym p.day) s.apart;
       told = subst (λ (d : DayState). Told new.bidder new.exchange.outbox d.history) (sym p.day) by_posts;
+      late = late_on old new all p.replies s;
     }
 
 all_pumped : (fates : List Fate) (old new : WorldState) → IsPumped fates old new → Settles old → Settles new
@@ -229,6 +273,7 @@ all_pumped fates old new p s =
       pending = p.pending ∙ ap₂ (λ (ps : List Post) (l : List Outcome). left_of ps l) (sym (append-nil due)) (sym (take_all (length os) os (omega arith)));
       given_up = p.undeliverable ∙ ap (given_up_with e.outbox.undeliverable) (sym (take_all (length os) os (omega arith)));
       day = p.day;
+      replies = p.replies;
     }) s
 
 stopped : (fates : List Fate) (old new : WorldState) → StopsPumping fates old new → Settles old → Settles new
@@ -242,29 +287,105 @@ stopped fates old new p s =
       pending = p.pending;
       given_up = p.undeliverable;
       day = p.day;
+      replies = p.replies;
     }) s
+
+-- ---- a late reply
+
+-- among what is left, or counted, where what the reply says of the post that it decides of was counted
+still_left : (line : PriceLine) (rows : List LedgerRow) (q post : Post) (front back : List Post) (o : Outcome) → ((p : Post) → p ≡ post → (stays o ≡ true) ⊎ IsCounted line rows p)
+    → Among q (front ++ post ∷ back) → Among q (front ++ left_of (post ∷ back) (o ∷ [])) ⊎ IsCounted line rows q
+still_left line rows q post [] back o decides (inl same) = by (decides q same)
+  where
+    by : (stays o ≡ true) ⊎ IsCounted line rows q → Among q (left_of (post ∷ back) (o ∷ [])) ⊎ IsCounted line rows q
+    by (inl stay) = inl (here_left q post (stays o) (left_of back []) stay same)
+    by (inr counted) = inr counted
+still_left line rows q post [] back o decides (inr among) =
+    inl (later_left q post (stays o) (left_of back []) (subst (Among q) (sym (left_none back)) among))
+still_left line rows q post (f ∷ front) back o decides (inl same) = inl (inl same)
+still_left line rows q post (f ∷ front) back o decides (inr among) =
+    ⊎_elim (λ left. inl (inr left)) (λ counted. inr counted) (still_left line rows q post front back o decides among)
+
+decided : (late : Late) (old new : WorldState) → IsLateCounted old.bidder.line old.bidder.rows late → AtExchange (Acknowledges late) old new → Settles old → Settles new
+decided late old new counts at s = record {
+  front = subst (λ (d : DayState). new.exchange.outbox.followed ≤ length d.history) (sym at.exchange.day) (subst (λ n. n ≤ length (history_of old)) (sym followed) s.front);
+  apart = subst (λ (d : DayState). All IsApartEntry d.history) (sym at.exchange.day) s.apart;
+  told =
+      subst (λ (b : BidderState). Told b new.exchange.outbox (history_of new)) (sym at.bidder)
+      (subst (λ (d : DayState). Told old.bidder new.exchange.outbox d.history) (sym at.exchange.day)
+      (subst (λ n. All Now (posts_of (take n (history_of old)))) (sym followed) (All-weaker Was Now (λ q settled. again q at.exchange.outbox settled) (posts_of (take old.exchange.outbox.followed (history_of old))) s.told)));
+  late = late_on old new (same_growth old.bidder new.bidder at.bidder) at.replies s;
+}
+  where
+    line : PriceLine
+    line = old.bidder.line
+
+    Was : Post → Type 0
+    Was q = IsSettled line old.exchange.outbox.pending old.exchange.outbox.undeliverable old.bidder.rows q
+
+    Now : Post → Type 0
+    Now q = IsSettled line new.exchange.outbox.pending new.exchange.outbox.undeliverable old.bidder.rows q
+
+    same_count : IsDecided late old.exchange.outbox new.exchange.outbox → new.exchange.outbox.followed ≡ old.exchange.outbox.followed
+    same_count (inl (none, same)) = ap (λ (o : OutboxState). o.followed) same
+    same_count (inr d) = d.followed
+
+    followed : new.exchange.outbox.followed ≡ old.exchange.outbox.followed
+    followed = same_count at.exchange.outbox
+
+    -- a success is of a bill that was counted, and any other reply leaves the post
+    heard : (post : Post) → IsValidAs post.url → is_sent_as late.request post ≡ true → (o : Outcome) → o ≢ Outcome.Failed → ComesTo ANSWER_LIMIT late.bytes o → (p : Post) → p ≡ post
+        → (stays o ≡ true) ⊎ IsCounted line old.bidder.rows p
+    heard post valid sent Outcome.Delivered passed comes p same = inr (subst (IsCounted line old.bidder.rows) (sym same) (counts post valid sent comes))
+    heard post valid sent Outcome.Failed passed comes p same = inl refl
+    heard post valid sent Outcome.Answered passed comes p same = inl refl
+    heard post valid sent Outcome.Undeliverable passed comes p same = absurd comes
+
+    again : (q : Post) → IsDecided late old.exchange.outbox new.exchange.outbox → Was q → Now q
+    again q (inl (none, same)) settled =
+        subst (λ (o : OutboxState). IsSettled line o.pending o.undeliverable old.bidder.rows q) (sym same) settled
+    again q (inr d) settled =
+        ⊎_elim
+        (λ among.
+        ⊎_elim (λ left. inl (subst (Among q) (sym d.pending) left)) (λ counted. inr (inr counted))
+        (still_left line old.bidder.rows q d.post (before_first (is_sent_as late.request) old.exchange.outbox.pending) d.back d.outcome
+        (heard d.post d.valid d.asked d.outcome d.heard d.comes) (subst (Among q) d.split among)))
+        (λ other.
+        ⊎_elim (λ some. inr (inl (subst (λ n. 0 < n) (sym d.undeliverable) (given_up_still old.exchange.outbox.undeliverable (d.outcome ∷ []) some)))) (λ counted. inr (inr counted)) other)
+        settled
+
+acknowledged : (n : ℕ) (reply : Option Late) (old new : WorldState) → slice_get old.replies n ≡ reply → IsAcknowledged reply old new → Settles old → Settles new
+acknowledged n None old new is same s = subst Settles (sym same) s
+acknowledged n (Some late) old new is at s =
+    decided late old new (all_at (IsLateCounted old.bidder.line old.bidder.rows) old.replies n late s.late is) at s
+
+stops_acknowledging : (n : ℕ) (reply : Option Late) (old new : WorldState) → slice_get old.replies n ≡ reply → StopsAcknowledging reply old new → Settles old → Settles new
+stops_acknowledging n None old new is same s = subst Settles (sym same) s
+stops_acknowledging n (Some late) old new is (inl same) s = subst Settles (sym same) s
+stops_acknowledging n (Some late) old new is (inr at) s = acknowledged n (Some late) old new is at s
 
 -- ---- each step
 
 takes_settle : (t : Step) (old new : WorldState) → Settles old → Takes t old new → Settles new
 takes_settle (Step.Ask request now) old new s (answer, reads, at) =
-    called _ old new (record { exchange = at.exchange.has; messages = at.messages; bidder = at.bidder })
+    called _ old new (record { exchange = at.exchange.has; messages = at.messages; bidder = at.bidder; replies = at.replies })
     (apart_answer old.bidder.line request old.exchange.campaigns answer now old.exchange.day.terms (history_of old) reads) s
 takes_settle (Step.Notice kind n) old new s at = noticed kind n (auction_of (history_of old) n) old new at s
 takes_settle (Step.Tick now) old new s at =
-    called (tick_reply (history_of old) now).entry old new (record { exchange = at.exchange.has; messages = at.messages; bidder = at.bidder })
+    called (tick_reply (history_of old) now).entry old new (record { exchange = at.exchange.has; messages = at.messages; bidder = at.bidder; replies = at.replies })
     (tick_entry (history_of old) now IsApartEntry (λ some. tt)) s
 takes_settle (Step.Budget campaign change budget) old new s at =
     let x = change_of campaign change budget in
-    called (budget_reply old.exchange.day.terms (history_of old) x).entry old new (record { exchange = at.exchange.has; messages = at.messages; bidder = at.bidder })
+    called (budget_reply old.exchange.day.terms (history_of old) x).entry old new (record { exchange = at.exchange.has; messages = at.messages; bidder = at.bidder; replies = at.replies })
     (budget_entry IsApartEntry (history_of old) x tt old.exchange.day.terms) s
 takes_settle (Step.Pump fates) old new s p = all_pumped fates old new p s
 takes_settle (Step.Again n) old new s at = again (slice_get old.messages n) old new at s
+takes_settle (Step.Acknowledge n) old new s at = acknowledged n (slice_get old.replies n) old new refl at s
 takes_settle Step.RestartExchange old new s at = restarted old new at s
 takes_settle Step.RestartBidder old new s same = subst Settles (sym same) s
 
 kept : (old new : WorldState) → AtExchange IsKept old new → Settles old → Settles new
-kept old new at s = called None old new (record { exchange = at.exchange; messages = at.messages; bidder = at.bidder }) tt s
+kept old new at s = called None old new (record { exchange = at.exchange; messages = at.messages; bidder = at.bidder; replies = at.replies }) tt s
 
 stops_settle : (t : Step) (old new : WorldState) → Settles old → Stops t old new → Settles new
 stops_settle (Step.Ask request now) old new s at = kept old new at s
@@ -273,6 +394,7 @@ stops_settle (Step.Tick now) old new s at = kept old new at s
 stops_settle (Step.Budget campaign change budget) old new s at = kept old new at s
 stops_settle (Step.Pump fates) old new s p = stopped fates old new p s
 stops_settle (Step.Again n) old new s at = stops_again (slice_get old.messages n) old new at s
+stops_settle (Step.Acknowledge n) old new s at = stops_acknowledging n (slice_get old.replies n) old new refl at s
 stops_settle Step.RestartExchange old new s same = subst Settles (sym same) s
 stops_settle Step.RestartBidder old new s same = subst Settles (sym same) s
 

@@ -9,7 +9,7 @@ use Rattle.std.proofs.lemmas.List.{take_at}
 use Rattle.std.proofs.lemmas.List.Elements.{All-append, All-cons, All-head, All-nil, All-tail, All-weaker}
 use Rattle.std.proofs.lemmas.Slice.Eq.{bytes_eq-Decides}
 use Rattle.percent_encoding.specs.Percent.{IsKept}
-use Rattle.adx_http.specs.Targets.{is_question_mark, path_of, query_of, rest_of}
+use Rattle.adx_http.specs.Targets.{is_question_mark, path_of, query_of}
 use Rattle.url.specs.declared.host.Host.{Host}
 use Rattle.url.specs.declared.scheme.SchemeType.{SchemeType}
 use Rattle.url.specs.declared.sets.TheConstants.{PATH}
@@ -78,10 +78,6 @@ mark_at (x ∷ xs) ys none = by (x == 63) refl (mark_at xs ys (All-tail (λ b. b
     by false is later =
         let one : 1 + length xs ≡ suc (length xs) = omega arith in
         ap (λ t. cond (not t) (1 + position_or_len is_question_mark (xs ++ 63 ∷ ys)) 0) is ∙ (ap (λ n. 1 + n) later ∙ one)
-
--- a target with a slash in front is its own rest
-own_rest : (xs : List ℕ) → rest_of (47 ∷ xs) ≡ 47 ∷ xs
-own_rest xs = refl
 
 not_zero : (n : ℕ) → (suc n == 0) ≡ false
 not_zero n = grind (arith, nat_tests)

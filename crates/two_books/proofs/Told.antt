@@ -58,9 +58,6 @@ two_told kind auction bid auction_bytes auction_text id =
       ),
     )
 
-query_priced : (auction bid price : List ℕ) → codes "a=" ++ (escaped auction ++ (codes "&b=" ++ (bid ++ (codes "&p=" ++ escaped price)))) ≡ pair 97 (escaped auction) ++ 38 ∷ (pair 98 bid ++ 38 ∷ pair 112 (escaped price))
-query_priced auction bid price = refl
-
 priced_told : (kind : NoticeKind) (auction bid : List ℕ) (price : ℕ) → price_pair kind price ≡ codes "&p=" ++ escaped (price_text price) → ((x : List ℕ) → price_by (Some x) kind ≡ priced (price_of x)) → All IsByte auction → IsUtf8 auction → 1 ≤ length auction → length auction ≤ LONGEST_ID → All (λ b. is_id_byte b ≡ true) bid → All IsByte (price_text price) → IsUtf8 (price_text price) → price_of (price_text price) ≡ Ok (units price)
     → notice_in kind (notice_query kind auction bid price) ≡ Some (row_of auction bid kind price)
 priced_told kind auction bid price tells reads bytes text some few id price_bytes price_utf8 again =

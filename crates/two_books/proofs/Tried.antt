@@ -1,9 +1,8 @@
 -- The tries of an outbox over a link that answers replies, as what became of each message.
-use Rattle.std.proofs.Common.{◌≡◌, ◌≢◌, ℕ, zero, suc, ◌+◌, ◌-◌, ◌<◌, ◌≤◌, List, [], ◌∷◌, length, take, drop, map, get_or, Bool, true, false, cond, refl, sym, ap, ◌∙◌, subst, arith, Option, Some, None, inl, inr, ◌⊎◌, ⊎_elim}
-use Rattle.std.specs.List.{cons_option, count_by, filter_map}
-use Rattle.std.proofs.lemmas.Bool.{cases_Bool, true≢false}
+use Rattle.std.proofs.Common.{◌≡◌, ◌≢◌, ℕ, zero, suc, ◌+◌, ◌-◌, ◌<◌, ◌≤◌, List, [], ◌∷◌, length, take, drop, map, get_or, Bool, true, false, cond, refl, sym, ap, ◌∙◌, subst, arith, Option, Some, None, inl, inr, ◌⊎◌}
+use Rattle.std.specs.List.{cons_option, filter_map}
 use Rattle.std.proofs.lemmas.List.Sums.{sum_by-cons}
-use Rattle.adx_io.specs.Streams.{Rises, last_count, own_place}
+use Rattle.adx_io.specs.Streams.{last_count, own_place}
 use Rattle.adx_links.specs.Links.{Plan, next_start}
 use Rattle.adx_links.specs.declared.planned.Planned.{Planned}
 use Rattle.bidder_core.specs.Seen.{BidderState}
@@ -68,7 +67,7 @@ pub record Answered (p : Planned) (plan : List Planned) (o : Outcome) (now : Rep
   pub passed : fails_of p ≡ false → o ≢ Outcome.Failed
   pub comes : ComesTo ANSWER_LIMIT p.bytes o
 
-answered : (c : Call) (o : Outcome) (l now : ReplayState) (p : Planned) (plan : List Planned) → GoesOn (p ∷ plan) l → 0 < length c.request → IsOne c o l now → Answered p plan o now
+pub answered : (c : Call) (o : Outcome) (l now : ReplayState) (p : Planned) (plan : List Planned) → GoesOn (p ∷ plan) l → 0 < length c.request → IsOne c o l now → Answered p plan o now
 answered c o l now p plan goes some one = record {
   on = record { starts = starts; unmet_is = by (fails_of p) refl o refl one.cause; few = few_on };
   failed = fails;
@@ -133,9 +132,6 @@ befalls Fate.Through c r plan o b now l_now (reply, is, delivered, replied) a = 
 )
 
 -- ---- all posts
-
-abbrev starts_of : List Reply → List Planned
-starts_of rs = map planned_of rs
 
 -- all were tried
 pub tried_all : HaveRequests → (ps : List Post) (fates : List Fate) (rs : List Reply) (os : List Outcome) (b now : BidderState) (l l_now : ReplayState)

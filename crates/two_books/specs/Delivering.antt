@@ -46,6 +46,7 @@ StopsDelivering bytes old new = (ms : List Request) × BeginWith bytes ms × IsC
 -- what the bidder replies to the requests of a message, and to what is refused after them
 abbrev pub IsReplied : List ℕ → BidderState → List ℕ → BidderState → Type 0
 IsReplied bytes old reply new =
-    (ms : List Request) × (out : List ℕ) × IsHeard bytes ms × Replies BidderAnswers old ms out new
+    (ms : List Request) × (out : List ℕ) × (heard : IsHeard bytes ms) × Replies BidderAnswers old ms out new
     × ((reply ≡ out)
-    ⊎ ((fault : HttpFault) × (status : ℕ) × (fault_status fault ≡ Some status) × (reply ≡ out ++ refusal_bytes status)))
+    ⊎ ((fault : HttpFault) × (status : ℕ) × RefusesRequest REQUEST_LIMIT heard.0 fault × (fault_status fault ≡ Some status)
+    × (reply ≡ out ++ refusal_bytes status)))

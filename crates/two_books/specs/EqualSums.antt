@@ -37,7 +37,7 @@ pub record HasRowIn (history : List Entry) (bills : List LedgerRow) (n : ℕ) : 
   pub auction : bid.auction ≡ row.auction
   pub charge : bid.charge ≡ row.price
 
--- each billed award of the history has
+-- each billed award of the history has its row among the ledger's bills
 abbrev pub HasEachBill : List Entry → List LedgerRow → Type 0
 HasEachBill history rows =
     (n : ℕ) (a : Award) → slice_get (awards_of history) n ≡ Some a → is_billed a.end ≡ true → HasRowIn history (bills_in rows) n

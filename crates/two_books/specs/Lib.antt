@@ -1,6 +1,8 @@
 pub mod Names
 pub mod Exchanges
 pub mod Worlds
+pub mod LateReplies
+pub mod FoundPosts
 pub mod Delivering
 pub mod Steps
 pub mod Replaying

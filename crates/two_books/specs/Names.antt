@@ -18,5 +18,6 @@ IsNamed (Step.Tick now) = ⊤
 IsNamed (Step.Budget campaign change budget) = ⊤
 IsNamed (Step.Pump fates) = ⊤
 IsNamed (Step.Again n) = ⊤
+IsNamed (Step.Acknowledge n) = ⊤
 IsNamed Step.RestartExchange = ⊤
 IsNamed Step.RestartBidder = ⊤

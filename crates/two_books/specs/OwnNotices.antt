@@ -82,17 +82,3 @@ QueriesAreReadBack =
     → 1 ≤ price → price ≤ PRICE_LIMIT
     → notice_in kind (notice_query kind auction bid price)
     ≡ Some (record { auction = auction; bid = bid; kind = kind; price = units (told_price kind price) })
-
--- So a bidder whose base has no `#` and no `?` reads of the URL that the exchange makes of its own template, once it is
--- parsed, just the auction, the bid and the price.
-abbrev pub OwnUrlsAreReadBack : Type 0
-OwnUrlsAreReadBack =
-    (values : Values) (base bid : List ℕ) (kind : NoticeKind) (price : ℕ) (parts : Parts)
-    → All IsUnmarked base
-    → All (λ b. b < 256) values.auction.now → IsUtf8 values.auction.now
-    → 1 ≤ length values.auction.now → length values.auction.now ≤ LONGEST_ID
-    → HasPrice kind values.price price → 1 ≤ price → price ≤ PRICE_LIMIT
-    → is_made MOST_PRICES bid ≡ true
-    → parse_url None (url_expansion values (notice_url base bid kind)) ≡ Ok parts
-    → (query : List ℕ) × (parts.query ≡ Some query)
-    × (notice_in kind query ≡ Some (record { auction = values.auction.now; bid = bid; kind = kind; price = units (told_price kind price) }))

@@ -11,6 +11,7 @@ use Rattle.outbox.specs.declared.post.Post.{Post}
 use Rattle.two_books.specs.Delivering.{IsDelivered, IsReplied, StopsDelivering}
 use Rattle.two_books.specs.Steps.{IsCutShort, first_fate}
 use Rattle.two_books.specs.Worlds.{IsSendable, message_of}
+use Rattle.two_books.specs.declared.late.Late.{Late}
 use Rattle.two_books.specs.declared.replay.Reply.{Reply}
 use Rattle.two_books.specs.declared.step.Fate.{Fate}
 
@@ -33,6 +34,12 @@ Delivers bytes (Err wanting) b now = StopsDelivering bytes b now
 abbrev pub Brings : List ℕ → Result Unit OutOfMemory → BidderState → BidderState → Type 0
 Brings bytes (Ok done) b now = IsDelivered bytes b now
 Brings bytes (Err wanting) b now = StopsDelivering bytes b now
+
+-- the same of one whose reply is on its way then
+abbrev pub BringsLate : List ℕ → Result Unit OutOfMemory → BidderState → BidderState → List Late → List Late → Type 0
+BringsLate bytes (Ok done) b now replies replies_now =
+    (reply : List ℕ) × IsDelivered bytes b now × IsReplied bytes b reply now × (replies_now ≡ replies ++ record { request = bytes; bytes = reply } ∷ [])
+BringsLate bytes (Err wanting) b now replies replies_now = StopsDelivering bytes b now × (replies_now ≡ replies)
 
 -- what comes back of a message, by its fate, and what the bidder is then
 abbrev pub Prepares : Fate → List ℕ → BidderState → Reply → BidderState → Type 0

@@ -13,6 +13,7 @@ use Rattle.two_books.specs.Exchanges.{ExchangeState}
 use Rattle.two_books.specs.Replaying.{ReplayState, course_of, failing, faults_of, link_of, most_faults, planned_of}
 use Rattle.two_books.specs.Steps.{IsPumped, StopsPumping}
 use Rattle.two_books.specs.Worlds.{WorldState}
+use Rattle.two_books.specs.declared.late.Late.{Late}
 use Rattle.two_books.specs.declared.replay.Reply.{Reply}
 use Rattle.two_books.specs.declared.step.Fate.{Fate}
 
@@ -33,10 +34,12 @@ pub record PumpsPlan (replies : List Reply) (result : Result Unit OutOfMemory) (
   pub few : failing (map planned_of replies) < most_faults
   pub tried : AnswersAll replies result old.outbox new.outbox
 
-abbrev pub world_of : ExchangeState → List Call → BidderState → WorldState
-world_of exchange messages bidder = record { exchange = exchange; messages = messages; bidder = bidder }
+abbrev pub world_of : ExchangeState → List Call → BidderState → List Late → WorldState
+world_of exchange messages bidder replies = record { exchange = exchange; messages = messages; bidder = bidder; replies = replies }
 
--- the pump of a world with these parts
+-- the pump of a world with these parts, whatever replies are on their way
 abbrev pub PumpsTo : List Fate → Result Unit OutOfMemory → ExchangeState → ExchangeState → List Call → List Call → BidderState → BidderState → Type 0
-PumpsTo fates (Ok done) e now messages messages_now b bidder = IsPumped fates (world_of e messages b) (world_of now messages_now bidder)
-PumpsTo fates (Err wanting) e now messages messages_now b bidder = StopsPumping fates (world_of e messages b) (world_of now messages_now bidder)
+PumpsTo fates (Ok done) e now messages messages_now b bidder =
+    (replies : List Late) → IsPumped fates (world_of e messages b replies) (world_of now messages_now bidder replies)
+PumpsTo fates (Err wanting) e now messages messages_now b bidder =
+    (replies : List Late) → StopsPumping fates (world_of e messages b replies) (world_of now messages_now bidder replies)

@@ -1,9 +1,9 @@
 -- Private, cited by the pump of a world alone: a link whose starts answer the replies of a list, one after the other, and
 -- whose calls take no memory. This project's own.
-use Rattle.std.specs.Prelude.{ℕ, ◌+◌, ◌-◌, List, [], false, true, Bool, cond, Option, Some, None}
+use Rattle.std.specs.Prelude.{ℕ, ◌+◌, ◌-◌, List, [], false, true, Bool, cond, Some, None}
 use Rattle.std.specs.List.{count_by}
 use Rattle.adx_io.specs.Streams.{last_count}
-use Rattle.adx_links.specs.Links.{Connection, Course, Plan, connection_of}
+use Rattle.adx_links.specs.Links.{Connection, Course, connection_of}
 use Rattle.adx_links.specs.declared.planned.Planned.{Planned}
 use Rattle.two_books.specs.declared.replay.Reply.{Reply}
 

@@ -17,7 +17,13 @@ use Rattle.outbox.specs.Posts.{posts_of, values_of}
 use Rattle.outbox.specs.declared.post.Post.{Post}
 use Rattle.two_books.specs.Holding.{IsCharge}
 use Rattle.two_books.specs.Names.{IsName}
+use Rattle.outbox.specs.Calls.{IsValidAs}
+use Rattle.outbox.specs.Pumping.{ComesTo}
+use Rattle.outbox.specs.declared.outbox.TheConstants.{ANSWER_LIMIT}
+use Rattle.outbox.specs.declared.report.Outcome.{Outcome}
+use Rattle.two_books.specs.LateReplies.{is_sent_as}
 use Rattle.two_books.specs.Worlds.{WorldState}
+use Rattle.two_books.specs.declared.late.Late.{Late}
 
 -- each item is so beside every later one
 abbrev pub Distinct : {X : Type 0} → (X → X → Type 0) → List X → Type 0
@@ -56,9 +62,15 @@ Among p (q ∷ qs) = (p ≡ q) ⊎ Among p qs
 abbrev pub IsSettled : PriceLine → List Post → ℕ → List LedgerRow → Post → Type 0
 IsSettled line pending given_up rows p = Among p pending ⊎ ((0 < given_up) ⊎ IsCounted line rows p)
 
+-- a success that a reply tells of a post was counted
+abbrev pub IsLateCounted : PriceLine → List LedgerRow → Late → Type 0
+IsLateCounted line rows late =
+    (p : Post) → IsValidAs p.url → is_sent_as late.request p ≡ true → ComesTo ANSWER_LIMIT late.bytes Outcome.Delivered → IsCounted line rows p
+
 pub record Settles (w : WorldState) : Type 0 where
   pub front : w.exchange.outbox.followed ≤ length w.exchange.day.history
   pub apart : All IsApartEntry w.exchange.day.history
   pub told :
       All (IsSettled w.bidder.line w.exchange.outbox.pending w.exchange.outbox.undeliverable w.bidder.rows)
       (posts_of (take w.exchange.outbox.followed w.exchange.day.history))
+  pub late : All (IsLateCounted w.bidder.line w.bidder.rows) w.replies

@@ -16,13 +16,14 @@ use Rattle.outbox.specs.declared.calling.Call.{Call}
 use Rattle.outbox.specs.declared.outbox.TheConstants.{ANSWER_LIMIT}
 use Rattle.outbox.specs.declared.post.Post.{Post}
 use Rattle.outbox.specs.declared.report.Outcome.{Outcome}
-use Rattle.rtb_response.specs.Answers.{answer_in}
-use Rattle.rtb_response.specs.Seen.{seen_answer}
+use Rattle.rtb_response.specs.Answers.{IsAnswer, answer_fault}
 use Rattle.rtb_response.specs.declared.bid_answer.BidAnswer.{BidAnswer}
 use Rattle.rtb_response.specs.declared.fault.AnswerFault.{AnswerFault}
 use Rattle.two_books.specs.Delivering.{IsDelivered, IsReplied, StopsDelivering}
 use Rattle.two_books.specs.Exchanges.{ExchangeState, IsCalled, IsKept, IsNoticed, IsRestarted, auction_of, next_posts, not_followed}
+use Rattle.two_books.specs.LateReplies.{Acknowledges}
 use Rattle.two_books.specs.Worlds.{IsSendable, WorldState, message_of}
+use Rattle.two_books.specs.declared.late.Late.{Late}
 use Rattle.two_books.specs.declared.step.Fate.{Fate}
 use Rattle.two_books.specs.declared.step.Step.{Step}
 
@@ -30,20 +31,22 @@ use Rattle.two_books.specs.declared.step.Step.{Step}
 abbrev pub ReadsAnswer : List ℕ → Option Tree → Option BidAnswer → Type 0
 ReadsAnswer auction None None = ⊤
 ReadsAnswer auction None (Some a) = ⊥
-ReadsAnswer auction (Some t) None = (fault : AnswerFault) × (answer_in auction t ≡ Err fault)
-ReadsAnswer auction (Some t) (Some a) = answer_in auction t ≡ Ok (seen_answer a)
+ReadsAnswer auction (Some t) None = (fault : AnswerFault) × (answer_fault auction t ≡ Some fault)
+ReadsAnswer auction (Some t) (Some a) = IsAnswer auction t a
 
--- this happened at the exchange, and the messages and the bidder are as they were
+-- this happened at the exchange, and the messages, the bidder and the replies on their way are as they were
 pub record AtExchange (R : ExchangeState → ExchangeState → Type 0) (old new : WorldState) : Type 0 where
   pub exchange : R old.exchange new.exchange
   pub messages : new.messages ≡ old.messages
   pub bidder : new.bidder ≡ old.bidder
+  pub replies : new.replies ≡ old.replies
 
--- this happened at the bidder, and the exchange and its messages are as they were
+-- this happened at the bidder, and the exchange, its messages and the replies on their way are as they were
 pub record AtBidder (R : BidderState → BidderState → Type 0) (old new : WorldState) : Type 0 where
   pub exchange : new.exchange ≡ old.exchange
   pub messages : new.messages ≡ old.messages
   pub bidder : R old.bidder new.bidder
+  pub replies : new.replies ≡ old.replies
 
 -- What becomes of a message that is sent, of the post that it was sent for, and of the bidder. A reply that comes back
 -- decides of the post.
@@ -90,6 +93,7 @@ pub record IsPumped (fates : List Fate) (old new : WorldState) : Type 0 where
   pub pending : new.exchange.outbox.pending ≡ left_of (due_posts old.exchange) outcomes
   pub undeliverable : new.exchange.outbox.undeliverable ≡ given_up_with old.exchange.outbox.undeliverable outcomes
   pub messages : new.messages ≡ old.messages ++ filter_map message_of (due_posts old.exchange)
+  pub replies : new.replies ≡ old.replies
   pub day : new.exchange.day ≡ old.exchange.day
   pub campaigns : new.exchange.campaigns ≡ old.exchange.campaigns
 
@@ -126,18 +130,38 @@ pub record StopsPumping (given : List Fate) (old new : WorldState) : Type 0 wher
   pub pending : new.exchange.outbox.pending ≡ left_of (front ++ back) (take settled outcomes)
   pub undeliverable : new.exchange.outbox.undeliverable ≡ given_up_with old.exchange.outbox.undeliverable (take settled outcomes)
   pub messages : new.messages ≡ old.messages ++ (filter_map message_of front ++ more)
+  pub replies : new.replies ≡ old.replies
   pub day : new.exchange.day ≡ old.exchange.day
   pub campaigns : new.exchange.campaigns ≡ old.exchange.campaigns
+
+-- a message was delivered once more, and the bidder's reply is on its way
+pub record IsBrought (c : Call) (old new : WorldState) : Type 0 where
+  pub reply : List ℕ
+  pub exchange : new.exchange ≡ old.exchange
+  pub messages : new.messages ≡ old.messages
+  pub bidder : IsDelivered c.request old.bidder new.bidder
+  pub replied : IsReplied c.request old.bidder reply new.bidder
+  pub replies : new.replies ≡ old.replies ++ record { request = c.request; bytes = reply } ∷ []
 
 -- a message was delivered once more; there is none where no message has that number
 abbrev pub IsAgain : Option Call → WorldState → WorldState → Type 0
 IsAgain None old new = new ≡ old
-IsAgain (Some c) old new = AtBidder (IsDelivered c.request) old new
+IsAgain (Some c) old new = IsBrought c old new
 
 -- the same where memory was wanting
 abbrev pub StopsAgain : Option Call → WorldState → WorldState → Type 0
 StopsAgain None old new = new ≡ old
 StopsAgain (Some c) old new = AtBidder (StopsDelivering c.request) old new
+
+-- a reply that was on its way came to the exchange; there is none where none has that number
+abbrev pub IsAcknowledged : Option Late → WorldState → WorldState → Type 0
+IsAcknowledged None old new = new ≡ old
+IsAcknowledged (Some late) old new = AtExchange (Acknowledges late) old new
+
+-- the same where memory was wanting
+abbrev pub StopsAcknowledging : Option Late → WorldState → WorldState → Type 0
+StopsAcknowledging None old new = new ≡ old
+StopsAcknowledging (Some late) old new = (new ≡ old) ⊎ AtExchange (Acknowledges late) old new
 
 -- what a step does
 abbrev pub Takes : Step → WorldState → WorldState → Type 0
@@ -150,6 +174,7 @@ Takes (Step.Tick now) old new = AtExchange (IsCalled (tick now)) old new
 Takes (Step.Budget campaign change budget) old new = AtExchange (IsCalled (set_budget (change_of campaign change budget))) old new
 Takes (Step.Pump fates) old new = IsPumped fates old new
 Takes (Step.Again n) old new = IsAgain (slice_get old.messages n) old new
+Takes (Step.Acknowledge n) old new = IsAcknowledged (slice_get old.replies n) old new
 Takes Step.RestartExchange old new = AtExchange IsRestarted old new
 Takes Step.RestartBidder old new = new ≡ old
 
@@ -161,6 +186,7 @@ IsTimely (Step.Tick now) = now < 2 ^ 63
 IsTimely (Step.Budget campaign change budget) = (1 ≤ change) × IsBudget budget
 IsTimely (Step.Pump fates) = ⊤
 IsTimely (Step.Again n) = ⊤
+IsTimely (Step.Acknowledge n) = ⊤
 IsTimely Step.RestartExchange = ⊤
 IsTimely Step.RestartBidder = ⊤
 
@@ -172,6 +198,7 @@ Stops (Step.Tick now) old new = AtExchange IsKept old new
 Stops (Step.Budget campaign change budget) old new = AtExchange IsKept old new
 Stops (Step.Pump fates) old new = StopsPumping fates old new
 Stops (Step.Again n) old new = StopsAgain (slice_get old.messages n) old new
+Stops (Step.Acknowledge n) old new = StopsAcknowledging (slice_get old.replies n) old new
 Stops Step.RestartExchange old new = new ≡ old
 Stops Step.RestartBidder old new = new ≡ old
 

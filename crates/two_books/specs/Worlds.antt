@@ -6,12 +6,14 @@ use Rattle.outbox.specs.Calls.{IsValidAs, call_of}
 use Rattle.outbox.specs.declared.calling.Call.{Call}
 use Rattle.outbox.specs.declared.post.Post.{Post}
 use Rattle.two_books.specs.Exchanges.{ExchangeState, IsOpened}
+use Rattle.two_books.specs.declared.late.Late.{Late}
 
 -- what a contract sees of a world; a message is a call of a host, with the whole request that it is asked
 pub record WorldState : Type 0 where
   pub exchange : ExchangeState
   pub messages : List Call
   pub bidder : BidderState
+  pub replies : List Late
 
 -- the message that a post is sent as; none where its URL can't be fetched
 abbrev pub message_of : Post → Option Call
@@ -26,3 +28,4 @@ pub record IsNew (r : Roster) (b : BidderState) (w : WorldState) : Type 0 where
   pub exchange : IsOpened r w.exchange
   pub messages : w.messages ≡ []
   pub bidder : w.bidder ≡ b
+  pub replies : w.replies ≡ []

@@ -2,7 +2,6 @@
 ghost use Rattle.std.specs.Prelude.{◌≡◌, Err, IfOk, false, option_map};
 ghost use Rattle.adx_json.specs.View.{tree_of};
 ghost use Rattle.bidder_core.specs.Answers.{answer_to};
-ghost use Rattle.rtb_response.specs.Answers.{answer_in};
 ghost use Rattle.two_books.specs.Steps.{ReadsAnswer};
 ghost use Rattle.std.specs.Prelude.{Some};
 

@@ -6,9 +6,11 @@ ghost use Rattle.two_books.specs.Steps.{IsTimely, StepsTo};
 ghost use Rattle.two_books.specs.Worlds.{IsNew};
 ghost use Rattle.two_books.specs.declared.step.Step.{Step as StepValue};
 
+use crate::acknowledging::acknowledge;
 use crate::answering::answer_of;
-use crate::delivery::deliver_mute;
+use crate::delivery::bring;
 use crate::exchange::Exchange;
+use crate::late::Late;
 use crate::pumping::pump;
 use crate::step::{Fate, Step};
 use adx_units::OutOfMemory;
@@ -27,6 +29,7 @@ pub(crate) struct Books {
     exchange: Exchange,
     messages: Vec<Call>,
     bidder: Bidder,
+    replies: Vec<Late>,
 }
 
 impl Model for Books {
@@ -34,7 +37,7 @@ impl Model for Books {
 
     ghost Value = { WorldState };
 
-    ghost view = { λ w. record { exchange = w.exchange; messages = w.messages.items; bidder = w.bidder } };
+    ghost view = { λ w. record { exchange = w.exchange; messages = w.messages.items; bidder = w.bidder; replies = w.replies.items } };
 }
 
 /// The bytes of an id are a name.
@@ -54,6 +57,7 @@ impl Books {
             exchange: Exchange::new(alloc, roster)?,
             messages: Vec::new(alloc),
             bidder,
+            replies: Vec::new(alloc),
         })
     }
 
@@ -92,6 +96,13 @@ impl Books {
         self.exchange.undeliverable()
     }
 
+    /// The replies that are on their way to the exchange, in the order in which their messages were brought.
+    pub(crate) fn replies(&self) -> &[Late]
+        ensures { result.now ≡ self.now.replies }
+    {
+        self.replies.as_slice()
+    }
+
     /// Takes a step. Where memory is refused some first of what the step does is done.
     pub(crate) fn step(&mut self, step: &Step) -> Result<(), OutOfMemory>
         requires { IsTimely step.now }
@@ -109,6 +120,7 @@ impl Books {
             } => self.exchange.set_budget(*campaign, *change, *budget),
             Step::Pump { fates } => self.pump(fates.as_slice()),
             Step::Again { message } => self.again(*message),
+            Step::Acknowledge { reply } => self.acknowledge(*reply),
             Step::RestartExchange => self.exchange.restart(),
             Step::RestartBidder => Ok(()),
         }
@@ -141,13 +153,28 @@ impl Books {
         )
     }
 
-    /// Brings a message to the bidder once more, and drops its reply.
+    /// Brings a message to the bidder once more, and puts its reply on its way.
     fn again(&mut self, message: u32) -> Result<(), OutOfMemory>
         ensures { StepsTo (StepValue.Again message) result self.old self.new }
     {
         match self.messages.as_slice().get(message as usize) {
             None => Ok(()),
-            Some(sent) => { deliver_mute(self.alloc, &mut self.bidder, sent.request.as_bytes()) }
+            Some(sent) => bring(
+                self.alloc,
+                &mut self.bidder,
+                &mut self.replies,
+                &sent.request,
+            ),
+        }
+    }
+
+    /// A reply that is on its way comes to the exchange.
+    fn acknowledge(&mut self, reply: u32) -> Result<(), OutOfMemory>
+        ensures { StepsTo (StepValue.Acknowledge reply) result self.old self.new }
+    {
+        match self.replies.as_slice().get(reply as usize) {
+            None => Ok(()),
+            Some(late) => acknowledge(self.alloc, &mut self.exchange, late),
         }
     }
 }

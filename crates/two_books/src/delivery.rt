@@ -1,10 +1,11 @@
 //! Messages that arrive at the bidder.
 ghost use Rattle.std.specs.Prelude.{◌≡◌, [], IfOk};
 ghost use Rattle.adx_io.specs.Fakes.{SinkState, SourceState};
-ghost use Rattle.two_books.specs.Playing.{Brings, Delivers, completes};
+ghost use Rattle.two_books.specs.Playing.{Brings, BringsLate, Delivers, completes};
 
+use crate::late::Late;
 use adx_io::{MemorySink, MemorySource};
-use adx_units::{OutOfMemory, Sequence};
+use adx_units::{OutOfMemory, Sequence, Text};
 use bidder_core::Bidder;
 use bidder_http::serve_bidder;
 use http_connection::ConnEnd;
@@ -97,6 +98,33 @@ pub(crate) fn deliver_mute(
     match deliver(alloc, bidder, message) {
         Ok(reply) => {
             lose(reply);
+            Ok(())
+        }
+        Err(wanting) => Err(wanting),
+    }
+}
+
+/// Serves a message to the bidder, whose reply is on its way then. If memory is refused the bidder may have heard some of the
+/// requests in it, and no reply is on its way.
+pub(crate) fn bring(
+    alloc: Global,
+    bidder: &mut Bidder,
+    replies: &mut Vec<Late>,
+    message: &Text,
+) -> Result<(), OutOfMemory>
+    ensures { BringsLate message.now result bidder.old bidder.new replies.old.items replies.new.items }
+{
+    let request = match message.copy(alloc) {
+        Ok(request) => request,
+        Err(wanting) => return Err(wanting),
+    };
+    match replies.reserve(1) {
+        Ok(()) => {}
+        Err(_) => return Err(OutOfMemory),
+    }
+    match deliver(alloc, bidder, message.as_bytes()) {
+        Ok(bytes) => {
+            replies.push_reserved(Late { request, bytes });
             Ok(())
         }
         Err(wanting) => Err(wanting),

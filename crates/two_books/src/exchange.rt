@@ -7,7 +7,7 @@ ghost use Rattle.campaign_book.specs.Accounts.{IsBudget};
 ghost use Rattle.day_rules.specs.Entries.{change_of};
 ghost use Rattle.day_rules.specs.Replies.{ask as ask_call, notice as notice_call, set_budget as set_budget_call, tick as tick_call, with_entry};
 ghost use Rattle.script_lines.specs.Making.{ask_of};
-ghost use Rattle.outbox.specs.Pumping.{Pumps};
+ghost use Rattle.outbox.specs.Pumping.{Pumps, PumpsPart};
 ghost use Rattle.outbox.specs.declared.outbox.TheConstants.{ANSWER_LIMIT};
 ghost use Rattle.two_books.specs.Exchanges.{FollowsOn, HasHistory, IsCalled, IsKept, IsNoticed, IsOpened, IsRestarted, auction_of as auction_in};
 
@@ -208,6 +208,19 @@ impl Exchange {
         ensures campaigns { self.new.campaigns ≡ self.old.campaigns }
     {
         self.outbox.pump(link)
+    }
+
+    /// Tries the pending post in that place once over the link.
+    pub(crate) fn pump_one<L: Link>(
+        &mut self,
+        place: usize,
+        link: &mut L,
+    ) -> Result<Report, OutOfMemory>
+        ensures pumps { PumpsPart L.exchanges L.course L.faults L.place ANSWER_LIMIT place 1 link.old link.new result self.old.outbox self.new.outbox }
+        ensures day { self.new.day ≡ self.old.day }
+        ensures campaigns { self.new.campaigns ≡ self.old.campaigns }
+    {
+        self.outbox.pump_part(place, 1, link)
     }
 
     /// The exchange starts anew: it keeps its history, and its outbox begins again before the first entry. As before if memory is refused.

@@ -6,6 +6,7 @@ ghost use Rattle.two_books.specs.Worlds.{IsNew};
 ghost use Rattle.two_books.specs.EqualSums.{HasEachBill, HasNothingLeft, HasSums};
 
 use crate::books::Books;
+use crate::late::Late;
 use crate::step::Step;
 use adx_units::OutOfMemory;
 use bidder_core::Bidder;
@@ -68,6 +69,14 @@ impl World {
         ensures { result.now ≡ self.now.messages }
     {
         self.books.messages()
+    }
+
+    /// The replies that are on their way to the exchange, in the order in which their messages were brought to the bidder. One
+    /// that came may come again.
+    pub fn replies(&self) -> &[Late]
+        ensures { result.now ≡ self.now.replies }
+    {
+        self.books.replies()
     }
 
     /// The pending posts, in the order of the entries that asked for them.

@@ -1,5 +1,5 @@
 -- A new disk in memory is empty.
-use Rattle.command_conn.specs.Exchanges.{LeavesDay as LeavesExchange, conn_command}
+use Rattle.adx_commands.specs.Exchanges.{LeavesDay as LeavesExchange, conn_command}
 use Rattle.command_day.specs.Days.{day_command}
 use Rattle.adx_commands.specs.Anew.{byte_disk}
 use Rattle.adx_commands.specs.Commands.{KeepsDay, KeepsRoster}

@@ -5,7 +5,7 @@ use Rattle.command_check.proofs.Ended.{accepted_input}
 use Rattle.command_check.proofs.OneAnswer.{one_answer}
 use Rattle.command_close.proofs.OneDocument.{one_document}
 use Rattle.command_close.proofs.OneGuarantee.{one_guarantee}
-use Rattle.command_conn.proofs.OneOutput.{has_one_output as has_one_exchange}
+use Rattle.adx_commands.proofs.ConnOutputs.{has_one_output as has_one_exchange}
 use Rattle.command_day.proofs.OneOutput.{has_one_output, took_of_whole}
 use Rattle.command_day.proofs.SomeOutput.{has_outputs}
 use Rattle.command_words.specs.declared.command.Command.{Command}

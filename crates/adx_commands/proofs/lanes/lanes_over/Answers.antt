@@ -11,7 +11,7 @@ links-init g c =
 
 pub links-preserved : goal.links-preserved
 links-preserved g c =
-    let lane = c.in_ok-lane_of-in-Some-get in
+    let lane = c.in_ok-to-in-Some-get in
     let place = c.in-Some-get in
     let read = slice_get_read c.args.places.now (length c.args.places.now) (length c.as_slice.result.now) place.place.now refl place.ensures.lookup.3.0 place.ensures.lookup.1 in
     subst (λ lanes. AreFilled c.args.places.now c.args.links.items lanes c.pop_front.new.self.items) (sym c.in_ok-push-in-Some-get.ensures.items)

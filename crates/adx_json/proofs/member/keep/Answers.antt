@@ -1,4 +1,4 @@
-use Rattle.std.proofs.Common.{ap, sym, ◌∙◌, arith, ◌≢◌, ℕ, List, Bor, get_or}
+use Rattle.std.proofs.Common.{ap, sym, ◌∙◌, arith, ◌≢◌, ℕ, List}
 use Rattle.std.proofs.lemmas.List.{get_or_default}
 use Rattle.adx_json.specs.View.{tree_of, member_of}
 use Rattle.adx_json.proofs.Views.{member_of_parts}

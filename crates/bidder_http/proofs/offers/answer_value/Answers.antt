@@ -1,7 +1,6 @@
 -- The value is a request, which offers what was read.
 use Rattle.std.proofs.Common.{inl, string_bytes}
 use Rattle.adx_json.specs.View.{tree_of}
-use Rattle.rtb_request.specs.Requests.{request_in}
 use Rattle.bidder_core.specs.Answers.{answer_for}
 use Rattle.bidder_http.specs.Offers.{AnswersTree, OffersBy}
 use Rattle.bidder_http.proofs.Offered.{request_offers}
@@ -17,4 +16,4 @@ returns-in-Ok c =
     map_ok c.answer_bids.result
     (λ a. OffersBy (answer_for line o.id o.imps) a body)
     (λ a. AnswersTree line tree a body)
-    (λ a h. inl (request_offers line (request_in tree) o a body c.in-Ok.ensures h)) c.answer_bids.ensures
+    (λ a h. inl (request_offers line tree o a body c.in-Ok.ensures h)) c.answer_bids.ensures

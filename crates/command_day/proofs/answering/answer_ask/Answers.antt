@@ -1,10 +1,10 @@
 -- The desk was called, and its answer written or not.
 use Rattle.std.proofs.Common.{option_map, string_bytes}
 use Rattle.day_rules.specs.Replies.{ask}
-use Rattle.desk_calls.specs.Answering.{LeavesCall}
+use Rattle.adx_desk.specs.Answering.{LeavesCall}
 use Rattle.history_runs.proofs.AnsweredCalls.{answered_done, answered_fault}
-use Rattle.desk_calls.proofs.ToldAnswers.{ask_about, on_err}
-use Rattle.desk_calls.proofs.DeskCalls.{ask_given_up, ask_unwritten, call_done, done_unwritten}
+use Rattle.adx_desk.proofs.ToldAnswers.{ask_about, on_err}
+use Rattle.adx_desk.proofs.DeskCalls.{ask_given_up, ask_unwritten, call_done, done_unwritten}
 use Rattle.command_day.proofs.answering.answer_ask.Goals as goal
 
 pub returns-in_ok-push_told-in-Ok-clause-answered : goal.returns-in_ok-push_told-in-Ok-clause-answered

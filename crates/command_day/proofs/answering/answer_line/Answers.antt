@@ -5,7 +5,7 @@ use Rattle.script_lines.specs.declared.refusal.Refusal.{Refusal}
 use Rattle.command_runs.specs.Limits.{line_limit}
 use Rattle.history_runs.specs.Answering.{LeavesUnwritten}
 use Rattle.history_runs.proofs.AnswerLaws.{answered_kept, dropped_line, line_refused, unwritten_kept}
-use Rattle.desk_calls.proofs.ToldAnswers.{on_err}
+use Rattle.adx_desk.proofs.ToldAnswers.{on_err}
 use Rattle.command_day.proofs.answering.answer_line.Goals as goal
 
 pub returns-in_ok-answer_text-in-Some-clause-answered : goal.returns-in_ok-answer_text-in-Some-clause-answered

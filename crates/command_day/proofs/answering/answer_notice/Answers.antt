@@ -1,10 +1,10 @@
 -- The desk was called, and its answer written or not.
 use Rattle.std.proofs.Common.{None, string_bytes}
 use Rattle.day_rules.specs.Replies.{notice}
-use Rattle.desk_calls.specs.Answering.{LeavesCall}
+use Rattle.adx_desk.specs.Answering.{LeavesCall}
 use Rattle.history_runs.proofs.AnsweredCalls.{answered_done, answered_fault}
-use Rattle.desk_calls.proofs.ToldAnswers.{on_err, notice_about}
-use Rattle.desk_calls.proofs.DeskCalls.{call_done, done_unwritten, notice_given_up, notice_unwritten}
+use Rattle.adx_desk.proofs.ToldAnswers.{on_err, notice_about}
+use Rattle.adx_desk.proofs.DeskCalls.{call_done, done_unwritten, notice_given_up, notice_unwritten}
 use Rattle.command_day.proofs.answering.answer_notice.Goals as goal
 
 pub returns-in_ok-push_told-in-Ok-clause-answered : goal.returns-in_ok-push_told-in-Ok-clause-answered

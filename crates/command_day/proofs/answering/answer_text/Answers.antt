@@ -7,7 +7,7 @@ use Rattle.script_lines.specs.Meanings.{LineMeans, calls, refused}
 use Rattle.command_runs.specs.Limits.{line_limit}
 use Rattle.history_runs.specs.Answering.{AnswersCall, LeavesUnwritten}
 use Rattle.history_runs.proofs.AnswerLaws.{budgets_counted, call_answered, call_unwritten, line_refused}
-use Rattle.desk_calls.proofs.ToldAnswers.{on_err}
+use Rattle.adx_desk.proofs.ToldAnswers.{on_err}
 use Rattle.command_day.proofs.answering.answer_text.Goals as goal
 
 pub answer_call-requires : goal.answer_call-requires

@@ -7,9 +7,9 @@ use Rattle.adx_io.specs.Streams.{Tape, WhereTold}
 use Rattle.adx_io.specs.TalkState.{state_of}
 use Rattle.command_runs.specs.Meanings.{Wrote}
 use Rattle.day_rules.specs.Legal.{IsLegal}
-use Rattle.desk_calls.specs.Courses.{taken_calls}
-use Rattle.desk_calls.proofs.DeskRuns.{desk_begins}
-use Rattle.desk_calls.proofs.Lent.{course_lent, run_lent}
+use Rattle.adx_desk.specs.Courses.{taken_calls}
+use Rattle.adx_desk.proofs.DeskRuns.{desk_begins}
+use Rattle.adx_desk.proofs.Lent.{course_lent, run_lent}
 use Rattle.history_runs.specs.Unopened.{not_opened}
 use Rattle.command_day.specs.Steps.{was_given_up, was_served}
 use Rattle.history_runs.proofs.Unopened.{gives_up, told_unopened}

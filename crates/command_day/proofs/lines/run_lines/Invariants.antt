@@ -3,7 +3,7 @@ use Rattle.std.proofs.Common.{◌≡◌, List, []}
 use Rattle.adx_desk.specs.Rosters.{desk_terms}
 use Rattle.adx_io.specs.TalkState.{place_of, state_of}
 use Rattle.day_rules.specs.declared.entry.Entry.{Entry}
-use Rattle.desk_calls.specs.Answering.{DeskRuns}
+use Rattle.adx_desk.specs.Answering.{DeskRuns}
 use Rattle.command_day.proofs.DayLines.{Running}
 use Rattle.command_day.proofs.lines.run_lines.Given as goal
 

@@ -4,7 +4,7 @@ use Rattle.std.proofs.lemmas.Result.{err_from_is_err_and}
 use Rattle.day_rules.specs.Replies.{ask}
 use Rattle.command_gen.proofs.Awarded.{award_told_so}
 use Rattle.command_gen.proofs.DeskTaken.{ask_passed}
-use Rattle.desk_calls.proofs.DeskCalls.{call_done}
+use Rattle.adx_desk.proofs.DeskCalls.{call_done}
 use Rattle.command_gen.proofs.calls.take_ask.Goals as goal
 
 pub returns-in-Ok-clause-takes : goal.returns-in-Ok-clause-takes

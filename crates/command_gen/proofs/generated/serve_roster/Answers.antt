@@ -4,10 +4,10 @@ use Rattle.std.specs.Borrow.{MutBor}
 use Rattle.adx_desk.specs.Histories.{DeskTerms}
 use Rattle.adx_desk.specs.Rosters.{desk_terms}
 use Rattle.day_rules.specs.Legal.{IsLegal}
-use Rattle.desk_calls.specs.Courses.{given_up, served, taken_calls}
+use Rattle.adx_desk.specs.Courses.{given_up, served, taken_calls}
 use Rattle.history_runs.proofs.AnswerLaws.{budgets_counted}
-use Rattle.desk_calls.proofs.DeskRuns.{desk_begins, run_ends}
-use Rattle.desk_calls.proofs.Lent.{course_lent, run_lent}
+use Rattle.adx_desk.proofs.DeskRuns.{desk_begins, run_ends}
+use Rattle.adx_desk.proofs.Lent.{course_lent, run_lent}
 use Rattle.command_gen.proofs.Line.{sixteen}
 use Rattle.command_gen.proofs.Serving.{table_told}
 use Rattle.command_gen.proofs.Table.{generated_all}

@@ -8,7 +8,7 @@ use Rattle.command_runs.specs.Talks.{TalkWrote}
 use Rattle.day_rules.specs.declared.entry.Entry.{Entry}
 use Rattle.history_runs.proofs.Opened.{stands_lent}
 use Rattle.history_runs.proofs.Unopened.{gives_up}
-use Rattle.desk_calls.proofs.Lent.{course_lent}
+use Rattle.adx_desk.proofs.Lent.{course_lent}
 use Rattle.command_reconcile.specs.Reconciling.{EndsDay, at_end, reconciling}
 use Rattle.command_reconcile.proofs.Reconciled.{told_unopened}
 use Rattle.command_reconcile.proofs.reconcile.open_day.Goals as goal

@@ -1,6 +1,6 @@
-use Rattle.std.proofs.Common.{◌≡◌}
+use Rattle.std.proofs.Common.{◌≡◌, arith}
 use Rattle.day_rules.specs.DayMeters.{steps_of}
-use Rattle.desk_board.proofs.Meeting.{if_done}
+use Rattle.desk_board.proofs.Meeting.{if_done, met_faults}
 use Rattle.meter_board.specs.Words.{published}
 use Rattle.desk_board.proofs.Boards.{met_again, own_later}
 use Rattle.desk_board.proofs.shared_board.publish.Goals as goal
@@ -14,3 +14,8 @@ returns-clause-published g c =
 pub returns-clause-own_later : goal.returns-clause-own_later
 returns-clause-own_later g c =
     own_later c.args.board.now.pass c.publish.new.self.pass c.publish.new.pass c.meet.new.a c.publish.ensures.later c.meet.ensures.one c.meet.ensures.a
+
+pub returns-clause-faults : goal.returns-clause-faults
+returns-clause-faults g c =
+    let more = met_faults c.publish.new.pass c.publish.new.self.pass c.meet.new.b c.meet.ensures.b in
+    omega (arith, c.publish.ensures.pass_faults, more)

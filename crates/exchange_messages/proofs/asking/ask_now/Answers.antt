@@ -1,7 +1,7 @@
 -- The tick, and the ask after it.
 use Rattle.std.proofs.Common.{inl, inr, ◌∙◌, string_bytes}
 use Rattle.std.proofs.lemmas.Result.{IfOk-weaker}
-use Rattle.desk_calls.proofs.ToldAnswers.{on_err}
+use Rattle.adx_desk.proofs.ToldAnswers.{on_err}
 use Rattle.exchange_messages.proofs.AskCalls.{asked_ticked, asked_unticked, err_on, stopped_ticked, stopped_unticked}
 use Rattle.exchange_messages.specs.Floors.{IsMomentOf}
 use Rattle.exchange_messages.specs.Courses.{reply_of}

@@ -3,9 +3,9 @@ use Rattle.std.proofs.Common.{Option, string_bytes, subst, sym}
 use Rattle.std.proofs.lemmas.Result.{IfOk-weaker}
 use Rattle.day_rules.specs.declared.ask.Ask.{Ask}
 use Rattle.day_rules.specs.Replies.{ask}
-use Rattle.desk_calls.proofs.ToldAnswers.{on_err}
-use Rattle.desk_calls.specs.Desks.{ended_by}
-use Rattle.desk_calls.specs.Calls.{was_done}
+use Rattle.adx_desk.proofs.ToldAnswers.{on_err}
+use Rattle.adx_desk.specs.DayDesks.{ended_by}
+use Rattle.adx_desk.specs.Called.{was_done}
 use Rattle.exchange_messages.proofs.AskCalls.{ask_taken, call_left, done_fits, fault_taken, formed_here}
 use Rattle.exchange_messages.specs.Courses.{reply_of}
 use Rattle.exchange_messages.specs.Turns.{AnswerReplies}

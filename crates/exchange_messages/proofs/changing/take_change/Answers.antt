@@ -2,9 +2,9 @@
 use Rattle.std.proofs.Common.{string_bytes, sym}
 use Rattle.std.proofs.lemmas.Result.{IfOk-weaker}
 use Rattle.day_rules.specs.Replies.{set_budget}
-use Rattle.desk_calls.specs.Calls.{was_done}
-use Rattle.desk_calls.specs.Desks.{ended_by}
-use Rattle.desk_calls.proofs.ToldAnswers.{on_err}
+use Rattle.adx_desk.specs.Called.{was_done}
+use Rattle.adx_desk.specs.DayDesks.{ended_by}
+use Rattle.adx_desk.proofs.ToldAnswers.{on_err}
 use Rattle.script_lines.specs.Changes.{change_told}
 use Rattle.exchange_messages.proofs.AskCalls.{call_left, change_taken, fault_taken}
 use Rattle.exchange_messages.specs.Courses.{reply_of}

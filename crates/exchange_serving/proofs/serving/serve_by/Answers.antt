@@ -14,6 +14,7 @@ use Rattle.adx_links.proofs.Answered.{starts}
 use Rattle.adx_desk.specs.declared.shared.OpenedWith.{OpenedWith}
 use Rattle.deal_floor.proofs.roster.Roster.TheSendSync as roster
 use Rattle.fan_out.proofs.lane.Lane.TheSendSync as lane
+use Rattle.http_connection.proofs.conn.Conn.TheSendSync as conn
 use Rattle.desk_board.proofs.mail.Mail.TheSendSync as mail
 use Rattle.meter_board.proofs.board.StepBoard.TheSendSync as step_board
 use Rattle.meter_board.proofs.reader.MeterReader.TheSendSync as reader
@@ -91,7 +92,10 @@ serve_all-requires-send-W g c κs within =
                   search (crosses, sendable) depth 12,
                   (
                     search (lane_sent, crosses, sendable) depth 12,
-                    (reader.the_field_send, (search (c.type_bounds.sync-G, sendable) depth 12, tt)),
+                    (
+                      search (conn.the_send, crosses, sendable) depth 12,
+                      (reader.the_field_send, (search (c.type_bounds.sync-G, sendable) depth 12, tt)),
+                    ),
                   ),
                 ),
               ),

@@ -3,7 +3,7 @@ use Rattle.std.proofs.Common.{List, refl, sym, subst, rules}
 use Rattle.std.specs.Borrow.{MutBor}
 use Rattle.day_rules.specs.declared.entry.Entry.{Entry}
 use Rattle.day_rules.specs.DayState.{IsDay}
-use Rattle.desk_calls.proofs.Lent.{course_lent}
+use Rattle.adx_desk.proofs.Lent.{course_lent}
 use Rattle.adx_desk.specs.Histories.{DeskTerms}
 use Rattle.history_runs.specs.Histories.{Opening, PutsTold}
 use Rattle.history_runs.proofs.Opened.{stands_lent}

@@ -1,9 +1,10 @@
-use Rattle.std.proofs.Common.{◌≡◌, ◌++◌, drop, map}
+use Rattle.std.proofs.Common.{Some, take}
+use Rattle.std.specs.List.{AllZip}
+use Rattle.adx_json.specs.Rows.{Says}
 use Rattle.adx_json.specs.View.{trees_of}
-use Rattle.rtb_response.specs.Bids.{bid_view}
-use Rattle.rtb_response.specs.Seen.{seen_bid}
+use Rattle.rtb_response.specs.Bids.{bid_rows}
 use Rattle.rtb_response.proofs.answer_reader.bids_of.Given as goal
 
--- what was read so far and the views of the trees that are left are the views of all
+-- what was read so far is what the trees so far say
 abbrev pub invariant-loop-tree : goal.invariant-loop-tree
-invariant-loop-tree l = map seen_bid l.bids.items ++ map bid_view (trees_of (drop l.tree-index l.trees)) ≡ map bid_view (trees_of l.trees)
+invariant-loop-tree l = AllZip (λ t x. Says bid_rows (Some t) x) (trees_of (take l.tree-index l.trees)) l.bids.items

@@ -1,7 +1,8 @@
 use Rattle.std.proofs.Common.{◌≡◌, ◌≤◌, ◌+◌, drop, min}
 use Rattle.std.specs.List.{list_all}
 use Rattle.adx_json.specs.View.{trees_of}
-use Rattle.rtb_response.specs.Answers.{bid_count, has_bids}
+use Rattle.rtb_response.specs.Answers.{bid_count}
+use Rattle.rtb_response.specs.Seats.{has_bids}
 use Rattle.rtb_response.proofs.answer_reader.count_bids.Given as goal
 
 -- the count so far and that of what is left are that of all seats, and the seats that are left tell whether all have bids

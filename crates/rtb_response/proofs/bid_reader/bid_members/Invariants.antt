@@ -13,5 +13,6 @@ invariant-loop-member l =
     let all = members_of (members_view l.member-items) in
     record {
       twelve : length l.found ≡ 12;
-      each : (k : ℕ) → k < 12 → found_or (get_or bid_names k []) (option_map (λ t. tree_of t.now) (get_or l.found k None)) left ≡ value_of (get_or bid_names k []) all;
+      each : (k : ℕ) → k < 12
+          → found_or (get_or bid_names k []) (option_map (λ t. tree_of t.now) (get_or l.found k None)) left ≡ value_of (get_or bid_names k []) all;
     }

@@ -5,7 +5,8 @@ use Rattle.deal_floor.specs.declared.campaign.Campaign.{Campaign}
 use Rattle.script_lines.specs.Changes.{change_in, change_named}
 use Rattle.script_lines.proofs.budget.change_of.Goals as goal
 
-named_in : (campaigns : List Campaign) (a b c d : Option (List ℕ)) (seat cid change budget : List ℕ) (r : Option BudgetChange) → Some seat ≡ a → Some cid ≡ b → Some change ≡ c → Some budget ≡ d → r ≡ change_named campaigns seat cid change budget → r ≡ change_in campaigns a b c d
+named_in : (campaigns : List Campaign) (a b c d : Option (List ℕ)) (seat cid change budget : List ℕ) (r : Option BudgetChange) → Some seat ≡ a
+    → Some cid ≡ b → Some change ≡ c → Some budget ≡ d → r ≡ change_named campaigns seat cid change budget → r ≡ change_in campaigns a b c d
 named_in campaigns a b c d seat cid change budget r e f g h is = is ∙ (λ i. change_in campaigns (e i) (f i) (g i) (h i))
 
 pub returns-clause-value : goal.returns-clause-value

@@ -1,5 +1,5 @@
 -- By what the disk keeps.
-use Rattle.std.proofs.Common.{◌∙◌, ℕ, List, ap, subst}
+use Rattle.std.proofs.Common.{◌∙◌, ap, subst}
 use Rattle.adx_desk.specs.Desks.{OnDisk, StandsOnDisk}
 use Rattle.adx_desk.proofs.Keeping.{stands_on_disk}
 use Rattle.adx_desk.proofs.desk.Desk.apart.Goals as goal

@@ -1,5 +1,5 @@
 -- By the day with its journal.
-use Rattle.std.proofs.Common.{◌≤◌, ◌∙◌, ℕ, List, ap, subst}
+use Rattle.std.proofs.Common.{◌≤◌, ◌∙◌, ap, subst}
 use Rattle.day_journal.specs.Tails.{size_of}
 use Rattle.adx_desk.specs.Desks.{OnDisk, StandsOnDisk}
 use Rattle.adx_desk.specs.Histories.{longest_size}

@@ -1,8 +1,8 @@
 -- The entries of a batch in the journal, and then in the history.
-use Rattle.std.proofs.Common.{◌≡◌, ◌++◌, List, length, ◌∙◌, ap, arith}
+use Rattle.std.proofs.Common.{◌≡◌, ◌++◌, List, length, Some, sym, ◌∙◌, ap, arith}
 use Rattle.day_rules.specs.declared.entry.Entry.{Entry}
 use Rattle.day_rules.specs.Laws.{after_arrivals}
-use Rattle.day_machine.specs.Batches.{entries_in_turn}
+use Rattle.day_machine.specs.Batches.{answers_in_turn, entries_in_turn}
 use Rattle.adx_desk.specs.Desks.{DeskState}
 use Rattle.adx_desk.specs.Journaled.{JournaledState}
 use Rattle.day_machine.proofs.InTurn.{arrivals_are}
@@ -15,6 +15,10 @@ use Rattle.adx_desk.proofs.journaled_day.JournaledDay.append_all.Goals as goal
 pub append-requires : goal.append-requires
 append-requires g c =
     omega (arith, ap length c.requires.payload, bytes_some c.args.self.now.desk.journal.format (entries_in_turn c.args.self.now.desk.history c.args.batch.now.calls) c.requires.some)
+
+pub commit-self-inside-requires-clause-answers : goal.commit-self-inside-requires-clause-answers
+commit-self-inside-requires-clause-answers g c =
+    c.requires.answers ∙ ap (λ (t : JournaledState). Some (answers_in_turn t.desk.history c.args.batch.now.calls)) (sym c.self.view_is)
 
 pub invariant_of-self : goal.invariant_of-self
 invariant_of-self g c =

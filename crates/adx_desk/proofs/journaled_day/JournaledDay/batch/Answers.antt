@@ -6,7 +6,7 @@ use Rattle.day_entries.specs.Entries.{Fits, entries_bytes}
 use Rattle.day_journal.specs.Tails.{size_of}
 use Rattle.day_rules.specs.declared.answer.Answer.{Answer}
 use Rattle.day_rules.specs.Laws.{Arrival}
-use Rattle.day_machine.specs.Batches.{BatchState, entries_in_turn}
+use Rattle.day_machine.specs.Batches.{BatchState, answers_in_turn, entries_in_turn}
 use Rattle.adx_desk.specs.Journaled.{JournaledState, on_disk}
 use Rattle.adx_desk.specs.Serving.{ServesAll}
 use Rattle.day_machine.proofs.InTurn.{entries_few, none_added, some_added}
@@ -62,6 +62,14 @@ append_all-requires-clause-some g c =
     let same : c.run.new.self.calls ≡ xs = ap (λ (t : BatchState). t.calls) c.run.ensures.answers in
     subst (λ (l : List Arrival). 0 < length (entries_in_turn s.desk.history l)) (sym same)
     (some_added s.desk.journal.format (entries_in_turn s.desk.history xs) c.run.new.frame.payload b.bytes (λ none. false≢true (sym c.if-is_empty.false ∙ (c.is_empty.ensures ∙ eq-eqb (length c.payload.result.now) 0 (ap (λ (l : List ℕ). length l) c.payload.ensures ∙ none)))))
+
+pub append_all-requires-clause-answers : goal.append_all-requires-clause-answers
+append_all-requires-clause-answers g c =
+    let s : JournaledState = c.args.self.now in
+    let xs = c.args.batch.now.calls in
+    let b = ran_in_turn c.self.inside.day c.self.inside.digest c.self.inside.journal c.self.inside.faults c.self.inside.without_end s xs c.day.result.now.history c.format.result c.run.new.frame.payload c.self.invariant c.self.view_is c.run.ensures.apart c.day.ensures.history c.format.ensures c.run.ensures.payload c.run.ensures.fits in
+    ap (λ (t : BatchState). t.answers) c.run.ensures.answers
+    ∙ (ap (λ (l : List Answer). Some l) b.answers ∙ ap (λ (t : BatchState). Some (answers_in_turn s.desk.history t.calls)) (sym c.run.ensures.answers))
 
 pub returns-in-Ok-clause-answers : goal.returns-in-Ok-clause-answers
 returns-in-Ok-clause-answers g c =

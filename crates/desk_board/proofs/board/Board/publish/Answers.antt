@@ -7,7 +7,7 @@ use Rattle.day_rules.specs.Steps.{meters_of, StayInRange}
 use Rattle.day_rules.specs.DayMeters.{steps_of}
 use Rattle.meter_board.specs.Words.{published, taken}
 use Rattle.meter_board.proofs.Beginnings.{with_rest}
-use Rattle.desk_board.proofs.Meeting.{begins_on, if_done, seen_on, shown_on}
+use Rattle.desk_board.proofs.Meeting.{begins_on, if_done, met_faults, seen_on, shown_on}
 use Rattle.desk_board.proofs.board.Board.publish.Goals as goal
 
 pub append-requires : goal.append-requires
@@ -79,3 +79,6 @@ returns-clause-met g c =
     let all : List MeterStep = steps_of seen in
     let on = seen_on c.args.desk.now.fixed own c.args.pass.now c.meet.new.a c.meet.new.b c.steps_since.new.pass c.meet.ensures.a c.meet.ensures.one c.meet.ensures.same c.steps_since.ensures.turn in
     if_done _ c.publish.result on.1
+
+pub returns-clause-pass_faults : goal.returns-clause-pass_faults
+returns-clause-pass_faults g c = met_faults c.args.pass.now c.args.self.now.pass c.meet.new.b c.meet.ensures.b

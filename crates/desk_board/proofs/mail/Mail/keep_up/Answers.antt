@@ -1,4 +1,4 @@
-use Rattle.std.proofs.Common.{Ok, Err, OnErr, sym, ap, ◌∙◌, length, rules, subst}
+use Rattle.std.proofs.Common.{Ok, Err, OnErr, sym, length, rules, subst}
 use Rattle.desk_board.proofs.Rooms.{keeps_up}
 use Rattle.desk_board.proofs.mail.Mail.keep_up.Goals as goal
 

@@ -1,7 +1,7 @@
 -- By what the message wants.
 use Rattle.std.proofs.Common.{List, ℕ, string_bytes, subst, sym}
 use Rattle.std.proofs.lemmas.Result.{IfOk-weaker}
-use Rattle.desk_calls.proofs.ToldAnswers.{on_err}
+use Rattle.adx_desk.proofs.ToldAnswers.{on_err}
 use Rattle.exchange_messages.proofs.AskCalls.{err_on}
 use Rattle.exchange_messages.proofs.Requested.{books_answered, books_dropped, meters_answered, meters_dropped, nothing_done, refused_answered}
 use Rattle.exchange_messages.specs.Courses.{reply_of}

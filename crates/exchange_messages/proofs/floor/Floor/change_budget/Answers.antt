@@ -2,7 +2,7 @@
 use Rattle.std.proofs.Common.{◌∙◌, refl, string_bytes, subst}
 use Rattle.std.proofs.lemmas.Result.{IfOk-weaker}
 use Rattle.day_rules.specs.Replies.{set_budget}
-use Rattle.desk_calls.proofs.ToldAnswers.{on_err}
+use Rattle.adx_desk.proofs.ToldAnswers.{on_err}
 use Rattle.script_lines.specs.Changes.{change_told}
 use Rattle.exchange_messages.proofs.AskCalls.{err_on}
 use Rattle.exchange_messages.proofs.Changes.{change_is, no_change}

@@ -3,7 +3,7 @@ use Rattle.std.proofs.Common.{◌≢◌, inl, inr, refl, rules, string_bytes}
 use Rattle.std.proofs.lemmas.Result.{IfOk-weaker}
 use Rattle.adx_json.specs.View.{tree_of}
 use Rattle.adx_json.specs.declared.fault.JsonFault.{JsonFault}
-use Rattle.desk_calls.proofs.ToldAnswers.{on_err}
+use Rattle.adx_desk.proofs.ToldAnswers.{on_err}
 use Rattle.exchange_messages.proofs.AskCalls.{err_on}
 use Rattle.exchange_messages.proofs.Requested.{nothing_done, refused_answered}
 use Rattle.exchange_messages.specs.Courses.{reply_of}

@@ -5,7 +5,7 @@ use Rattle.adx_json.specs.Spelling.{spelling}
 use Rattle.adx_json.specs.View.{tree_of}
 use Rattle.day_rules.specs.Replies.{seen_in}
 use Rattle.rtb_request.specs.ForBidders.{request_for_bidders}
-use Rattle.desk_calls.proofs.ToldAnswers.{on_err}
+use Rattle.adx_desk.proofs.ToldAnswers.{on_err}
 use Rattle.exchange_messages.proofs.AskCalls.{err_on}
 use Rattle.exchange_messages.proofs.Requested.{floor_on, gathered_few, gathered_left, lanes_on, request_answered, request_dropped, request_runs, request_stopped}
 use Rattle.exchange_messages.specs.Floors.{IsMomentOf}

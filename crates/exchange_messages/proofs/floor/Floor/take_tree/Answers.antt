@@ -1,9 +1,9 @@
 -- A request for bids, or its first fault.
-use Rattle.std.proofs.Common.{◌≡◌, Err, inl, inr, refl, rules, string_bytes}
+use Rattle.std.proofs.Common.{◌≡◌, Some, inl, inr, refl, rules, string_bytes}
 use Rattle.std.proofs.lemmas.Result.{IfOk-weaker}
 use Rattle.adx_json.specs.View.{tree_of}
-use Rattle.rtb_request.specs.Requests.{request_in}
-use Rattle.desk_calls.proofs.ToldAnswers.{on_err}
+use Rattle.rtb_request.specs.Requests.{request_fault}
+use Rattle.adx_desk.proofs.ToldAnswers.{on_err}
 use Rattle.exchange_messages.proofs.AskCalls.{err_on}
 use Rattle.exchange_messages.proofs.Requested.{nothing_done, refused_answered}
 use Rattle.exchange_messages.specs.Courses.{reply_of}
@@ -24,7 +24,7 @@ returns-in-Err-OutOfMemory-clause-gave_up g c m means = nothing_done g.Y.DayDesk
 
 pub returns-in-Err-clause-answered : goal.returns-in-Err-clause-answered
 returns-in-Err-clause-answered g c =
-    let fault : request_in (tree_of c.args.tree.now) ≡ Err c.in-Err.fault = search rules in
+    let fault : request_fault (tree_of c.args.tree.now) ≡ Some c.in-Err.fault = search rules in
     IfOk-weaker c.refuse.result _ _
     (λ a replied m means. refused_answered g.Y.DayDesk g.L.Link g.C.Clock g.met.Y.DayDesk.join _ m (Refusal.Request c.in-Err.fault) (reply_of a (string_bytes c.refuse.new.out)) (g.met.Y.DayDesk.none c.args.self.now.desk)
     (means (refused (Refusal.Request c.in-Err.fault)) (inr (c.in-Err.fault, fault, refl))) replied)

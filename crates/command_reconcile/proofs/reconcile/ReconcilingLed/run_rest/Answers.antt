@@ -1,7 +1,0 @@
--- The run of the bidder with that name.
-use Rattle.std.proofs.Common.{refl}
-use Rattle.command_reconcile.proofs.reconcile.ReconcilingLed.run_rest.Goals as goal
-
-pub returns-clause-ran : goal.returns-clause-ran
-returns-clause-ran g c =
-    let ran = c.open_day.ensures.ran in ((c.args.self.now.name.now, ran.0), (refl, ran.1, c.open_day.ensures.lasts), ran.2)

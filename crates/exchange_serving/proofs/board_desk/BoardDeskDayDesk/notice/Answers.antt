@@ -1,0 +1,27 @@
+-- It was done, or given up.
+use Rattle.std.proofs.Common.{◌≡◌, ◌∙◌}
+use Rattle.std.proofs.lemmas.Result.{IfOk-weaker, on_err_weaker}
+use Rattle.meter_board.specs.Words.{list_read, seen}
+use Rattle.shared_desk.specs.Passes.{viewed}
+use Rattle.turnstile.specs.Passes.{IsSamePass}
+use Rattle.exchange_serving.proofs.Shown.{beside_still, beside_took, either}
+use Rattle.exchange_serving.proofs.board_desk.BoardDeskDayDesk.notice.Goals as goal
+
+pub returns-clause-done : goal.returns-clause-done
+returns-clause-done g c =
+    let a = c.args.self.now.own in let b = c.notice.new.self in
+    let v = viewed (list_read a.view.now) (seen a.view.now) in let w = viewed (list_read b.view.now) (seen b.view.now) in
+    IfOk-weaker c.notice.result _ _ (λ x t. beside_took a.roster b.roster a.pass.now b.pass.now v w c.args.self.now.short t) c.notice.ensures.done
+
+pub returns-clause-failed : goal.returns-clause-failed
+returns-clause-failed g c =
+    let a = c.args.self.now.own in let b = c.notice.new.self in
+    let v = viewed (list_read a.view.now) (seen a.view.now) in let w = viewed (list_read b.view.now) (seen b.view.now) in
+    on_err_weaker c.notice.result (λ t. beside_took a.roster b.roster a.pass.now b.pass.now v w c.args.self.now.short t) c.notice.ensures.failed
+
+pub invariant_of-self : goal.invariant_of-self
+invariant_of-self g c =
+    let a = c.args.self.now.own in let b = c.notice.new.self in
+    let v = viewed (list_read a.view.now) (seen a.view.now) in let w = viewed (list_read b.view.now) (seen b.view.now) in
+    let same = either {C = IsSamePass a.pass.now b.pass.now × (w.origin ≡ v.origin)} _ _ c.notice.result (λ x t. (t.1.gains.same, t.1.origin)) (λ e t. (t.1.gains.same, t.1.origin)) c.notice.ensures.done c.notice.ensures.failed in
+    record { beside = beside_still g.J.DayNames.first a.pass.now b.pass.now same.0 c.args.self.now.beside; reader = same.1 ∙ c.args.self.now.reader }
