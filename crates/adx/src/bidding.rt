@@ -89,5 +89,13 @@ pub(crate) fn run_bid<W: Threads + Wait + Sync>(
     }
     let reports = Reports::without_waiting(rt);
     let names = Names::new(rt.alloc());
-    bid_at(&reports, &names, waits, words, prices, document.as_slice(), port)
+    bid_at(
+        &reports,
+        &names,
+        waits,
+        words,
+        prices,
+        document.as_slice(),
+        port,
+    )
 }

@@ -241,7 +241,9 @@ fn serve_roster<'a, W: Threads + Wait + Sync>(
             let reports = Reports::without_waiting(rt);
             // Each name of the roster is looked up once: bidders and notices share what is known of it.
             let names = Names::new(rt.alloc());
-            serve_bidders(&reports, &names, waits, words, document, roster, asked, file)
+            serve_bidders(
+                &reports, &names, waits, words, document, roster, asked, file,
+            )
         }
         Err(fault) => {
             say_not_opened(rt, asked.journal, fault);
