@@ -7,6 +7,8 @@ import sys
 from http.server import BaseHTTPRequestHandler, ThreadingHTTPServer
 from urllib.parse import parse_qsl, urlsplit
 
+if len(sys.argv) != 5:
+    sys.exit(__doc__)
 port, seat, cid, price = int(sys.argv[1]), sys.argv[2], sys.argv[3], float(sys.argv[4])
 URLS = {'nurl': '/win?price=${AUCTION_PRICE}', 'burl': '/bill?price=${AUCTION_PRICE}', 'lurl': '/loss?reason=${AUCTION_LOSS}'}
 urls = {name: 'http://127.0.0.1:%d%s' % (port, target) for name, target in URLS.items()}

@@ -7,6 +7,8 @@ import uuid
 from urllib.error import HTTPError
 from urllib.request import Request, urlopen
 
+if len(sys.argv) != 3:
+    sys.exit(__doc__)
 exchange, path = sys.argv[1:]
 with open(path, encoding='utf-8') as file:
     request = {**json.load(file), 'id': uuid.uuid4().hex}
@@ -15,6 +17,8 @@ try:
         answer = json.load(reply) if reply.status == 200 else {'seatbid': []}
 except HTTPError as fault:
     sys.exit('publisher: status %d: %s' % (fault.code, fault.read().decode()))
+except OSError as fault:
+    sys.exit('publisher: %s: %s' % (exchange, fault))
 if not answer['seatbid']:
     print('nothing sold')
 for seat in answer['seatbid']:
