@@ -280,6 +280,11 @@ def main() -> None:
     parser.add_argument('--budget', type=int, default=2 * 10 ** 9, help='units for each campaign')
     parser.add_argument('--merge-days', help='tools/merge-days of the project: files the day at the end')
     options = parser.parse_args()
+    if options.count < 1:
+        parser.error('count is 1 or more')
+    for program in [options.adx, options.merge_days] if options.what == 'up' else []:
+        if program and not (os.path.isfile(program) and os.access(program, os.X_OK)):
+            sys.exit('fleet: %s: no such program' % program)
     if options.what == 'up' and lacking():
         sys.exit('fleet: this system has no %s (Debian: apt-get install haproxy postgresql python3-psycopg2)' % ' and no '.join(lacking()))
     if options.what == 'config':

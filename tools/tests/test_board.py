@@ -3,6 +3,7 @@ import http.client
 import json
 import os
 import shutil
+import stat
 import subprocess
 import sys
 import tempfile
@@ -285,6 +286,11 @@ class Metrics(unittest.TestCase):
                     self.assertIn('\nadx_up %d\n' % (1 - status), file.read())
                 self.assertEqual(found.returncode, status)
                 self.assertFalse(os.path.exists(path + '.new'))
+            os.remove(path)
+            os.mkfifo(path)
+            found = subprocess.run([sys.executable, TOOLS + '/metrics', '--exchange', self.fake.address, '--file', path], capture_output=True)
+            self.assertEqual((found.returncode, found.stderr.decode()), (1, "metrics: %s: isn't a regular file\n" % path))
+            self.assertTrue(stat.S_ISFIFO(os.stat(path).st_mode))
         finally:
             os.remove(path)
 

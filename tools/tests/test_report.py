@@ -200,6 +200,30 @@ class Courses(unittest.TestCase):
         self.assertEqual(report.clock(3600, 10, 9999), '3,600')
 
 
+class Merging(unittest.TestCase):
+    """tools/merge-days says what is wrong with a document, and where; so do both where nothing can be written."""
+
+    def run_on(self, text, name='merge-days', **more):
+        with tempfile.NamedTemporaryFile() as file:
+            file.write(text)
+            file.flush()
+            found = subprocess.run([sys.executable, TOOLS + '/' + name, file.name], stderr=subprocess.PIPE, **more)
+            return found.returncode, found.stderr.decode().replace(file.name, 'FILE')
+
+    def test_faults(self):
+        told = ": line %d is none of a document; `adx check` says more\n"
+        for text, said in ((b'', ': it is no record of format 2\n'), (b'\xff', ": it isn't UTF-8\n"), (CLOSED.replace(b'\n', b'\r\n'), ': it is no record of format 2\n'),
+                           (CLOSED.replace(b' 0:100 1:100', b' 0:100 2:100'), told % 5), (CLOSED.replace(b'campaign 0 100', b'campaign 0 0'), told % 3),
+                           (CLOSED[:65], told % 4), (CLOSED[:-1], ': it has no whole certificate\n')):
+            self.assertEqual(self.run_on(text, stdout=subprocess.DEVNULL), (1, 'merge-days: FILE' + said))
+        self.assertEqual(self.run_on(CLOSED, stdout=subprocess.DEVNULL), (0, ''))
+
+    def test_full(self):
+        for name in ('merge-days', 'report'):
+            with open('/dev/full', 'wb') as full:
+                self.assertEqual(self.run_on(CLOSED, name, stdout=full), (1, name + ': standard output: No space left on device\n'))
+
+
 class Printing(unittest.TestCase):
     said = set('lang charset name content http-equiv class role aria-label viewbox preserveaspectratio x y width height x1 x2 y1 y2 points text-anchor '
                'dominant-baseline scope title'.split())
