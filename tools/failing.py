@@ -379,12 +379,13 @@ def threads_of(made):
 
 
 class Keeping:
-    """A host that answers each piece that comes at once, and keeps its connections; by one thread. `most` is how many it had at the same time."""
+    """A host that answers each piece that comes at once, and keeps its connections, or ends each after its first answer; by one thread. `most` is how
+    many it had at the same time."""
 
-    def __init__(self, port, reply):
+    def __init__(self, port, reply, keeps=True):
         self.listener = socket.create_server(('127.0.0.1', port), backlog=4096)
         self.listener.setblocking(False)
-        self.reply, self.kept, self.most, self.over = reply, set(), 0, False
+        self.reply, self.keeps, self.kept, self.most, self.over = reply, keeps, set(), 0, False
         self.thread = threading.Thread(target=self.work, daemon=True)
         self.thread.start()
 
@@ -401,6 +402,8 @@ class Keeping:
                             self.most = max(self.most, len(self.kept))
                         elif key.fileobj.recv(65536):
                             key.fileobj.sendall(self.reply)
+                            if not self.keeps:
+                                raise OSError
                         else:
                             raise OSError
                     except OSError:

@@ -1,7 +1,7 @@
 //! Which addresses a link calls.
 
 use adx_links::{Link, TcpLink};
-use bounded_network::{BoundedCalls, Names, Reach};
+use bounded_network::{BoundedCalls, Names, OpenCalls, Reach};
 use std::net::{IpAddr, Ipv4Addr, OpenListener, SocketAddr, TcpListener};
 
 /// Whether an address that a text is may be called.
@@ -81,8 +81,12 @@ fn a_host_beyond_the_reach_is_refused_at_once(rt: HostRuntime) {
     };
     assert!(rt; names.is_beyond(&rt, "127.0.0.1", port, Reach::outside()));
     assert!(rt; !names.is_beyond(&rt, "127.0.0.1", port, Reach::everywhere()));
-    let mut out = TcpLink::new(BoundedCalls::new(&rt, &names, Reach::outside()));
+    let Ok(open) = OpenCalls::new(rt.alloc(), 2) else {
+        assert!(rt; false, "no memory");
+        return;
+    };
+    let mut out = TcpLink::new(BoundedCalls::new(&rt, &names, Reach::outside(), &open));
     assert!(rt; out.start("127.0.0.1", port).is_err());
-    let mut near = TcpLink::new(BoundedCalls::new(&rt, &names, Reach::everywhere()));
+    let mut near = TcpLink::new(BoundedCalls::new(&rt, &names, Reach::everywhere(), &open));
     assert!(rt; near.start("127.0.0.1", port).is_ok());
 }

@@ -3,15 +3,16 @@
 use crate::calls::Calls;
 use crate::clock::SystemClock;
 use crate::documents::{read_document, status_of_error};
-use crate::messages::{Files, Heard, say_network, say_not_bound};
+use crate::messages::{Files, Heard, say_memory, say_network, say_not_bound};
 use crate::reports::Reports;
 use crate::watched_acceptor::{WatchedAcceptor, listener_at};
 use crate::watched_link::{Purpose, WatchedLink};
-use adx_commands::{NotBegun, adx_serve};
+use adx_commands::{NotBegun, OUT_OF_MEMORY, adx_serve};
 use adx_units::Text;
-use bounded_network::{Listening, Names};
+use bounded_network::{Listening, Names, OpenCalls};
 use day_journal::ByteDisk;
 use std::marker::Sync;
+use std::net::TcpStream;
 use std::sync::Wait;
 use std::thread::Threads;
 
@@ -46,6 +47,7 @@ fn bid_over<'a, 'b, W: Threads + Wait + Sync>(
 fn bid_at<'a, W: Threads + Wait + Sync>(
     reports: &'a Reports<'a>,
     names: &'a Names,
+    open: &'a OpenCalls<TcpStream>,
     waits: &W,
     words: &[Text],
     prices: &str,
@@ -54,8 +56,8 @@ fn bid_at<'a, W: Threads + Wait + Sync>(
 ) -> u8 {
     let rt = reports.rt();
     let listening = Listening::new(rt.alloc(), None, 1);
-    let calls = Calls::new(reports, names);
-    let acceptor = WatchedAcceptor::<u8>::new(port, &listening, reports, None);
+    let calls = Calls::new(reports, names, open);
+    let acceptor = WatchedAcceptor::<u8>::new(port, &listening, open, reports, None);
     let post = WatchedLink::new(&calls, Purpose::Notifies);
     let (status, why) = bid_over(rt, waits, words, document, acceptor, post);
     let files = Files {
@@ -89,9 +91,15 @@ pub(crate) fn run_bid<W: Threads + Wait + Sync>(
     }
     let reports = Reports::without_waiting(rt);
     let names = Names::new(rt.alloc());
+    // A bidder has a link of notices, which calls nobody.
+    let Ok(open) = OpenCalls::new(rt.alloc(), 1) else {
+        say_memory(rt);
+        return OUT_OF_MEMORY;
+    };
     bid_at(
         &reports,
         &names,
+        &open,
         waits,
         words,
         prices,

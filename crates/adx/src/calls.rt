@@ -1,9 +1,10 @@
 //! What the links of a run share, and what comes of a call.
 
 use crate::reports::Reports;
-use bounded_network::{Hosts, Names, Reach};
+use bounded_network::{Hosts, Names, OpenCalls, Reach};
 use deal_floor::Roster;
 use std::fmt;
+use std::net::TcpStream;
 
 /// What came of a call of a host.
 #[derive(Clone, Copy, Debug, PartialEq, Eq)]
@@ -83,11 +84,12 @@ impl fmt::Display for Outcome {
     }
 }
 
-/// What the links of a run share: the names that were looked up, which all calls of the run share, the hosts that failed lately,
-/// which addresses are called, and where it is said what failed.
+/// What the links of a run share: the names that were looked up and what is connected, which all calls of the run share, the hosts
+/// that failed lately, which addresses are called, and where it is said what failed.
 #[derive(Drop)]
 pub(crate) struct Calls<'a> {
     pub(crate) names: &'a Names,
+    pub(crate) open: &'a OpenCalls<TcpStream>,
     pub(crate) hosts: Hosts,
     pub(crate) reach: Reach,
     pub(crate) reports: &'a Reports<'a>,
@@ -95,9 +97,14 @@ pub(crate) struct Calls<'a> {
 
 impl<'a> Calls<'a> {
     /// Nothing was called yet, and every address may be.
-    pub(crate) fn new(reports: &'a Reports<'a>, names: &'a Names) -> Calls<'a> {
+    pub(crate) fn new(
+        reports: &'a Reports<'a>,
+        names: &'a Names,
+        open: &'a OpenCalls<TcpStream>,
+    ) -> Calls<'a> {
         Calls {
             names,
+            open,
             hosts: Hosts::new(reports.rt().alloc()),
             reach: Reach::everywhere(),
             reports,

@@ -12,13 +12,14 @@ use crate::watched_link::{Noted, Purpose, WatchedLink};
 use adx_commands::{NotBegun, OUT_OF_MEMORY, PENDING, adx_serve};
 use adx_links::MemoryAcceptor;
 use adx_units::Text;
-use bounded_network::Names;
+use bounded_network::{Names, OpenCalls};
 use day_journal::{Disk, FileDisk};
 use deal_floor::Roster;
 use noted_streams::Noting;
 use std::fmt;
 use std::fs::File;
 use std::marker::{Send, Sync};
+use std::net::TcpStream;
 use std::sync::Wait;
 use std::thread::Threads;
 
@@ -90,6 +91,7 @@ fn say_pending(reports: &Reports<'_>, post: &mut WatchedLink<'_>) {
 fn post_on_file<'a, W: Threads + Wait + Sync>(
     reports: &'a Reports<'a>,
     names: &'a Names,
+    open: &'a OpenCalls<TcpStream>,
     waits: &W,
     words: &[Text],
     document: &[u8],
@@ -102,7 +104,7 @@ fn post_on_file<'a, W: Threads + Wait + Sync>(
         say_memory(rt);
         return OUT_OF_MEMORY;
     };
-    let mut calls = Calls::new(reports, names);
+    let mut calls = Calls::new(reports, names, open);
     calls.keep_outside(roster);
     let heard = Heard::new();
     let disk = FileDisk::new(Noting::new(file, &heard.file));
@@ -136,9 +138,14 @@ pub(crate) fn run_post<W: Threads + Wait + Sync>(
         Ok(file) => {
             let reports = Reports::with_waiting(rt);
             let names = Names::new(rt.alloc());
+            let Ok(open) = OpenCalls::new(rt.alloc(), 1) else {
+                say_memory(rt);
+                return OUT_OF_MEMORY;
+            };
             post_on_file(
                 &reports,
                 &names,
+                &open,
                 waits,
                 words,
                 document.as_slice(),

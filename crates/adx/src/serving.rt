@@ -14,12 +14,13 @@ use crate::watched_acceptor::{Serves, WatchedAcceptor, listener_at};
 use crate::watched_link::{Purpose, WatchedLink};
 use adx_commands::{NotBegun, OUT_OF_MEMORY, Served, adx_serve};
 use adx_units::{OutOfMemory, Text};
-use bounded_network::{Listening, Names};
+use bounded_network::{Listening, Names, OpenCalls};
 use day_journal::{Disk, FileDisk};
 use deal_floor::Roster;
 use std::fs;
 use std::fs::File;
 use std::marker::{Send, Sync};
+use std::net::TcpStream;
 use std::sync::Wait;
 use std::thread::Threads;
 
@@ -48,6 +49,13 @@ fn bidders_of<'a>(rt: &HostRuntime, roster: &'a Roster) -> Result<Vec<Bidder<'a>
         number = number.saturating_add(1);
     }
     Ok(bidders)
+}
+
+/// How many links a run has: one to each bidder for each of so many workers, and one for notices.
+fn links_of(workers: u32, roster: &Roster) -> usize {
+    (workers as usize)
+        .saturating_mul(roster.bidders.as_slice().len())
+        .saturating_add(1)
 }
 
 /// A list of links for each of so many workers, each with a link to each of these bidders.
@@ -144,6 +152,7 @@ fn serve_over<'a, 'b, W: Threads + Wait + Sync, D: Disk + Drop + Send>(
 fn serve_on_file<'a, W: Threads + Wait + Sync>(
     reports: &'a Reports<'a>,
     names: &'a Names,
+    open: &'a OpenCalls<TcpStream>,
     waits: &W,
     words: &[Text],
     document: &[u8],
@@ -158,8 +167,8 @@ fn serve_on_file<'a, W: Threads + Wait + Sync>(
         Ok(found) => found.len(),
         Err(_) => 0,
     };
-    let calls = Calls::new(reports, names);
-    let mut notices = Calls::new(reports, names);
+    let calls = Calls::new(reports, names, open);
+    let mut notices = Calls::new(reports, names, open);
     notices.keep_outside(roster);
     notices.leave_out(asked.port);
     let Ok(links) = links_for(&calls, asked.workers, bidders) else {
@@ -174,7 +183,7 @@ fn serve_on_file<'a, W: Threads + Wait + Sync>(
         bytes,
     };
     let heard = Heard::new();
-    let acceptor = WatchedAcceptor::<u8>::new(asked.port, &listening, reports, Some(serves));
+    let acceptor = WatchedAcceptor::<u8>::new(asked.port, &listening, open, reports, Some(serves));
     let disk = FileDisk::new(WatchedFile::new(file, &heard.file, asked.journal, reports));
     let post = WatchedLink::new(&notices, Purpose::Notifies);
     let (status, why) = serve_over(reports, waits, words, document, acceptor, disk, links, post);
@@ -191,6 +200,7 @@ fn serve_on_file<'a, W: Threads + Wait + Sync>(
 fn serve_bidders<'a, W: Threads + Wait + Sync>(
     reports: &'a Reports<'a>,
     names: &'a Names,
+    open: &'a OpenCalls<TcpStream>,
     waits: &W,
     words: &[Text],
     document: &[u8],
@@ -210,6 +220,7 @@ fn serve_bidders<'a, W: Threads + Wait + Sync>(
     serve_on_file(
         reports,
         names,
+        open,
         waits,
         words,
         document,
@@ -241,8 +252,12 @@ fn serve_roster<'a, W: Threads + Wait + Sync>(
             let reports = Reports::without_waiting(rt);
             // Each name of the roster is looked up once: bidders and notices share what is known of it.
             let names = Names::new(rt.alloc());
+            let Ok(open) = OpenCalls::new(rt.alloc(), links_of(asked.workers, roster)) else {
+                say_memory(rt);
+                return OUT_OF_MEMORY;
+            };
             serve_bidders(
-                &reports, &names, waits, words, document, roster, asked, file,
+                &reports, &names, &open, waits, words, document, roster, asked, file,
             )
         }
         Err(fault) => {

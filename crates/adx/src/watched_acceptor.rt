@@ -9,11 +9,11 @@ use crate::reports::{Kind, Reports};
 use adx_io::{Failed, Sink, Source, StdSource};
 use adx_links::{Acceptor, PeerSink, TcpAcceptor};
 use bounded_network::{
-    AcceptedListener, BoundedAccepts, Connection, Listening, Waited, with_slices,
+    AcceptedListener, BoundedAccepts, Connection, Listening, OpenCalls, Waited, with_slices,
 };
 use std::io;
 use std::marker::PhantomData;
-use std::net::{Ipv4Addr, OpenListener, SocketAddr, TcpListener};
+use std::net::{Ipv4Addr, OpenListener, SocketAddr, TcpListener, TcpStream};
 
 /// A source or a sink of a connection, which remembers whether a call of it failed.
 #[derive(Drop)]
@@ -106,6 +106,8 @@ pub(crate) struct WatchedAcceptor<'a, 'b, T> {
     port: u16,
     listener: Option<TcpListener>,
     listening: &'b Listening,
+    /// What the links of the run have connected.
+    open: &'a OpenCalls<TcpStream>,
     reports: &'a Reports<'a>,
     /// What is said of the run, beside where it takes connections.
     serves: Option<Serves<'a>>,
@@ -123,6 +125,7 @@ impl<'a, 'b, T> WatchedAcceptor<'a, 'b, T> {
     pub(crate) fn new(
         port: u16,
         listening: &'b Listening,
+        open: &'a OpenCalls<TcpStream>,
         reports: &'a Reports<'a>,
         serves: Option<Serves<'a>>,
     ) -> WatchedAcceptor<'a, 'b, T> {
@@ -135,6 +138,7 @@ impl<'a, 'b, T> WatchedAcceptor<'a, 'b, T> {
             port,
             listener: None,
             listening,
+            open,
             reports,
             serves,
             over: false,
@@ -197,7 +201,7 @@ impl<'a, 'b, T> WatchedAcceptor<'a, 'b, T> {
             return true;
         };
         for _turn in 0..u64::MAX {
-            match self.listening.wait(self.reports.rt(), listener) {
+            match self.listening.wait(self.reports.rt(), listener, self.open) {
                 Waited::Came => return true,
                 Waited::Closing => return false,
                 Waited::Passing(error) => self.reports.say(

@@ -131,7 +131,12 @@ impl<'a> WatchedLink<'a> {
     pub(crate) fn new(calls_of: &'a Calls<'a>, purpose: Purpose<'a>) -> WatchedLink<'a> {
         let rt = calls_of.reports.rt();
         WatchedLink {
-            inner: TcpLink::new(BoundedCalls::new(rt, calls_of.names, calls_of.reach)),
+            inner: TcpLink::new(BoundedCalls::new(
+                rt,
+                calls_of.names,
+                calls_of.reach,
+                calls_of.open,
+            )),
             calls_of,
             purpose,
             host: None,

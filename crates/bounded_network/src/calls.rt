@@ -3,6 +3,7 @@ ghost use Rattle.std.specs.Prelude.{◌≡◌, ◌≤◌, length, IfOk, IsOk};
 ghost use Rattle.bounded_network.specs.Reach.{Has};
 
 use crate::names::Names;
+use crate::open_calls::{OpenCalls, Place, is_full};
 use crate::reach::Reach;
 use crate::times::millis;
 use std::io;
@@ -21,32 +22,73 @@ const ONE_WAIT: u64 = 1_000;
 const MOST_TRIES: u32 = 64;
 
 /// A network for a link: names are looked up once, addresses that it may not call are refused, and what is connected ends in time.
-#[derive(Clone, Copy)]
-pub struct BoundedCalls<'a, R> {
+/// It has one connection at a time: one that is made takes the place of the last one. Where no descriptor is left for it, the
+/// connections are hung up of all calls of the run that are over, and it is tried once more.
+#[derive(Drop)]
+pub struct BoundedCalls<'a, R: Net> {
     rt: &'a R,
     names: &'a Names,
     reach: Reach,
+    open: &'a OpenCalls<R::Stream>,
+    place: Option<&'a Place<R::Stream>>,
 }
 
-impl<'a, R> BoundedCalls<'a, R> {
-    /// The network of `rt`, with the names that were looked up, and the addresses that may be called.
-    pub fn new(rt: &'a R, names: &'a Names, reach: Reach) -> BoundedCalls<'a, R> {
-        BoundedCalls { rt, names, reach }
+impl<'a, R: Net + Clock> BoundedCalls<'a, R> {
+    /// The network of `rt`, with the names that were looked up, the addresses that may be called, and the connections of the links
+    /// of the run, of which it is one. Beyond as many links as there is room for it connects to nobody.
+    pub fn new(
+        rt: &'a R,
+        names: &'a Names,
+        reach: Reach,
+        open: &'a OpenCalls<R::Stream>,
+    ) -> BoundedCalls<'a, R> {
+        BoundedCalls {
+            rt,
+            names,
+            reach,
+            open,
+            place: open.give(),
+        }
+    }
+
+    /// A connection to an address. Where no descriptor is left, it is tried again once those of calls that are over were hung up.
+    fn connected(&self, addr: SocketAddr, timeout: Duration) -> io::Result<R::Stream> {
+        match self.rt.connect_timeout(addr, timeout) {
+            Err(error) if is_full(&error) => {
+                self.open.hang_up(millis(self.rt));
+                self.rt.connect_timeout(addr, timeout)
+            }
+            done => done,
+        }
     }
 }
 
 /// A connection that ends at a moment.
-#[derive(Drop)]
 pub struct CallStream<'a, R: Net> {
-    stream: R::Stream,
+    place: &'a Place<R::Stream>,
+    /// Which one of its link's it is.
+    number: u64,
     rt: &'a R,
     until: u64,
+}
+
+impl<'a, R: Net> Drop for CallStream<'a, R> {
+    fn drop(self) {
+        self.place.end(self.number);
+        let CallStream {
+            place: _,
+            number: _,
+            rt: _,
+            until: _,
+        } = self;
+    }
 }
 
 /// No listener: a link takes no connections.
 #[derive(Drop)]
 pub struct CallListener<'a, R: Net> {
     rt: &'a R,
+    open: &'a OpenCalls<R::Stream>,
 }
 
 impl<'a, R: Net + Clock> CallStream<'a, R> {
@@ -68,10 +110,8 @@ impl<'a, R: Net + Clock> Read for CallStream<'a, R> {
     // A call that a signal ends is made again, as long as its time isn't over.
     fn read(&mut self, buf: &mut [u8]) -> io::Result<usize> {
         for _try in 0..MOST_TRIES {
-            if let Some(left) = self.left()? {
-                self.stream.set_read_timeout(Some(left))?;
-            }
-            match self.stream.read(buf) {
+            let left = self.left()?;
+            match self.place.call(self.number)?.read(buf, left) {
                 Err(error) if error.kind() == ErrorKind::Interrupted => {}
                 done => return done,
             }
@@ -83,10 +123,8 @@ impl<'a, R: Net + Clock> Read for CallStream<'a, R> {
 impl<'a, R: Net + Clock> Write for CallStream<'a, R> {
     fn write(&mut self, buf: &[u8]) -> io::Result<usize> {
         for _try in 0..MOST_TRIES {
-            if let Some(left) = self.left()? {
-                self.stream.set_write_timeout(Some(left))?;
-            }
-            match self.stream.write(buf) {
+            let left = self.left()?;
+            match self.place.call(self.number)?.write(buf, left) {
                 Err(error) if error.kind() == ErrorKind::Interrupted => {}
                 done => return done,
             }
@@ -95,25 +133,25 @@ impl<'a, R: Net + Clock> Write for CallStream<'a, R> {
     }
 
     fn flush(&mut self) -> io::Result<()> {
-        self.stream.flush()
+        Ok(())
     }
 }
 
 impl<'a, R: Net> OpenStream for CallStream<'a, R> {
     fn peer_addr(&self) -> io::Result<SocketAddr> {
-        self.stream.peer_addr()
+        self.place.call(self.number)?.stream()?.peer_addr()
     }
 
     fn local_addr(&self) -> io::Result<SocketAddr> {
-        self.stream.local_addr()
+        self.place.call(self.number)?.stream()?.local_addr()
     }
 
     fn shutdown(&self, how: Shutdown) -> io::Result<()> {
-        self.stream.shutdown(how)
+        self.place.call(self.number)?.stream()?.shutdown(how)
     }
 
     fn set_nodelay(&self, nodelay: bool) -> io::Result<()> {
-        self.stream.set_nodelay(nodelay)
+        self.place.call(self.number)?.stream()?.set_nodelay(nodelay)
     }
 
     // No wait is longer than one wait is: the moment of its end is looked at before each.
@@ -128,7 +166,13 @@ impl<'a, R: Net> OpenStream for CallStream<'a, R> {
 
 impl<'a, R: Net> AsRawFd for CallStream<'a, R> {
     fn as_raw_fd(&self) -> RawFd {
-        self.stream.as_raw_fd()
+        match self.place.call(self.number) {
+            Ok(call) => match call.stream() {
+                Ok(stream) => stream.as_raw_fd(),
+                Err(_) => -1,
+            },
+            Err(_) => -1,
+        }
     }
 }
 
@@ -167,15 +211,19 @@ impl<'a, R: Net + Clock> Net for BoundedCalls<'a, R> {
         if !self.reach.has(&addr) {
             return Err(io::Error::from(ErrorKind::PermissionDenied));
         }
+        let Some(place) = self.place else {
+            return Err(io::Error::from(ErrorKind::AddrNotAvailable));
+        };
         let until = millis(self.rt).saturating_add(IN_ALL);
-        let stream = self.rt.connect_timeout(addr, timeout)?;
+        let stream = self.connected(addr, timeout)?;
         // A call whose last bytes wait for others to be acknowledged is made all the same.
         let _ = stream.set_nodelay(true);
         let wait = Duration::from_millis(ONE_WAIT);
         stream.set_read_timeout(Some(wait))?;
         stream.set_write_timeout(Some(wait))?;
         Ok(CallStream {
-            stream,
+            place,
+            number: place.begin(stream, until)?,
             rt: self.rt,
             until,
         })

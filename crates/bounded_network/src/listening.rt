@@ -2,12 +2,13 @@
 
 use crate::connection::{Connection, LONGEST_WRITE, Socket};
 use crate::locked::locked;
+use crate::open_calls::{OpenCalls, is_full};
 use crate::times::millis;
 use adx_units::Text;
 use std::alloc::Global;
 use std::fs::Files;
 use std::io::ErrorKind;
-use std::net::{Ipv4Addr, Net, OpenListener, SocketAddr, TcpListener, TcpStream};
+use std::net::{Ipv4Addr, Net, OpenListener, OpenStream, SocketAddr, TcpListener, TcpStream};
 use std::os::fd::{AsRawFd, OwnedFd, RawFd};
 use std::sync::atomic::{AtomicBool, AtomicU32, AtomicU64, Ordering};
 use std::sync::{Arc, Mutex};
@@ -190,17 +191,28 @@ impl Listening {
         }
     }
 
-    /// Waits for a connection. Where the system has none for a cause that passes, it sleeps for a moment first. The worker counts
-    /// as busy from `Came` on until `leave`, and from `Failed` on for ever.
-    pub fn wait<R: Clock + Files>(&self, rt: &R, listener: &TcpListener) -> Waited {
+    /// Waits for a connection. Where no descriptor is left, the connections of calls that are over are hung up, and it goes on.
+    /// Where the system has none for another cause that passes, or no call is over, it sleeps for a moment first. The worker
+    /// counts as busy from `Came` on until `leave`, and from `Failed` on for ever.
+    pub fn wait<R: Clock + Files, S: OpenStream + Drop>(
+        &self,
+        rt: &R,
+        listener: &TcpListener,
+        calls: &OpenCalls<S>,
+    ) -> Waited {
         self.open.store(true, Ordering::SeqCst);
-        let waited = self.wait_on(rt, listener);
+        let waited = self.wait_on(rt, listener, calls);
         self.open.store(false, Ordering::SeqCst);
         waited
     }
 
     /// Waits for a connection, slice by slice.
-    fn wait_on<R: Clock + Files>(&self, rt: &R, listener: &TcpListener) -> Waited {
+    fn wait_on<R: Clock + Files, S: OpenStream + Drop>(
+        &self,
+        rt: &R,
+        listener: &TcpListener,
+        calls: &OpenCalls<S>,
+    ) -> Waited {
         for _turn in 0..u64::MAX {
             self.look(rt, millis(rt));
             if self.is_closing() {
@@ -214,6 +226,7 @@ impl Listening {
                     }
                 }
                 Ok(None) => {}
+                Err(error) if is_full(&error) && calls.hang_up(millis(rt)) > 0 => {}
                 Err(error) if passes(&error) => {
                     self.full.store(true, Ordering::SeqCst);
                     thread::sleep(rt, Duration::from_millis(ROOM));
